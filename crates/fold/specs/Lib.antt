@@ -1,0 +1,5 @@
+pub mod Sum
+pub mod All
+pub mod Best
+pub mod Collect
+pub mod Rising

@@ -1,0 +1,24 @@
+-- The ranges of document 01's numbers, each in one definition, and the limit.
+use Prim.Native.Nat.{ℕ, _+_, _-_, _*_, _/_, max}
+
+-- "N is 1 to 64, tolerance t is 1 to 99 percent, and the total P is at most 1,000,000,000."
+abbrev pub maxNodes : ℕ
+maxNodes = 64
+
+abbrev pub maxTolerance : ℕ
+maxTolerance = 99
+
+-- t counts parts of this many
+abbrev pub toleranceScale : ℕ
+toleranceScale = 100
+
+abbrev pub maxTotal : ℕ
+maxTotal = 1000000000
+
+-- *Read plan*: "14, limit above 1,990,000,000"
+abbrev pub maxLimit : ℕ
+maxLimit = 1990000000
+
+-- "Limit L: the larger of P/N rounded up and P × (100+t) / (100 × N) rounded down."
+unfoldable pub limitOf : ℕ → ℕ → ℕ → ℕ
+limitOf p n t = max ((p + n - 1) / n) (p * (toleranceScale + t) / (toleranceScale * n))

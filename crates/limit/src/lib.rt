@@ -1,0 +1,25 @@
+// The ranges of document 01's numbers, and the limit of a node's load.
+ghost use mathlib.Core.Path.{_≡_};
+ghost use Prim.Native.Nat.{_≤_};
+ghost use Rattle.limit.specs.Limit.{maxNodes, maxTolerance, maxTotal, limitOf};
+
+pub const MAX_NODES: u32 = 64;
+
+pub const MAX_TOLERANCE: u32 = 99;
+
+pub const TOLERANCE_SCALE: u32 = 100;
+
+pub const MAX_TOTAL: u32 = 1000000000;
+
+pub const MAX_LIMIT: u32 = 1990000000;
+
+// The limit L of p particles on n nodes at tolerance t. The product takes more than 32 bits.
+pub fn limit(p: u32, n: u32, t: u32) -> u32
+    requires { ⌜ (p ≤ maxTotal) × (1 ≤ n) × (n ≤ maxNodes) × (t ≤ maxTolerance) ⌝ }
+    ensures { λ r. ⌜ r ≡ limitOf p n t ⌝ }
+{
+    let even = (p + n - 1) / n;
+    let scale = TOLERANCE_SCALE as u64;
+    let loose = (p as u64 * (scale + t as u64) / (scale * n as u64)) as u32;
+    if even < loose { loose } else { even }
+}

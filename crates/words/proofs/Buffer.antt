@@ -1,0 +1,74 @@
+-- Laws of stores into a lent buffer: runs of words, one after the other, and apart from each other. Assumes nothing.
+use mathlib.Core.Path.{_≡_, refl, sym, ap, _∙_}
+use mathlib.Core.Logic.{_≢_}
+use mathlib.Core.List.{List, [], _∷_, _++_}
+use Prim.Native.Nat.{ℕ, zero, suc, _+_, _*_, _≤_, _<_}
+use native.Mathlib.Nat.{suc-add, add-suc, add-zero, zero-add}
+use native.Mathlib.Numerals.{add-one, add-two, add-three}
+use native.Mathlib.Omega.{arith}
+use borrow.Author.Tests.{lt-ltb, le-ltb}
+use lib.ListN.{length, set, drop, length-set, length-append}
+use lib.Seq.{sets, sets-eq, set-comm}
+use Rattle.words.specs.Words.{bytesOf, encode, putWord}
+use Rattle.words.specs.declared.Written.the-variants.{Bytes, Short}
+use Rattle.words.specs.Buffer.{placed, written, writing}
+use Rattle.words.proofs.Words.{length-encode, encode-append}
+
+-- a run of stores in two parts
+pub sets-append : (l : List ℕ) (i : ℕ) (us vs : List ℕ) → sets l i (us ++ vs) ≡ sets (sets l i us) (i + length us) vs
+sets-append l i [] vs = rw (add-zero i)
+sets-append l i (u ∷ us) vs = sets-append (set l i u) (suc i) us vs ∙ rw (suc-add i (length us), add-suc i (length us))
+
+-- a word is a run of four stores
+pub put-sets : (l : List ℕ) (i w : ℕ) → putWord l i w ≡ sets l i (bytesOf w)
+put-sets l i w = rw (add-one i, add-two i, add-three i)
+
+pub length-put : (l : List ℕ) (i w : ℕ) → length (putWord l i w) ≡ length l
+length-put l i w = simp length-set
+
+-- a word right behind a run of words
+pub put-behind : (l : List ℕ) (i : ℕ) (ws : List ℕ) (w : ℕ) → putWord (sets l i (encode ws)) (i + 4 * length ws) w ≡ sets l i (encode ws ++ bytesOf w)
+put-behind l i ws w =
+    put-sets (sets l i (encode ws)) (i + 4 * length ws) w
+    ∙ ap (λ (j : ℕ). sets (sets l i (encode ws)) (i + j) (bytesOf w)) (sym (length-encode ws))
+    ∙ sym (sets-append l i (encode ws) (bytesOf w))
+
+-- a store in front of a run of stores, made after it or before it
+pub set-sets : (l : List ℕ) (i : ℕ) (vs : List ℕ) (j v : ℕ) → j < i → set (sets l i vs) j v ≡ sets (set l j v) i vs
+set-sets l i [] j v h = refl
+set-sets l i (x ∷ vs) j v h =
+    set-sets (set l i x) (suc i) vs j v (omega arith)
+    ∙ ap (λ (k : List ℕ). sets k (suc i) vs) (set-comm l i j x v (λ e. omega arith))
+
+-- the same of a word
+pub put-before : (l : List ℕ) (i : ℕ) (vs : List ℕ) (j w : ℕ) → j + 4 ≤ i → putWord (sets l i vs) j w ≡ sets (putWord l j w) i vs
+put-before l i vs j w h =
+    let h₀ : j < i = omega arith in
+    let h₁ : j + 1 < i = omega arith in
+    let h₂ : j + 2 < i = omega arith in
+    let h₃ : j + 3 < i = omega arith in
+    simp set-sets
+
+-- a run of stores from the start is the record, with the buffer's own bytes behind it
+pub sets-placed : (rec out : List ℕ) → length rec ≤ length out → sets out 0 rec ≡ placed rec out
+sets-placed rec out h = sets-eq rec out 0 (omega arith) ∙ rw zero-add
+
+-- a head and two arrays, each a run of its own, are one record
+pub record-placed : (out h xs ys : List ℕ) (a b : ℕ) → a ≡ 4 * length h → b ≡ 4 * (length h + length xs)
+    → 4 * (length h + length xs + length ys) ≤ length out
+    → sets (sets (sets out 0 (encode h)) a (encode xs)) b (encode ys) ≡ placed (encode (h ++ xs ++ ys)) out
+record-placed out h xs ys a b ea eb fits =
+    let ha : a ≡ 0 + length (encode h) = simp length-encode (omega arith) in
+    let hb : b ≡ 0 + length (encode h ++ encode xs) = simp (length-append, length-encode) (omega arith) in
+    let le : length (encode h ++ encode xs ++ encode ys) ≤ length out = simp (length-append, length-encode) (omega arith) in
+    rw (ha, ← sets-append out 0 (encode h) (encode xs), hb, ← sets-append out 0 (encode h ++ encode xs) (encode ys))
+    (sets-placed (encode h ++ encode xs ++ encode ys) out le ∙ ap (λ (r : List ℕ). placed r out) (sym (encode-append (h ++ xs) ys ∙ ap (λ (l : List ℕ). l ++ encode ys) (encode-append h xs))))
+
+-- ---- a record of k bytes, in a buffer that is too short for it, and in one that is not
+
+module _ (rec out : List ℕ) (k : ℕ) (e : length rec ≡ k) where
+  pub short-writes : length out < k → (Short ≡ writing rec out) × (out ≡ written rec out)
+  short-writes h = rw (lt-ltb (length out) (length rec) (omega arith)) (refl, refl)
+
+  pub long-writes : k ≤ length out → (Bytes k ≡ writing rec out) × (placed rec out ≡ written rec out)
+  long-writes h = rw (le-ltb (length out) (length rec) (omega arith)) (ap Bytes (sym e), refl)
