@@ -1,0 +1,5 @@
+pub mod Laws
+pub mod Answers
+pub mod Accepted
+pub mod RoundTrip
+pub mod Vectors

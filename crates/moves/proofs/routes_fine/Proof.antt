@@ -1,0 +1,74 @@
+-- `moves::routes_fine` meets its contract: at the loop's head the whole answer is that of the routes that are left, from low on.
+-- Assumes nothing.
+use borrow.Author.Needs.{needs}
+use mathlib.Core.Path.{_≡_, refl, sym, _∙_}
+use mathlib.Core.Bool.{true}
+use mathlib.Core.List.{_∷_}
+use Prim.Native.Nat.{_+_, _-_, _≤_}
+use native.Mathlib.Omega.{arith}
+use borrow.Author.Tests.{not-true, not-false}
+use lib.ListN.{drop}
+use denote.Ref.{now}
+use Rattle.fold.specs.Rising.{rising}
+use Rattle.fold.proofs.Lists.{rising-more, rising-low, rising-not, rising-none}
+use Rattle.words.proofs.Words.{part-more, part-end}
+use Rattle.moves.specs.Moves.{routesOf, routeFine}
+use Rattle.moves.proofs.Laws.{route-is}
+use Rattle.moves.proofs.routes_fine.Statement.{statement}
+use Rattle.moves.proofs.routes_fine.Tie as tie
+
+abbrev Inv-loop : tie.InvT-loop
+Inv-loop s n e low₀ i₀ low i =
+    (i ≤ e) × (rising (routeFine n) 0 (routesOf s e) ≡ rising (routeFine n) low (drop i (routesOf s e)))
+
+abbrev μ-loop : tie.MeasureT-loop
+μ-loop s n e low₀ i₀ low i = e - i
+
+-- after a word is read: what is left begins with it
+here : (c : tie.After-word-number Inv-loop μ-loop) →
+    let l = c .before .before in
+    let a = l .before .before .args in
+    rising (routeFine (a .n)) 0 (routesOf (now (a .s)) (a .e))
+    ≡ rising (routeFine (a .n)) (l .loop .low) (c .word-number .result ∷ drop (l .loop .i + 1) (routesOf (now (a .s)) (a .e)))
+here c =
+    let l = c .before .before in
+    let a = l .before .before .args in
+    l .loop .inv .1 ∙ rw (part-more (now (a .s)) 2 (a .e) (l .loop .i) (c .before .loop-test .taken) (omega arith), ← c .word-number .ensures)
+
+-- past both tests the route is fine
+passes : (c : tie.Else2 Inv-loop μ-loop) →
+    let r = c .before .before .before in
+    routeFine (r .before .before .before .before .args .n) (r .word-number .result) ≡ true
+passes c = sym (c .before .route-fine .ensures) ∙ not-false _ (c .if2 .left)
+
+-- so that one more fits a word
+add-low : tie.Need-add-low Inv-loop μ-loop
+add-low c =
+    let r = c .before .before .before in
+    omega (arith, route-is (r .before .before .before .before .args .n) (r .word-number .result) (passes c) .subdomain-below)
+
+returns-3 : tie.Need-returns-3 Inv-loop μ-loop
+returns-3 c =
+    let l = c .before in
+    let a = l .before .before .args in
+    sym
+    (l .loop .inv .1
+    ∙ rw (part-end (now (a .s)) 2 (a .e) (l .loop .i) (c .loop-test .left)) (rising-none (routeFine (a .n)) (l .loop .low)))
+
+pub routes-fine-spec : {M : Type 1} → statement M
+routes-fine-spec =
+    tie.close
+    (tie.spec
+    Inv-loop
+    μ-loop
+    (λ c. (omega arith, refl))  -- loop-holds
+    (λ c. search needs)  -- add-word-number
+    (λ c κs. search needs)  -- word-number-requires
+    (λ c. sym (here (c .before) ∙ rising-low _ _ _ _ (omega arith)))  -- returns
+    (λ c κs. search needs)  -- route-fine-requires
+    (λ c. sym (here (c .before .before .before) ∙ rising-not _ _ _ _ (sym (c .before .route-fine .ensures) ∙ not-true _ (c .if2 .taken))))  -- returns-2
+    add-low
+    (λ c. search needs)  -- add-i
+    (λ c. search needs)  -- loop-less
+    (λ c. (omega arith, here (c .before .before .before) ∙ rising-more _ _ _ _ (omega arith) (passes c)))  -- loop-again
+    returns-3)

@@ -1,0 +1,12 @@
+pub mod Chains
+pub mod Shares
+pub mod Checks
+pub mod Reading
+pub mod Writing
+pub mod Accepted
+pub mod Answers
+pub mod Trees
+pub mod Agree
+pub mod AcceptedTree
+pub mod RoundTrip
+pub mod Vectors

@@ -1,0 +1,10 @@
+-- What a check of a plan's shape answers.
+use mathlib.Core.Bool.{Bool, true, false}
+use Rattle.plan.specs.declared.Checked.{Checked}
+use Rattle.plan.specs.declared.Checked.the-variants.{Passed, Refused}
+use Rattle.plan.specs.declared.PlanRefusal.the-variants.{Shape}
+
+-- the shape is right, or the plan is refused for it
+abbrev pub checkedOf : Bool → Checked
+checkedOf true = Passed
+checkedOf false = Refused Shape

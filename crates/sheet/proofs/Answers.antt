@@ -1,0 +1,46 @@
+-- The answer in numbers determines the reading: no two cases of the enum share their number and values. Assumes nothing.
+use mathlib.Core.Path.{_≡_, refl, sym, ap, _∙_}
+use mathlib.Core.Bool.{cond}
+use Prim.Native.Nat.{ℕ, _<_}
+use native.Mathlib.Omega.{arith}
+use lib.Dec.{eqb}
+use Rattle.sheet.specs.declared.Sheet.{Sheet}
+use Rattle.sheet.specs.declared.SheetRefusal.{SheetRefusal}
+use Rattle.sheet.specs.declared.SheetRefusal.the-variants.{Short, Nodes, Tolerance, Entries, Length, Cell, Count}
+use Rattle.sheet.specs.declared.SheetReading.{SheetReading}
+use Rattle.sheet.specs.declared.SheetReading.the-variants.{Accepted, Refused}
+use Rattle.sheet.specs.declared.SheetAnswer.{SheetAnswer}
+use Rattle.sheet.specs.Sheet.{refusalNumber, answerOf}
+
+-- the refusal of a number
+abbrev refusalOf : ℕ → SheetRefusal
+refusalOf k =
+    cond (eqb k 1) Short (cond (eqb k 2) Nodes (cond (eqb k 3) Tolerance (cond (eqb k 4) Entries (cond (eqb k 5) Length (cond (eqb k 6) Cell Count)))))
+
+-- the reading of an answer
+abbrev readingOf : SheetAnswer → SheetReading
+readingOf a =
+    cond (eqb (a .refusal) 0) (Accepted (record { n = a .n; t = a .t; e = a .e; p = a .p; limit = a .limit })) (Refused (refusalOf (a .refusal)))
+
+back : (r : SheetReading) → readingOf (answerOf r) ≡ r
+back (Accepted h) = refl
+back (Refused Short) = refl
+back (Refused Nodes) = refl
+back (Refused Tolerance) = refl
+back (Refused Entries) = refl
+back (Refused Length) = refl
+back (Refused Cell) = refl
+back (Refused Count) = refl
+
+pub answer-determines : (r q : SheetReading) → answerOf r ≡ answerOf q → r ≡ q
+answer-determines r q e = sym (back r) ∙ ap readingOf e ∙ back q
+
+-- no refusal has the number 0
+pub number-more : (r : SheetRefusal) → 0 < refusalNumber r
+number-more Short = omega arith
+number-more Nodes = omega arith
+number-more Tolerance = omega arith
+number-more Entries = omega arith
+number-more Length = omega arith
+number-more Cell = omega arith
+number-more Count = omega arith

@@ -1,0 +1,3 @@
+pub mod Sheet
+pub mod Table
+pub mod Write

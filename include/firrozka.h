@@ -1,0 +1,37 @@
+/* Firrozka: the load balance of a particle simulation, decided with machine-checked proof.
+ *
+ * The library keeps no state and takes no memory of its own. Every function takes any bytes of any length and returns.
+ * An answer carries 0 or a refusal number (docs/FORMATS.md lists them), and the values named; in a refusal these are all 0. */
+#ifndef FIRROZKA_H
+#define FIRROZKA_H
+
+#include <stddef.h>
+#include <stdint.h>
+
+#ifdef __cplusplus
+extern "C" {
+#endif
+
+/* N, t, E, P and the limit L of a sheet. Refusals 1 to 7. */
+struct firrozka_sheet {
+    uint32_t refusal, n, t, e, p, limit;
+};
+struct firrozka_sheet firrozka_read_sheet(const uint8_t *sheet, size_t sheet_len);
+
+/* N, kind (0 primary, 1 kept, 2 rebuilt) and the limit of a plan. Refusals 11 to 18. */
+struct firrozka_plan {
+    uint32_t refusal, n, kind, limit;
+};
+struct firrozka_plan firrozka_read_plan(const uint8_t *plan, size_t plan_len);
+
+/* N and E of a list of moves. Refusals 31 to 36. */
+struct firrozka_moves {
+    uint32_t refusal, n, e;
+};
+struct firrozka_moves firrozka_read_moves(const uint8_t *moves, size_t moves_len);
+
+#ifdef __cplusplus
+}
+#endif
+
+#endif
