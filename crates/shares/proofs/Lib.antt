@@ -1,0 +1,10 @@
+pub mod Families
+pub mod Spaces
+pub mod FillLaws
+pub mod Amounts
+pub mod Levels
+pub mod Agree
+pub mod Walks
+pub mod Filling
+pub mod KeptShares
+pub mod Vectors

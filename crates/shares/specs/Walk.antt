@@ -1,0 +1,30 @@
+-- The walk from the root of a weighed tree down, which divides each family that it meets and notes the helpers' shares.
+use mathlib.Core.Path.{_≡_}
+use mathlib.Core.List.{List}
+use Prim.Native.Nat.{ℕ, _≤_, _<_}
+use Rattle.limit.specs.Limit.{maxNodes}
+use Rattle.plan.specs.Tree.{at, walk, Tree}
+use Rattle.tree.specs.Totals.{held, tabulate, totalsOf}
+use Rattle.shares.specs.declared.Weighed.{Weighed}
+use Rattle.shares.specs.Shares.{amount, sharesOf}
+
+-- a weighed tree of a table of counts: its helpands are a tree, and its totals are the table's
+pub record Fine (tree : Weighed) (table : List ℕ) : Type 0 where
+  pub few : tree .nodes ≤ maxNodes
+  pub rooted : (r : ℕ) × Tree (tree .nodes) (at (tree .helpands)) r
+  pub counted : tree .totals ≡ totalsOf (tree .nodes) table
+
+-- what each node gets of subdomain n, whose owner has share r
+abbrev pub amountsIn : Weighed → List ℕ → ℕ → ℕ → List ℕ
+amountsIn tree table r n =
+    tabulate (tree .nodes) (amount (tree .nodes) (at (tree .helpands)) (tree .limit) (at (tree .leasts)) (at (tree .totals)) (held table) r n)
+
+-- the shares of all nodes
+abbrev pub sharesIn : Weighed → List ℕ → List ℕ
+sharesIn tree table = sharesOf (tree .nodes) (at (tree .helpands)) (tree .limit) (at (tree .leasts)) (at (tree .totals)) (held table)
+
+-- the shares before a walk down from node n, and after it: a right entry stays right, and each node from which n is reached in so
+-- many steps has its right share
+pub record Walked (nodes : ℕ) (h right : ℕ → ℕ) (depth n : ℕ) (before after : ℕ → ℕ) : Type 0 where
+  pub stays : (k : ℕ) → before k ≡ right k → after k ≡ right k
+  pub made : (steps k : ℕ) → steps ≤ depth → k < nodes → walk h steps k ≡ n → after k ≡ right k

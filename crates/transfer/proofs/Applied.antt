@@ -1,0 +1,231 @@
+-- Moves applied to a table: each entry of the table that follows, and the loops that test and apply the moves one by one, one law for
+-- each way that a turn can go. Assumes nothing.
+use mathlib.Core.Path.{_≡_, refl, sym, ap, _∙_}
+use mathlib.Core.Logic.{_⊎_, inl, inr}
+use mathlib.Core.Bool.{true, false, true≢false}
+use mathlib.Core.List.{List, [], _∷_}
+use Prim.Native.Nat.{ℕ, zero, suc, _+_, _-_, _≤_, _<_}
+use native.Mathlib.Nat.{add-zero}
+use native.Mathlib.Decide.{ℕ-discrete, decLt}
+use native.Mathlib.Numerals.{add-one}
+use native.Mathlib.Omega.{arith}
+use borrow.Author.Tests.{le-leb, leb-true, eq-eqb, ne-eqb}
+use lib.Dec.{leb, eqb}
+use lib.ListN.{length, getD, set, take, drop, length-set, length-take, drop-of-length-le, List·getD-eq-default}
+use lib.Seq.{set-out, getD-set-same, getD-set-other, getD-take, drop-cons, ext-getD}
+use Rattle.fold.specs.Sum.{only, sum}
+use Rattle.fold.proofs.Tests.{either, and-left, and-right, and-both, only-is, only-not}
+use Rattle.fold.proofs.Sums.{sum-set}
+use Rattle.plan.specs.Tree.{at}
+use Rattle.transfer.specs.Carry.{fromCell, intoCell, sends, receives, withinFrom, sendsWithin, carriedFrom, carried}
+use Rattle.transfer.proofs.Ends.{moved-none, moved-one, moved-here}
+
+-- ---- the entries that are left of the first e
+
+pub left-more : (xs : List ℕ) (e i : ℕ) → i < e → e ≤ length xs → drop i (take e xs) ≡ getD xs i 0 ∷ drop (i + 1) (take e xs)
+left-more xs e i h l =
+    let b : i < length (take e xs) = simp length-take (omega arith) in
+    rw (add-one, drop-cons (take e xs) i 0, getD-take)
+
+pub left-end : (xs : List ℕ) (e i : ℕ) → e ≤ i → drop i (take e xs) ≡ []
+left-end xs e i h =
+    let b : length (take e xs) ≤ i = simp length-take (omega arith) in
+    drop-of-length-le (take e xs) b
+
+-- ---- cells
+
+pub from-below : (route : ℕ) → route < 262144 → fromCell route < 4096
+from-below route h = omega arith
+
+pub into-below : (route : ℕ) → route < 262144 → intoCell route < 4096
+into-below route h = omega arith
+
+-- ---- the table that follows
+
+module _ (routes counts : List ℕ) where
+  from-at : (c : ℕ) (table : List ℕ) (i : ℕ) → i < length table
+      → getD (carriedFrom routes counts c table) i 0 ≡ getD table i 0 - sends routes counts (c + i) + receives routes counts (c + i)
+  unfolding carriedFrom
+  from-at c [] i h = absurd (omega arith)
+  from-at c (x ∷ table) zero h = rw (add-zero c)
+  from-at c (x ∷ table) (suc i) h =
+      let e : c + suc i ≡ c + 1 + i = omega arith in
+      rw e (from-at (c + 1) table i (omega arith))
+
+  from-length : (c : ℕ) (table : List ℕ) → length (carriedFrom routes counts c table) ≡ length table
+  unfolding carriedFrom
+  from-length c [] = refl
+  from-length c (x ∷ table) = ap suc (from-length (c + 1) table)
+
+  pub carried-at : (table : List ℕ) (c : ℕ) → c < length table → at (carried table routes counts) c ≡ at table c - sends routes counts c + receives routes counts c
+  carried-at table c h =
+      let e : 0 + c ≡ c = omega arith in
+      rw e at (from-at 0 table c h)
+
+  pub length-carried : (table : List ℕ) → length (carried table routes counts) ≡ length table
+  length-carried table = from-length 0 table
+
+pub carried-none : (table : List ℕ) → carried table [] [] ≡ table
+carried-none table =
+    ext-getD 0 (carried table [] []) table (length-carried [] [] table)
+    (λ c l.
+    let b : c < length table = omega (arith, length-carried [] [] table) in
+    omega (arith, carried-at [] [] table c b, moved-none fromCell [] c, moved-none intoCell [] c))
+
+-- ---- the test against the table before any move
+
+module _ (routes counts : List ℕ) where
+  from-within : (c : ℕ) (table : List ℕ) → withinFrom routes counts c table ≡ true → (i : ℕ) → i < length table → sends routes counts (c + i) ≤ getD table i 0
+  unfolding withinFrom
+  from-within c [] e i h = absurd (omega arith)
+  from-within c (x ∷ table) e zero h =
+      rw (add-zero c) (leb-true (sends routes counts c) x (and-left (leb (sends routes counts c) x) (withinFrom routes counts (c + 1) table) e))
+  from-within c (x ∷ table) e (suc i) h =
+      let q : c + suc i ≡ c + 1 + i = omega arith in
+      rw q (from-within (c + 1) table (and-right (leb (sends routes counts c) x) (withinFrom routes counts (c + 1) table) e) i (omega arith))
+
+  within-from : (c : ℕ) (table : List ℕ) → ((i : ℕ) → i < length table → sends routes counts (c + i) ≤ getD table i 0) → withinFrom routes counts c table ≡ true
+  unfolding withinFrom
+  within-from c [] h = refl
+  within-from c (x ∷ table) h =
+      and-both (leb (sends routes counts c) x) (withinFrom routes counts (c + 1) table)
+      (le-leb (sends routes counts c) x (rw (add-zero c) at (h 0 (omega arith))))
+      (within-from (c + 1) table (λ i l.
+      let q : c + suc i ≡ c + 1 + i = omega arith in
+      rw q at (h (suc i) (omega arith))))
+
+module _ (table routes counts : List ℕ) where
+  pub within-at : sendsWithin table routes counts ≡ true → (c : ℕ) → c < length table → sends routes counts c ≤ at table c
+  within-at e c h =
+      let q : 0 + c ≡ c = omega arith in
+      rw q at (from-within routes counts 0 table e c h)
+
+  pub within-of : ((c : ℕ) → c < length table → sends routes counts c ≤ at table c) → sendsWithin table routes counts ≡ true
+  within-of h =
+      within-from routes counts 0 table (λ i l.
+      let q : 0 + i ≡ i = omega arith in
+      rw q (h i l))
+
+  -- one cell that sends more
+  pub within-false : (c : ℕ) → c < length table → at table c < sends routes counts c → sendsWithin table routes counts ≡ false
+  within-false c h l = split (either (sendsWithin table routes counts))
+    where
+      split : (sendsWithin table routes counts ≡ true) ⊎ (sendsWithin table routes counts ≡ false) → sendsWithin table routes counts ≡ false
+      split (inl e) = absurd (omega (arith, within-at e c h))
+      split (inr e) = e
+
+pub within-none : (table : List ℕ) → sendsWithin table [] [] ≡ true
+within-none table = within-of table [] [] (λ c l. omega (arith, moved-none fromCell [] c))
+
+-- an entry made smaller: past the end of a table both are 0
+smaller-at : (xs : List ℕ) (i k : ℕ) → at (set xs i (at xs i - k)) i ≡ at xs i - k
+smaller-at xs i k = elim (decLt i (length xs)) [
+  | yes l ↦ getD-set-same xs i (at xs i - k) 0 l
+  | no d ↦
+      let l : length xs ≤ i = omega (arith, d) in
+      let z : at xs i ≡ 0 = List·getD-eq-default xs 0 l in
+      ap (λ (ys : List ℕ). at ys i) (set-out xs i (at xs i - k) l) ∙ omega arith
+]
+
+-- ---- one move
+
+module _ (xs : List ℕ) (i k c : ℕ) where
+  pub less-at : k ≤ at xs i → at (set xs i (at xs i - k)) c + only (eqb i c) k ≡ at xs c
+  less-at h = elim (ℕ-discrete i c) [
+    | yes e ↦ omega (arith, ap (at (set xs i (at xs i - k))) e, ap (at xs) e, smaller-at xs i k, only-is (eqb i c) k (eq-eqb i c e))
+    | no d ↦ omega (arith, getD-set-other xs i c (at xs i - k) 0 (λ z. d (sym z)), only-not (eqb i c) k (ne-eqb i c d))
+  ]
+
+  pub plus-at : i < length xs → at (set xs i (at xs i + k)) c ≡ at xs c + only (eqb i c) k
+  plus-at l = elim (ℕ-discrete i c) [
+    | yes e ↦ omega (arith, ap (at (set xs i (at xs i + k))) e, ap (at xs) e, getD-set-same xs i (at xs i + k) 0 l, only-is (eqb i c) k (eq-eqb i c e))
+    | no d ↦ omega (arith, getD-set-other xs i c (at xs i + k) 0 (λ z. d (sym z)), only-not (eqb i c) k (ne-eqb i c d))
+  ]
+
+-- the table without what leaves, and then with what arrives
+abbrev pub taken : List ℕ → ℕ → ℕ → List ℕ
+taken table route count = set table (fromCell route) (at table (fromCell route) - count)
+
+abbrev pub applied : List ℕ → ℕ → ℕ → List ℕ
+applied table route count = set (taken table route count) (intoCell route) (at (taken table route count) (intoCell route) + count)
+
+-- ---- one move passes the test, or fails it
+
+module _ (table : List ℕ) (route count : ℕ) (routes counts : List ℕ) (size : length table ≡ 4096) (below : route < 262144) where
+  pub within-fails : at table (fromCell route) < count → sendsWithin table (route ∷ routes) (count ∷ counts) ≡ false
+  within-fails h =
+      within-false table (route ∷ routes) (count ∷ counts) (fromCell route) (omega (arith, from-below route below))
+      (omega (arith, moved-here fromCell route count routes counts (fromCell route) refl))
+
+  pub within-more : count ≤ at table (fromCell route) → sendsWithin table (route ∷ routes) (count ∷ counts) ≡ sendsWithin (taken table route count) routes counts
+  within-more h = split (either (sendsWithin (taken table route count) routes counts))
+    where
+      same : length (taken table route count) ≡ length table
+      same = length-set table (fromCell route) (at table (fromCell route) - count)
+
+      split : (sendsWithin (taken table route count) routes counts ≡ true) ⊎ (sendsWithin (taken table route count) routes counts ≡ false)
+          → sendsWithin table (route ∷ routes) (count ∷ counts) ≡ sendsWithin (taken table route count) routes counts
+      split (inl e) =
+          within-of table (route ∷ routes) (count ∷ counts) (λ c l.
+          omega (arith, moved-one fromCell route count routes counts c, less-at table (fromCell route) count c h, within-at (taken table route count) routes counts e c (omega (arith, same))))
+          ∙ sym e
+      split (inr e) = fails (either (sendsWithin table (route ∷ routes) (count ∷ counts)))
+        where
+          fails : (sendsWithin table (route ∷ routes) (count ∷ counts) ≡ true) ⊎ (sendsWithin table (route ∷ routes) (count ∷ counts) ≡ false)
+              → sendsWithin table (route ∷ routes) (count ∷ counts) ≡ sendsWithin (taken table route count) routes counts
+          fails (inr f) = f ∙ sym e
+          fails (inl t) =
+              absurd (true≢false (sym (within-of (taken table route count) routes counts (λ c l.
+              omega (arith, moved-one fromCell route count routes counts c, less-at table (fromCell route) count c h, within-at table (route ∷ routes) (count ∷ counts) t c (omega (arith, same)))))
+              ∙ e))
+
+-- ---- one move applied
+
+module _ (table : List ℕ) (route count : ℕ) (size : length table ≡ 4096) (below : route < 262144) where
+  pub applied-length : length (applied table route count) ≡ 4096
+  applied-length = simp length-set size
+
+  into-lt : intoCell route < length (taken table route count)
+  into-lt = simp length-set (omega (arith, into-below route below))
+
+  module _ (enough : count ≤ at table (fromCell route)) where
+    pub applied-at : (c : ℕ) → at (applied table route count) c + only (eqb (fromCell route) c) count ≡ at table c + only (eqb (intoCell route) c) count
+    applied-at c = omega (arith, less-at table (fromCell route) count c enough, plus-at (taken table route count) (intoCell route) count c into-lt)
+
+    -- all entries add up to the same
+    pub taken-sum : sum 4096 (at (taken table route count)) + count ≡ sum 4096 (at table)
+    taken-sum =
+        omega (
+          arith,
+          sum-set 4096 table (fromCell route) (at table (fromCell route) - count) (from-below route below) (omega (arith, from-below route below)),
+          enough,
+        )
+
+    pub applied-sum : sum 4096 (at (applied table route count)) ≡ sum 4096 (at table)
+    applied-sum =
+        omega (arith, taken-sum, sum-set 4096 (taken table route count) (intoCell route) (at (taken table route count) (intoCell route) + count) (into-below route below) into-lt)
+
+  module _ (routes counts : List ℕ) (within : (c : ℕ) → c < 4096 → sends (route ∷ routes) (count ∷ counts) c ≤ at table c) where
+    pub applied-enough : count ≤ at table (fromCell route)
+    applied-enough =
+        omega (arith, within (fromCell route) (from-below route below), moved-here fromCell route count routes counts (fromCell route) refl)
+
+    -- what is left to send is there still
+    pub applied-within : (c : ℕ) → c < 4096 → sends routes counts c ≤ at (applied table route count) c
+    applied-within c h = omega (arith, within c h, moved-one fromCell route count routes counts c, applied-at applied-enough c)
+
+    pub carried-more : carried table (route ∷ routes) (count ∷ counts) ≡ carried (applied table route count) routes counts
+    carried-more =
+        let next = applied table route count in
+        ext-getD 0 (carried table (route ∷ routes) (count ∷ counts)) (carried next routes counts)
+        (length-carried (route ∷ routes) (count ∷ counts) table ∙ size ∙ sym (length-carried routes counts next ∙ applied-length))
+        (λ c l.
+        let b : c < 4096 = omega (arith, length-carried (route ∷ routes) (count ∷ counts) table) in
+        let lt : c < length table = omega arith in
+        let ln : c < length next = omega (arith, applied-length) in
+        same (at (carried table (route ∷ routes) (count ∷ counts)) c) (at (carried next routes counts) c) (at table c) (at next c)
+        (sends (route ∷ routes) (count ∷ counts) c) (sends routes counts c) (receives (route ∷ routes) (count ∷ counts) c) (receives routes counts c) (only (eqb (fromCell route) c) count) (only (eqb (intoCell route) c) count)
+        (carried-at (route ∷ routes) (count ∷ counts) table c lt) (carried-at routes counts next c ln) (moved-one fromCell route count routes counts c) (moved-one intoCell route count routes counts c) (applied-at applied-enough c) (within c b))
+      where
+        same : (u v x y s s′ r r′ out into : ℕ) → u ≡ x - s + r → v ≡ y - s′ + r′ → s ≡ out + s′ → r ≡ into + r′ → y + out ≡ x + into → s ≤ x → u ≡ v
+        same u v x y s s′ r r′ out into p q ps pr a w = omega arith

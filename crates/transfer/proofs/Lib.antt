@@ -1,0 +1,10 @@
+pub mod Dues
+pub mod Turns
+pub mod Ends
+pub mod Matched
+pub mod Entries
+pub mod Subdomains
+pub mod Applied
+pub mod Kept
+pub mod Carrying
+pub mod Vectors

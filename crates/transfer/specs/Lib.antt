@@ -1,0 +1,3 @@
+pub mod Due
+pub mod Matching
+pub mod Carry

@@ -1,0 +1,8 @@
+pub mod Tabulate
+pub mod Totalled
+pub mod Families
+pub mod Weighing
+pub mod Passing
+pub mod Filling
+pub mod Keeping
+pub mod Vectors

@@ -1,0 +1,46 @@
+-- `tree::all_within` meets its contract: the entries of the nodes passed are at most the limit. Assumes nothing.
+use borrow.Author.Needs.{needs}
+use borrow.Author.Tests.{le-leb, lt-leb}
+use mathlib.Core.Path.{_≡_, sym}
+use mathlib.Core.Bool.{true}
+use Prim.Native.Nat.{_≤_, _-_}
+use native.Mathlib.Omega.{arith}
+use lib.Dec.{leb}
+use Rattle.fold.specs.All.{all}
+use Rattle.fold.proofs.Tests.{all-none, all-more, all-fails}
+use Rattle.plan.specs.Tree.{at}
+use Rattle.tree.proofs.all_within.Statement.{statement}
+use Rattle.tree.proofs.all_within.Tie as tie
+
+abbrev Inv-loop : tie.InvT-loop
+Inv-loop nodes limit entries k₀ k = (k ≤ nodes) × (all k (λ j. leb (at entries j) limit) ≡ true)
+
+abbrev μ-loop : tie.MeasureT-loop
+μ-loop nodes limit entries k₀ k = nodes - k
+
+returns : tie.Need-returns Inv-loop μ-loop
+returns c = sym (all-fails _ _ _ (c .before .loop-test .taken) (lt-leb _ _ (c .if1 .taken)))
+
+loop-again : tie.Need-loop-again Inv-loop μ-loop
+loop-again c = (search needs, all-more _ _ (c .before .before .loop .inv .1) (le-leb _ _ (c .if1 .left)))
+
+returns-2 : tie.Need-returns-2 Inv-loop μ-loop
+returns-2 c =
+    let l = c .before in
+    let e : l .loop .k ≡ l .before .args .nodes = omega arith in
+    sym (rw e at (l .loop .inv .1))
+
+pub all-within-spec : {M : Type 1} → statement M
+all-within-spec =
+    tie.close
+    (tie.spec
+    Inv-loop
+    μ-loop
+    (λ c. (search needs, all-none _))  -- loop-holds
+    (λ c. search needs)  -- mul-if1
+    (λ c. search needs)  -- array-read-if1
+    returns
+    (λ c. search needs)  -- add-k
+    (λ c. search needs)  -- loop-less
+    loop-again
+    returns-2)

@@ -1,0 +1,46 @@
+-- `tree::weigh::find_root` meets its contract: no node passed is a root, so each tree's root is still ahead. Assumes nothing.
+use borrow.Author.Needs.{needs}
+use Prim.Native.Nat.{ℕ, _+_, _≤_, _<_, _-_}
+use native.Mathlib.Decide.{ℕ-discrete}
+use native.Mathlib.Omega.{arith}
+use Rattle.plan.specs.Tree.{at, Tree}
+use Rattle.plan.proofs.Trees.{tree-alone}
+use Rattle.tree.proofs.weigh.find_root.Statement.{statement}
+use Rattle.tree.proofs.weigh.find_root.Tie as tie
+
+abbrev Inv-loop : tie.InvT-loop
+Inv-loop nodes helpands node₀ node = (node < nodes) × ((r : ℕ) → Tree nodes (at helpands) r → node ≤ r)
+
+abbrev μ-loop : tie.MeasureT-loop
+μ-loop nodes helpands node₀ node = nodes - node
+
+loop-again : tie.Need-loop-again Inv-loop μ-loop
+loop-again c =
+    let l = c .before in
+    let ahead : (r : ℕ) → Tree (l .before .args .nodes) (at (l .before .args .t1)) r → l .loop .node + 1 ≤ r = λ r t. elim (ℕ-discrete (l .loop .node) r) [
+      | yes e ↦ absurd (c .loop-test .taken (rw e (t .own)))
+      | no d ↦ omega (arith, l .loop .inv .1 r t, d)
+    ] in
+    let w = l .before .pre .1 in
+    (omega (arith, ahead (w .0) (w .1), w .1 .root), ahead)
+
+returns : tie.Need-returns Inv-loop μ-loop
+returns c =
+    let l = c .before in
+    let w = l .before .pre .1 in
+    rw (tree-alone (w .1) (l .loop .node) (l .loop .inv .0) (c .loop-test .left)) (w .1)
+
+pub find-root-spec : {M : Type 1} → statement M
+find-root-spec =
+    tie.close
+    (tie.spec
+    Inv-loop
+    μ-loop
+    (λ c. (omega (arith, c .pre .1 .1 .root), (λ r t. omega arith)))  -- loop-holds
+    (λ c. search needs)  -- mul-loop
+    (λ c. search needs)  -- array-read-loop
+    (λ c. search needs)  -- cast-loop
+    (λ c. search needs)  -- add-node
+    (λ c. search needs)  -- loop-less
+    loop-again
+    returns)

@@ -1,0 +1,5 @@
+pub mod Totals
+pub mod Family
+pub mod Weigh
+pub mod Division
+pub mod Descent
