@@ -1,0 +1,4 @@
+pub mod Laws
+pub mod Stretch
+pub mod InForce
+pub mod Vectors

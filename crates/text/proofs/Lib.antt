@@ -1,0 +1,5 @@
+pub mod Digits
+pub mod Lengths
+pub mod Writing
+pub mod Splitting
+pub mod Vectors

@@ -1,0 +1,26 @@
+-- `weigh::answer` meets its contract, case by case. Assumes nothing.
+use borrow.Author.Needs.{needs}
+use mathlib.Core.Path.{_≡_, refl, sym, ap, _∙_}
+use mathlib.Core.Bool.{Bool, true, false}
+use Prim.Native.Nat.{ℕ}
+use mir.Val.{boolByte}
+use Rattle.fold.specs.Sum.{only}
+use Rattle.weigh.specs.Weigh.{refused, answerOf}
+use Rattle.weigh.proofs.answer.Statement.{statement}
+use Rattle.weigh.proofs.answer.Tie as tie
+
+-- a bool as a number
+one : (b : Bool) → boolByte b ≡ only b 1
+one true = refl
+one false = refl
+
+pub answer-spec : {M : Type 1} → statement M
+answer-spec =
+    tie.close
+    (tie.spec
+    (λ c. search needs)  -- enum-known-w
+    (λ c. search needs)  -- cast-t5
+    (λ c. search needs)  -- enum-known-w-2
+    (λ c κs. search needs)  -- number-requires
+    (λ c. ap (λ (x : ℕ). record { refusal = 0; holds = x }) (one (c .before .w .given .0 .0)) ∙ sym (ap answerOf (c .before .w .given .1)))  -- returns
+    (λ c. ap refused (c .number .ensures) ∙ sym (ap answerOf (c .before .before .w2 .given .1))))  -- returns-2

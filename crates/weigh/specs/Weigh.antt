@@ -1,0 +1,106 @@
+-- Document 01, *Weigh*: "takes sheet and plan, writes N words of least under the sheet's limit, and says whether the tree holds."
+use mathlib.Core.Path.{_≡_}
+use mathlib.Core.Logic.{_≢_}
+use Prim.Native.Nat.{ℕ, _*_}
+use mathlib.Core.List.{List, [], _∷_}
+use mathlib.Core.Bool.{Bool, cond, not}
+use lib.Dec.{eqb, ltb}
+use lib.ListN.{length}
+use Rattle.fold.specs.Sum.{only}
+use Rattle.fold.specs.Collect.{collect}
+use Rattle.words.specs.Words.{encode}
+use Rattle.words.specs.Buffer.{placed}
+use Rattle.sheet.specs.declared.Sheet.{Sheet}
+use Rattle.sheet.specs.Sheet.{readSheet, refusalNumber as sheetNumber, accepted as sheetAccepted}
+use Rattle.sheet.specs.Table.{tableOf}
+use Rattle.plan.specs.Tree.{at}
+use Rattle.plan.specs.declared.Plan.{Plan}
+use Rattle.plan.specs.Plan.{readPlan, helpandsOf, refusalNumber as planNumber, accepted as planAccepted}
+use Rattle.tree.specs.Totals.{totalsOf}
+use Rattle.tree.specs.Weigh.{least, holds}
+use Rattle.weigh.specs.declared.WeighRefusal.{WeighRefusal}
+use Rattle.weigh.specs.declared.WeighRefusal.the-variants.{Sheet as OfSheet, Plan as OfPlan, NodesDiffer, Primary, Buffer}
+use Rattle.weigh.specs.declared.Weighing.{Weighing}
+use Rattle.weigh.specs.declared.Weighing.the-variants.{Weighed, Refused}
+use Rattle.weigh.specs.declared.WeighAnswer.{WeighAnswer}
+
+-- ---- answers
+
+abbrev pub refused : ℕ → WeighAnswer
+refused k = record { refusal = k; holds = 0 }
+
+abbrev pub weighed : Bool → WeighAnswer
+weighed b = record { refusal = 0; holds = only b 1 }
+
+-- the paper's number of each refusal: "the sheet's; the plan's; 21, their N differ; 24, kind 0; 25, buffer under 4N bytes"
+abbrev pub numberOf : WeighRefusal → ℕ
+numberOf (OfSheet r) = sheetNumber r
+numberOf (OfPlan r) = planNumber r
+numberOf NodesDiffer = 21
+numberOf Primary = 24
+numberOf Buffer = 25
+
+-- the paper's number and values for each case of the enum
+abbrev pub answerOf : Weighing → WeighAnswer
+answerOf (Weighed b) = weighed b
+answerOf (Refused r) = refused (numberOf r)
+
+-- ---- what is weighed, for a sheet s and a plan p that are accepted and have the same N
+
+-- the totals of the sheet's subdomains
+abbrev pub totalsIn : List ℕ → List ℕ
+totalsIn s = totalsOf (readSheet s .n) (tableOf s (readSheet s .e))
+
+-- "least under the sheet's limit"
+abbrev pub leastIn : List ℕ → List ℕ → ℕ → ℕ
+leastIn s p = least (readSheet s .n) (at (helpandsOf p (readSheet s .n))) (at (totalsIn s)) (readSheet s .limit)
+
+abbrev pub holdsIn : List ℕ → List ℕ → Bool
+holdsIn s p = holds (readSheet s .n) (at (helpandsOf p (readSheet s .n))) (at (totalsIn s)) (readSheet s .limit)
+
+-- "N words of least"
+unfoldable pub leastBytes : List ℕ → List ℕ → List ℕ
+leastBytes s p = encode (collect (readSheet s .n) (λ k. leastIn s p k ∷ []))
+
+-- ---- the checks, in the order written
+
+abbrev pub refuseIf : Bool → ℕ → WeighAnswer → WeighAnswer
+refuseIf test k rest = cond test (refused k) rest
+
+-- 21, 24 and 25, with a buffer of so many bytes
+unfoldable pub pairAnswer : List ℕ → List ℕ → ℕ → WeighAnswer
+pairAnswer s p size =
+    refuseIf (not (eqb (readSheet s .n) (readPlan p .n))) 21
+    (refuseIf (eqb (readPlan p .kind) 0) 24
+    (refuseIf (ltb size (4 * readSheet s .n)) 25
+    (weighed (holdsIn s p))))
+
+unfoldable pub weighAnswer : List ℕ → List ℕ → ℕ → WeighAnswer
+weighAnswer s p size =
+    refuseIf (not (eqb (readSheet s .refusal) 0)) (readSheet s .refusal)
+    (refuseIf (not (eqb (readPlan p .refusal) 0)) (readPlan p .refusal)
+    (pairAnswer s p size))
+
+-- the buffer afterwards: "N words of least", or as it was
+abbrev pub bytesAfter : List ℕ → WeighAnswer → List ℕ → List ℕ
+bytesAfter leasts a out = cond (eqb (a .refusal) 0) (placed leasts out) out
+
+abbrev pub pairBytes : List ℕ → List ℕ → List ℕ → List ℕ
+pairBytes s p out = bytesAfter (leastBytes s p) (pairAnswer s p (length out)) out
+
+abbrev pub weighBytes : List ℕ → List ℕ → List ℕ → List ℕ
+weighBytes s p out = bytesAfter (leastBytes s p) (weighAnswer s p (length out)) out
+
+-- ---- what the inner functions ask
+
+-- the sheet and the plan were read as these
+pub record Read (s p : List ℕ) (h : Sheet) (q : Plan) : Type 0 where
+  pub sheet : sheetAccepted (h .n) (h .t) (h .e) (h .p) (h .limit) ≡ readSheet s
+  pub plan : planAccepted (q .n) (q .kind) (q .limit) ≡ readPlan p
+
+-- and they can be weighed
+pub record Weighable (s p : List ℕ) (h : Sheet) : Type 0 where
+  pub sheet : sheetAccepted (h .n) (h .t) (h .e) (h .p) (h .limit) ≡ readSheet s
+  pub plan : readPlan p .refusal ≡ 0
+  pub nodes : readPlan p .n ≡ h .n
+  pub kind : readPlan p .kind ≢ 0
