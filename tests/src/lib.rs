@@ -1,0 +1,48 @@
+//! The tests of Firrozka from outside: the archive's C boundary beside a
+//! second implementation of document 01, over seeded inputs.
+//!
+//! | module | what it holds |
+//! |---|---|
+//! | `bounds` | the largest and smallest values of document 01 |
+//! | `answers` | what the operations answer |
+//! | `reference` | the second implementation |
+//! | `faults` | every check of document 01 looked at on its own |
+//! | `boundary` | the archive under test |
+//! | `random` | the seeded generator |
+//! | `settings` | numbers from the environment |
+//! | `records` | valid records, and ways to spoil them |
+//! | `readers` | for each reader, all of the above side by side |
+//! | `inputs` | which input stands at which index of a run |
+//! | `compare` | one input, all answers |
+//! | `coverage` | which refusals and pairs of faults a run has met |
+//! | `steps` | seeded whole steps |
+//! | `worked` | the steps that document 01 works by hand |
+//! | `operations` | the operations on more than one record, side by side |
+//! | `division` | what a division along a tree is |
+//! | `rival` | whether there is one, found in other ways |
+//! | `demands` | what must hold of a planned step, however it was found |
+//! | `bench_text` | what the bench program prints |
+//! | `refused` | a small step for each refusal of *plan a step* |
+//! | `cases` | the input and output of the program that the gate runs |
+
+pub mod answers;
+pub mod bench_text;
+pub mod boundary;
+pub mod bounds;
+pub mod cases;
+pub mod compare;
+pub mod coverage;
+pub mod demands;
+pub mod division;
+pub mod faults;
+pub mod inputs;
+pub mod operations;
+pub mod random;
+pub mod readers;
+pub mod records;
+pub mod reference;
+pub mod refused;
+pub mod rival;
+pub mod settings;
+pub mod steps;
+pub mod worked;

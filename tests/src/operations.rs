@@ -1,0 +1,86 @@
+//! The operations on more than one record, side by side, so that tests are
+//! written once for whoever does them.
+
+use crate::answers::{PartAnswer, StepAnswer, WeighedAnswer, WrittenAnswer};
+use crate::bounds::NODES;
+use crate::reference;
+
+const MOST_NODES: usize = *NODES.end() as usize;
+
+/// The longest sheet: 4 × (3+2E) with E = N × N.
+pub const SHEET_BYTES: usize = 4 * (3 + 2 * MOST_NODES * MOST_NODES);
+
+/// The longest plan: 4 × (3+2N).
+pub const PLAN_BYTES: usize = 4 * (3 + 2 * MOST_NODES);
+
+/// The longest moves: 4 × (2+2E) with E = N × (N−1).
+pub const MOVES_BYTES: usize = 4 * (2 + 2 * MOST_NODES * (MOST_NODES - 1));
+
+pub type Weigh = fn(sheet: &[u8], plan: &[u8], least: &mut [u8]) -> WeighedAnswer;
+pub type PlanStep = fn(sheet: &[u8], old: &[u8], plan: &mut [u8], moves: &mut [u8]) -> StepAnswer;
+pub type CarryOut = fn(sheet: &[u8], moves: &[u8], next: &mut [u8]) -> WrittenAnswer;
+pub type TreeInForce = fn(old: &[u8], new: &[u8]) -> PartAnswer;
+
+/// Someone who does them.
+pub struct Operations {
+    pub name: &'static str,
+    pub weigh: Weigh,
+    pub plan_step: PlanStep,
+    pub carry_out: CarryOut,
+    pub tree_in_force: TreeInForce,
+}
+
+/// The second implementation.
+pub const REFERENCE: Operations = Operations {
+    name: "the second implementation",
+    weigh: reference::weigh,
+    plan_step: reference::plan_step,
+    carry_out: reference::carry_out,
+    tree_in_force: reference::tree_in_force,
+};
+
+/// The plan and the moves of a step.
+#[derive(Clone, Debug, PartialEq, Eq)]
+pub struct Planned {
+    pub plan: Vec<u8>,
+    pub moves: Vec<u8>,
+}
+
+impl Operations {
+    /// *Plan a step* with buffers that are long enough: the records, or the refusal.
+    pub fn planned(&self, sheet: &[u8], old: &[u8]) -> Result<Planned, u32> {
+        let mut plan = vec![0; PLAN_BYTES];
+        let mut moves = vec![0; MOVES_BYTES];
+        let answer = (self.plan_step)(sheet, old, &mut plan, &mut moves);
+        plan.truncate(answer.plan_bytes as usize);
+        moves.truncate(answer.moves_bytes as usize);
+        match answer.refusal {
+            0 => Ok(Planned { plan, moves }),
+            refusal => Err(refusal),
+        }
+    }
+
+    /// *Carry out* with a buffer that is long enough: the sheet, or the refusal.
+    pub fn carried_out(&self, sheet: &[u8], moves: &[u8]) -> Result<Vec<u8>, u32> {
+        let mut next = vec![0; SHEET_BYTES];
+        let answer = (self.carry_out)(sheet, moves, &mut next);
+        next.truncate(answer.bytes as usize);
+        match answer.refusal {
+            0 => Ok(next),
+            refusal => Err(refusal),
+        }
+    }
+
+    /// *Weigh* with a buffer that is long enough: the leasts and whether the
+    /// tree holds, or the refusal.
+    pub fn weighed(&self, sheet: &[u8], plan: &[u8]) -> Result<(Vec<u32>, bool), u32> {
+        let mut least = vec![0; 4 * MOST_NODES];
+        let answer = (self.weigh)(sheet, plan, &mut least);
+        if answer.refusal != 0 {
+            return Err(answer.refusal);
+        }
+        let n = (plan.len() / 4 - 3) / 2;
+        let word = |k: usize| u32::from_le_bytes([0, 1, 2, 3].map(|byte| least[4 * k + byte]));
+        Ok(((0..n).map(word).collect(), answer.holds == 1))
+    }
+}

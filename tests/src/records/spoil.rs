@@ -1,0 +1,56 @@
+//! Faults that more than one kind of record can have.
+
+use super::damage::some_bytes;
+use super::Record;
+use crate::random::Random;
+use std::ops::RangeInclusive;
+
+/// Sizes far too large; eight times each is 0 or little less in 32 bits.
+pub const FAR: [u32; 4] = [1 << 29, 1 << 30, 1 << 31, u32::MAX];
+
+/// Leaves less than the sizes.
+pub fn cut_the_sizes(record: &mut Record, random: &mut Random) {
+    record.cut = Some(random.place(4 * record.head));
+}
+
+/// A value just outside the range, or far from it.
+pub fn outside(range: RangeInclusive<u32>, random: &mut Random) -> u32 {
+    let (low, high) = (*range.start(), *range.end());
+    match random.below(5) {
+        0 if low > 0 => low - 1,
+        1 => random.between(high + 1, u32::MAX),
+        2 => random.one_of(&FAR).max(high + 1),
+        _ => high + random.between(1, 3),
+    }
+}
+
+/// A length that does not go with the sizes: some bytes more or fewer, or
+/// another size over the same bytes.
+pub fn change_the_length(record: &mut Record, random: &mut Random) {
+    let some = random.one_of(&[1, 2, 3, 4, 8]);
+    match random.below(4) {
+        0 => record.tail = some_bytes(some, random),
+        1 => record.cut = Some((4 * record.words.len()).saturating_sub(some)),
+        2 => {
+            let size = &mut record.words[record.size];
+            *size = size.wrapping_add(1);
+        }
+        _ => {
+            let size = &mut record.words[record.size];
+            *size = size.wrapping_sub(1);
+        }
+    }
+}
+
+/// Two neighbours in the wrong order, or equal. Takes two entries.
+pub fn stop_rising(entries: &mut [u32], random: &mut Random) {
+    if entries.len() < 2 {
+        return;
+    }
+    let at = random.place(entries.len() - 1);
+    match random.below(3) {
+        0 => entries.swap(at, at + 1),
+        1 => entries[at + 1] = entries[at],
+        _ => entries[at] = entries[at + 1],
+    }
+}

@@ -1,0 +1,36 @@
+//! The second implementation of document 01: written from the paper alone,
+//! simple rather than fast. Each file follows its paragraph sentence by
+//! sentence. Each record has a file, with `read` for other operations (the
+//! record taken apart, or the refusal), the operation itself on top of it, and
+//! the record written.
+//!
+//! | file | paragraph of document 01 |
+//! |---|---|
+//! | `words` | Three records, the words |
+//! | `sheet`, `plan`, `moves` | Three records, and their readers |
+//! | `table` | Deciding, the totals |
+//! | `tree` | The bench's boundary, helpands and helpers |
+//! | `deciding` | Deciding, the three kinds |
+//! | `weighing` | Weighing |
+//! | `keeping` | Shares in a kept tree |
+//! | `rebuilding` | Rebuilding |
+//! | `transfer` | Moves, and the sheet that follows |
+//! | `operations` | Operations on more than one record |
+
+pub mod deciding;
+pub mod keeping;
+pub mod moves;
+pub mod operations;
+pub mod plan;
+pub mod rebuilding;
+pub mod sheet;
+pub mod table;
+pub mod transfer;
+pub mod tree;
+pub mod weighing;
+mod words;
+
+pub use moves::read_moves;
+pub use operations::{carry_out, plan_step, tree_in_force, weigh};
+pub use plan::read_plan;
+pub use sheet::read_sheet;

@@ -1,0 +1,173 @@
+//! The operations on more than one record, over bytes. "An answer carries 0 or
+//! a refusal number, and the values named. A refusal's other values are all 0,
+//! and buffers are untouched. Checks run in the order written."
+
+use super::moves::{self, Moves};
+use super::plan::{self, Plan};
+use super::sheet;
+use super::table::Table;
+use super::tree::old_tree;
+use super::weighing::Weighing;
+use super::words::{to_bytes, to_word};
+use super::{deciding, transfer};
+use crate::answers::{PartAnswer, StepAnswer, WeighedAnswer, WrittenAnswer};
+
+/// *Weigh* "takes sheet and plan, writes N words of least under the sheet's
+/// limit, and says whether the tree holds."
+pub fn weigh(sheet: &[u8], plan: &[u8], least: &mut [u8]) -> WeighedAnswer {
+    match try_weigh(sheet, plan, least) {
+        Ok(holds) => WeighedAnswer {
+            refusal: 0,
+            holds: u32::from(holds),
+        },
+        Err(refusal) => WeighedAnswer {
+            refusal,
+            ..WeighedAnswer::default()
+        },
+    }
+}
+
+fn try_weigh(sheet: &[u8], plan: &[u8], least: &mut [u8]) -> Result<bool, u32> {
+    // "the sheet's; the plan's"
+    let sheet = sheet::read(sheet)?;
+    let plan = plan::read(plan)?;
+    // "21, their N differ"
+    if sheet.n != plan.n {
+        return Err(21);
+    }
+    // "24, kind 0"
+    if plan.kind == 0 {
+        return Err(24);
+    }
+    // "25, buffer under 4N bytes"
+    if least.len() < 4 * sheet.n as usize {
+        return Err(25);
+    }
+    let weighing = Weighing {
+        helpands: &plan.helpands,
+        totals: &Table::of(&sheet).totals(),
+        limit: u64::from(sheet.limit()),
+    };
+    let words: Vec<u32> = weighing.leasts().into_iter().map(to_word).collect();
+    store(&to_bytes(&words), least);
+    Ok(weighing.holds())
+}
+
+/// *Plan a step* "takes a sheet and an old plan, which may have length 0, and
+/// writes plan and moves. It gives kind, L and both lengths in bytes."
+pub fn plan_step(
+    sheet: &[u8],
+    old: &[u8],
+    plan_buffer: &mut [u8],
+    moves_buffer: &mut [u8],
+) -> StepAnswer {
+    match try_plan_step(sheet, old, plan_buffer, moves_buffer) {
+        Ok((plan, moves)) => StepAnswer {
+            refusal: 0,
+            kind: plan.kind,
+            limit: plan.limit,
+            plan_bytes: plan.bytes().len() as u32,
+            moves_bytes: moves.bytes().len() as u32,
+        },
+        Err(refusal) => StepAnswer {
+            refusal,
+            ..StepAnswer::default()
+        },
+    }
+}
+
+fn try_plan_step(
+    sheet: &[u8],
+    old: &[u8],
+    plan_buffer: &mut [u8],
+    moves_buffer: &mut [u8],
+) -> Result<(Plan, Moves), u32> {
+    // "A refused sheet ends planning before the old plan is looked at."
+    let sheet = sheet::read(sheet)?;
+    let old = match old {
+        [] => None,
+        bytes => Some(plan::read(bytes)?),
+    };
+    // "21"
+    if old.as_ref().is_some_and(|old| old.n != sheet.n) {
+        return Err(21);
+    }
+    let plan = deciding::plan(&sheet, old_tree(old.as_ref()));
+    let held = Table::of(&sheet);
+    let moves = transfer::moves(&held, &transfer::due(&plan, &held.totals()));
+    // "22, plan buffer too short"
+    if plan_buffer.len() < plan.bytes().len() {
+        return Err(22);
+    }
+    // "23, moves buffer too short"
+    if moves_buffer.len() < moves.bytes().len() {
+        return Err(23);
+    }
+    store(&plan.bytes(), plan_buffer);
+    store(&moves.bytes(), moves_buffer);
+    Ok((plan, moves))
+}
+
+/// *Carry out* "takes a sheet and moves, writes the sheet that follows ... and
+/// gives its length in bytes."
+pub fn carry_out(sheet: &[u8], moves: &[u8], next: &mut [u8]) -> WrittenAnswer {
+    match try_carry_out(sheet, moves, next) {
+        Ok(bytes) => WrittenAnswer {
+            refusal: 0,
+            bytes: bytes as u32,
+        },
+        Err(refusal) => WrittenAnswer {
+            refusal,
+            ..WrittenAnswer::default()
+        },
+    }
+}
+
+fn try_carry_out(sheet: &[u8], moves: &[u8], next: &mut [u8]) -> Result<usize, u32> {
+    // "the sheet's; the moves'"
+    let sheet = sheet::read(sheet)?;
+    let moves = moves::read(moves)?;
+    // "41, N differ"
+    if sheet.n != moves.n {
+        return Err(41);
+    }
+    // "42, some cell sends in all more than the old sheet gives it"
+    let Some(table) = transfer::apply(&moves, &Table::of(&sheet)) else {
+        return Err(42);
+    };
+    // "same t"
+    let record = table.sheet(sheet.t).bytes();
+    // "43, buffer too short"
+    if next.len() < record.len() {
+        return Err(43);
+    }
+    store(&record, next);
+    Ok(record.len())
+}
+
+/// *Tree in force* "takes an old and a new plan. If the new kind is 1, it hands
+/// back the helpand stretch of the old plan, otherwise that of the new".
+pub fn tree_in_force(old: &[u8], new: &[u8]) -> PartAnswer {
+    // "It hands back an empty stretch of the new plan when either is refused"
+    let (Ok(old), Ok(new)) = (plan::read(old), plan::read(new)) else {
+        return PartAnswer::NOTHING;
+    };
+    // "the N differ"
+    if old.n != new.n {
+        return PartAnswer::NOTHING;
+    }
+    if new.kind != 1 {
+        return PartAnswer::helpands(PartAnswer::NEW, new.n);
+    }
+    // "the new kind is 1 and the old is kind 0 or has other helpands"
+    if old.kind == 0 || old.helpands != new.helpands {
+        return PartAnswer::NOTHING;
+    }
+    PartAnswer::helpands(PartAnswer::OLD, old.n)
+}
+
+/// Writes the record at the beginning of a buffer that has room for it, and
+/// nothing behind it.
+fn store(record: &[u8], buffer: &mut [u8]) {
+    buffer[..record.len()].copy_from_slice(record);
+}

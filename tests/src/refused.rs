@@ -1,0 +1,66 @@
+//! A small step for each refusal that *plan a step* can give whatever the
+//! buffers: 1 to 7, 11 to 18 and 21.
+
+use crate::records::{plans, sheets, Record};
+use crate::steps::Step;
+use crate::worked;
+
+/// The refusal numbers and their steps.
+pub fn all() -> Vec<(u32, Step)> {
+    let sheets = bad_sheets().into_iter();
+    let plans = bad_plans().into_iter();
+    let with_plan = |(refusal, old): (u32, Vec<u8>)| (refusal, Step { old, ..worked::d() });
+    sheets.chain(plans.map(with_plan)).collect()
+}
+
+/// "A refused sheet ends planning before the old plan is looked at": where the
+/// sheet's end can be told, a bad old plan stands behind it.
+fn bad_sheets() -> Vec<(u32, Step)> {
+    let no_plan = Vec::new;
+    let bad_plan = || vec![0; 12];
+    let cells = [0, 65, 130];
+    let good = || sheets::sheet(3, 10, &cells, &[90, 6, 4]);
+    let ten: Vec<u32> = (0..10).collect();
+    [
+        (1, cut(good(), 11), no_plan()),
+        (2, sheets::sheet(65, 10, &[], &[]).bytes(), bad_plan()),
+        (3, sheets::sheet(3, 100, &[], &[]).bytes(), bad_plan()),
+        (4, sheets::sheet(3, 10, &ten, &[1; 10]).bytes(), bad_plan()),
+        (5, cut(good(), 35), no_plan()),
+        (
+            6,
+            sheets::sheet(3, 10, &[0, 65, 131], &[90, 6, 4]).bytes(),
+            bad_plan(),
+        ),
+        (
+            7,
+            sheets::sheet(3, 10, &cells, &[90, 0, 4]).bytes(),
+            bad_plan(),
+        ),
+    ]
+    .map(|(refusal, sheet, old)| (refusal, Step { sheet, old }))
+    .into()
+}
+
+/// Old plans for the sheet of step D.
+fn bad_plans() -> Vec<(u32, Vec<u8>)> {
+    let star = [0, 0, 0];
+    let shares = [0, 27, 29];
+    let good = || plans::plan(2, 36, &star, &shares);
+    vec![
+        (11, cut(good(), 11)),
+        (12, plans::plan(2, 36, &[], &[]).bytes()),
+        (13, plans::plan(3, 36, &star, &shares).bytes()),
+        (14, plans::plan(2, 1_990_000_001, &star, &shares).bytes()),
+        (15, cut(good(), 35)),
+        (16, plans::plan(2, 36, &[0, 0, 3], &shares).bytes()),
+        (17, plans::plan(2, 36, &[0, 2, 1], &shares).bytes()),
+        (18, plans::plan(2, 28, &star, &shares).bytes()),
+        (21, plans::plan(2, 36, &[0, 0], &[0, 27]).bytes()),
+    ]
+}
+
+fn cut(mut record: Record, length: usize) -> Vec<u8> {
+    record.cut = Some(length);
+    record.bytes()
+}

@@ -1,0 +1,70 @@
+//! A crowd: some subdomains of a tree whose particles fill all members of their
+//! families to the limit. One particle more, and no division along the tree
+//! keeps to the limit.
+
+use super::setting::Setting;
+use super::totals::{divided, share_out};
+use crate::random::Random;
+
+pub struct Crowd {
+    pub subdomains: Vec<usize>,
+    pub totals: Vec<u64>,
+}
+
+/// Some crowd in the tree, if the first try finds one.
+pub fn crowd(setting: &Setting, helpands: &[u32], random: &mut Random) -> Option<Crowd> {
+    let limit = setting.limit();
+    let subdomains = grow(helpands, setting.p / limit, random)?;
+    let members = members(helpands, &subdomains);
+    // The others have what the members have no room for.
+    let rest = setting.p - limit * members.len() as u64;
+    let others = share_out(rest, setting.n - members.len(), limit, random);
+    let mut others = others.into_iter();
+    let load = |node| match members.contains(&node) {
+        true => Some(limit),
+        false => others.next(),
+    };
+    let loads = (0..setting.n).map(load).collect::<Option<Vec<u64>>>()?;
+    let totals = divided(&loads, helpands, &subdomains, random);
+    Some(Crowd { subdomains, totals })
+}
+
+/// Neighbouring subdomains whose families have at most this many members.
+fn grow(helpands: &[u32], most: u64, random: &mut Random) -> Option<Vec<usize>> {
+    let n = helpands.len();
+    let fits = |crowd: &[usize]| members(helpands, crowd).len() as u64 <= most;
+    let mut crowd = vec![random.place(n)];
+    if !fits(&crowd) {
+        return None;
+    }
+    let some = random.place(n);
+    for _ in 0..random.one_of(&[0, 1, some, n]) {
+        let next = beside(helpands, &crowd);
+        if next.is_empty() {
+            break;
+        }
+        crowd.push(random.one_of(&next));
+        if !fits(&crowd) {
+            crowd.pop();
+        }
+    }
+    Some(crowd)
+}
+
+/// The helpers and the helpands of those in the crowd, as far as they are not
+/// in it.
+fn beside(helpands: &[u32], crowd: &[usize]) -> Vec<usize> {
+    let pairs = (0..helpands.len()).map(|node| (node, helpands[node] as usize));
+    let next = |(node, helpand)| match (crowd.contains(&node), crowd.contains(&helpand)) {
+        (true, false) => Some(helpand),
+        (false, true) => Some(node),
+        _ => None,
+    };
+    pairs.filter_map(next).collect()
+}
+
+/// All members of the families of these subdomains.
+fn members(helpands: &[u32], crowd: &[usize]) -> Vec<usize> {
+    let works = |node: usize| crowd.contains(&node) || crowd.contains(&(helpands[node] as usize));
+    (0..helpands.len()).filter(|&node| works(node)).collect()
+}

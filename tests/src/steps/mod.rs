@@ -1,0 +1,130 @@
+//! Seeded whole steps: a sheet, and an old plan or none.
+//!
+//! | file | what it chooses |
+//! |---|---|
+//! | `setting` | N, t and P |
+//! | `totals` | how many particles each subdomain has |
+//! | `crowd` | totals that fill a part of a tree to the last place |
+//! | `holders` | who holds them |
+//! | `pairs` | two steps on either side of a bound, one particle apart |
+//! | `walk` | steps that follow from steps |
+
+mod crowd;
+mod holders;
+pub mod pairs;
+mod setting;
+mod totals;
+mod walk;
+
+use crate::random::Random;
+use crate::records::{plans, shown};
+use crate::reference::table::Table;
+use setting::Setting;
+use std::fmt;
+
+/// What *plan a step* takes.
+#[derive(Clone, Debug, PartialEq, Eq)]
+pub struct Step {
+    pub sheet: Vec<u8>,
+    /// Empty if there is no old plan.
+    pub old: Vec<u8>,
+}
+
+impl fmt::Display for Step {
+    fn fmt(&self, out: &mut fmt::Formatter) -> fmt::Result {
+        let (sheet, old) = (shown(&self.sheet), shown(&self.old));
+        write!(out, "  sheet: {sheet}\n  old plan: {old}")
+    }
+}
+
+/// How large a step may become.
+#[derive(Clone, Copy, Debug, PartialEq, Eq)]
+pub enum Size {
+    /// N from 1 to 64, cells from none to all.
+    Any,
+    /// N from 1 to 8.
+    Small,
+    /// N is 64, with few cells for so many nodes.
+    Wide,
+}
+
+/// The step at this index of the run with this seed.
+pub fn at(seed: u64, index: u64, size: Size) -> Step {
+    let random = &mut Random::at(seed, index);
+    match random.below(12) {
+        0 | 1 => scattered(size, random),
+        2 => level(size, random),
+        3 => tied(size, random),
+        4 | 5 => fitting(size, random),
+        6 | 7 => pairs::tree(size, random).either(random),
+        8 => pairs::primary(size, random).either(random),
+        _ => walk::walk(size, random),
+    }
+}
+
+/// Any totals with any old plan: mostly rebuilt.
+fn scattered(size: Size, random: &mut Random) -> Step {
+    let setting = Setting::some(size, random);
+    let totals = totals::scattered(&setting, random);
+    with_any_plan(setting.t, &totals, size, random)
+}
+
+/// Loads on both sides of the targets by a particle or two, with a limit at
+/// the larger target: many ties.
+fn level(size: Size, random: &mut Random) -> Step {
+    let setting = Setting::tight(size, random);
+    let totals = totals::level(&setting, random);
+    with_any_plan(setting.t, &totals, size, random)
+}
+
+/// Totals that are all one of three numbers.
+fn tied(size: Size, random: &mut Random) -> Step {
+    let setting = Setting::some(size, random);
+    let totals = totals::tied(setting.n, random);
+    with_any_plan(setting.t, &totals, size, random)
+}
+
+/// A division along the old tree with every load at most L, often with little
+/// room left: kept or primary.
+fn fitting(size: Size, random: &mut Random) -> Step {
+    let setting = Setting::of_many(size, random);
+    let helpands = plans::tree(setting.n as u32, random);
+    let loads = totals::share_out(setting.p, setting.n, setting.limit(), random);
+    let totals = totals::divided(&loads, &helpands, &[], random);
+    let table = holders::spread(&totals, &helpands, size, random);
+    step(&table, setting.t, &some_tree_plan(&helpands, random))
+}
+
+/// A step with any old plan: none, without a tree, or with any tree.
+fn with_any_plan(t: u32, totals: &[u64], size: Size, random: &mut Random) -> Step {
+    let n = totals.len() as u32;
+    let roots: Vec<u32> = (0..n).collect();
+    let (helpands, old) = match random.below(6) {
+        0 => (roots, Vec::new()),
+        1 => {
+            let old = plans::over(0, &roots, random).bytes();
+            (roots, old)
+        }
+        _ if n == 1 => (roots, Vec::new()),
+        _ => {
+            let helpands = plans::tree(n, random);
+            let old = some_tree_plan(&helpands, random);
+            (helpands, old)
+        }
+    };
+    let table = holders::spread(totals, &helpands, size, random);
+    step(&table, t, &old)
+}
+
+/// An old plan with this tree and any limit and shares, which play no part.
+fn some_tree_plan(helpands: &[u32], random: &mut Random) -> Vec<u8> {
+    let kind = random.between(1, 2);
+    plans::over(kind, helpands, random).bytes()
+}
+
+fn step(table: &Table, t: u32, old: &[u8]) -> Step {
+    Step {
+        sheet: table.sheet(t).bytes(),
+        old: old.to_vec(),
+    }
+}

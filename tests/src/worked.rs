@@ -1,0 +1,107 @@
+//! "Steps worked by hand": the inputs of steps A to K. What they lead to stands
+//! in tests/steps.rs.
+
+use crate::records::{plans, sheets};
+use crate::steps::Step;
+
+/// All of them, with their letters.
+pub fn all() -> [(char, Step); 11] {
+    [
+        ('A', a()),
+        ('B', b()),
+        ('C', c()),
+        ('D', d()),
+        ('E', e()),
+        ('F', f()),
+        ('G', g()),
+        ('H', h()),
+        ('I', i()),
+        ('J', j()),
+        ('K', k()),
+    ]
+}
+
+/// "A: N 1, E 0", "A has t 1"
+pub fn a() -> Step {
+    let sheet = sheets::sheet(1, 1, &[], &[]).bytes();
+    Step {
+        sheet,
+        old: Vec::new(),
+    }
+}
+
+/// "B: t 1, counts 2, 1"
+pub fn b() -> Step {
+    own(1, &[2, 1], Vec::new())
+}
+
+/// "C: t 1, counts 3, 0, no plan"
+pub fn c() -> Step {
+    own(1, &[3, 0], Vec::new())
+}
+
+/// "D: 90, 6, 4"
+pub fn d() -> Step {
+    own(10, &[90, 6, 4], Vec::new())
+}
+
+/// "E: D's plan; subdomain 0 held 30, 27, 30 by nodes 0, 1, 2; node 1 holds 6
+/// of 1; nodes 0 and 2 hold 3 and 4 of 2"
+pub fn e() -> Step {
+    let cells = [(0, 0), (0, 2), (1, 0), (1, 1), (2, 0), (2, 2)];
+    let cells = cells.map(|(holder, subdomain)| sheets::cell(holder, subdomain));
+    Step {
+        sheet: sheets::sheet(3, 10, &cells, &[30, 3, 27, 6, 30, 4]).bytes(),
+        old: d_plan(),
+    }
+}
+
+/// "F: D's plan, 50, 40, 10"
+pub fn f() -> Step {
+    own(10, &[50, 40, 10], d_plan())
+}
+
+/// "G: t 1, counts 0, 5, 2, old helpands 2, 0, 2"
+pub fn g() -> Step {
+    own(1, &[0, 5, 2], old(&[2, 0, 2]))
+}
+
+/// "H: old helpands 0, 0, 1; 28, 72, 0"
+pub fn h() -> Step {
+    own(10, &[28, 72, 0], old(&[0, 0, 1]))
+}
+
+/// "I: the same, 27, 73, 0"
+pub fn i() -> Step {
+    own(10, &[27, 73, 0], old(&[0, 0, 1]))
+}
+
+/// "J: 36, 36, 28"
+pub fn j() -> Step {
+    own(10, &[36, 36, 28], Vec::new())
+}
+
+/// "K: 37, 35, 28, no plan"
+pub fn k() -> Step {
+    own(10, &[37, 35, 28], Vec::new())
+}
+
+/// "Each node holds its own subdomain unless said."
+pub fn own(t: u32, counts: &[u32], old: Vec<u8>) -> Step {
+    let held = (0..).zip(counts).filter(|(_, &count)| count > 0);
+    let (cells, some): (Vec<u32>, Vec<u32>) = held
+        .map(|(node, &count)| (sheets::cell(node, node), count))
+        .unzip();
+    let sheet = sheets::sheet(counts.len() as u32, t, &cells, &some).bytes();
+    Step { sheet, old }
+}
+
+/// "An old plan given by helpands alone is kind 2 with limit 36 and shares 0."
+pub fn old(helpands: &[u32]) -> Vec<u8> {
+    plans::plan(2, 36, helpands, &vec![0; helpands.len()]).bytes()
+}
+
+/// "plan words 3 2 36 0 0 0 0 27 29"
+pub fn d_plan() -> Vec<u8> {
+    plans::plan(2, 36, &[0, 0, 0], &[0, 27, 29]).bytes()
+}

@@ -1,0 +1,121 @@
+//! What the bench program prints, and the cases for the gate.
+
+use firrozka_tests::bench_text::{bench, text};
+use firrozka_tests::cases;
+use firrozka_tests::steps::Step;
+use firrozka_tests::{refused, worked};
+
+/// "Sheet D below prints all of this".
+const D: &str = "\
+kind 2 limit 36
+node 0 helps 0 share 0 own 34
+node 1 helps 0 share 27 own 6
+node 2 helps 0 share 29 own 4
+move 0 from 0 to 1 count 27
+move 0 from 0 to 2 count 29
+";
+
+fn input(step: &Step) -> Vec<u8> {
+    [&step.sheet[..], &step.old[..]].concat()
+}
+
+#[test]
+fn sheet_d() {
+    assert_eq!(bench(&input(&worked::d())), D);
+    assert_eq!(text(&worked::d().sheet, &[]), D);
+}
+
+/// An old plan follows at once.
+#[test]
+fn sheet_and_plan() {
+    let printed = "\
+kind 1 limit 36
+node 0 helps 0 share 0 own 31
+node 1 helps 0 share 27 own 6
+node 2 helps 0 share 29 own 7
+move 0 from 2 to 0 count 1
+move 2 from 0 to 2 count 3
+";
+    assert_eq!(bench(&input(&worked::e())), printed);
+}
+
+/// "A refusal prints only `refused 5` with its number."
+#[test]
+fn refusals() {
+    for (refusal, step) in refused::all() {
+        let printed = format!("refused {refusal}\n");
+        assert_eq!(text(&step.sheet, &step.old), printed);
+        assert_eq!(bench(&input(&step)), printed);
+    }
+    let sheet = worked::d().sheet;
+    for length in 0..sheet.len() {
+        let refusal = if length < 12 { 1 } else { 5 };
+        let printed = format!("refused {refusal}\n");
+        assert_eq!(bench(&sheet[..length]), printed);
+    }
+    // What stands behind the sheet is the old plan, whatever it is.
+    for more in 1..12 {
+        let longer = [&sheet[..], &vec![0; more]].concat();
+        assert_eq!(bench(&longer), "refused 11\n");
+    }
+    let longer = [input(&worked::e()), vec![0]].concat();
+    assert_eq!(bench(&longer), "refused 15\n");
+}
+
+/// E that is far too large ends the run before anything follows from it.
+#[test]
+fn header_refused() {
+    for e in [10, 1 << 29, 1 << 30, u32::MAX] {
+        let words = [3, 10, e, 0, 65, 130, 90, 6, 4];
+        let bytes = firrozka_tests::records::to_bytes(&words);
+        assert_eq!(bench(&bytes), "refused 4\n");
+    }
+}
+
+/// The files taken apart again: each case with its text.
+fn take_apart(cases: &cases::Cases) -> Vec<(Step, String)> {
+    let mut texts = cases.stdout.split_terminator("\n\n");
+    let mut rest = &cases.stdin[..];
+    let mut all = Vec::new();
+    while !rest.is_empty() {
+        let lengths = firrozka_tests::records::to_words(&rest[..8]);
+        let (sheet, behind) = rest[8..].split_at(lengths[0] as usize);
+        let (old, behind) = behind.split_at(lengths[1] as usize);
+        rest = behind;
+        let text = texts.next().expect("a text for each case");
+        let (sheet, old) = (sheet.to_vec(), old.to_vec());
+        all.push((Step { sheet, old }, format!("{text}\n")));
+    }
+    assert_eq!(texts.next(), None);
+    all
+}
+
+/// The files hold A to K, all refusals in order, and steps of every kind; each
+/// text is what the bench program prints; they stay small, and the same seed
+/// gives the same files.
+#[test]
+fn files() {
+    let cases = cases::all(1, 300);
+    let all = take_apart(&cases);
+    assert_eq!(all.len(), 11 + 16 + 300);
+    assert_eq!(all[3].1, D);
+    let numbers = [1, 2, 3, 4, 5, 6, 7, 11, 12, 13, 14, 15, 16, 17, 18, 21];
+    for (at, number) in numbers.into_iter().enumerate() {
+        assert_eq!(all[11 + at].1, format!("refused {number}\n"));
+    }
+    for (step, text) in &all {
+        assert_eq!(&bench(&input(step)), text);
+    }
+    for kind in 0..=2 {
+        let start = format!("kind {kind} ");
+        let times = all[27..]
+            .iter()
+            .filter(|(_, text)| text.starts_with(&start));
+        assert!(times.count() >= 40, "kind {kind}");
+    }
+    let wide = all.iter().filter(|(_, text)| text.contains("\nnode 63 "));
+    assert!(wide.count() >= 15);
+    assert!(cases.stdin.len() + cases.stdout.len() < 400_000);
+    let again = cases::all(1, 300);
+    assert!(again.stdin == cases.stdin && again.stdout == cases.stdout);
+}

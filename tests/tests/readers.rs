@@ -1,0 +1,52 @@
+//! The differential run over the C boundary: many seeded inputs for each
+//! reader, whole answers compared, every refusal and every pair of faults met.
+//!
+//! FIRROZKA_SEED gives another run, FIRROZKA_ROUNDS another number of mixed
+//! inputs for each reader. The tally is printed with `-- --nocapture`.
+
+use firrozka_tests::answers::Answer;
+use firrozka_tests::compare::check;
+use firrozka_tests::coverage::Coverage;
+use firrozka_tests::inputs::Inputs;
+use firrozka_tests::readers::{Reader, MOVES, PLAN, SHEET};
+use firrozka_tests::records::shown;
+use firrozka_tests::settings::setting;
+
+const SEED: u64 = 20_251_115;
+const ROUNDS: usize = 45_000;
+
+#[test]
+fn sheets() {
+    run(&SHEET);
+}
+
+#[test]
+fn plans() {
+    run(&PLAN);
+}
+
+#[test]
+fn moves() {
+    run(&MOVES);
+}
+
+fn run<A: Answer>(reader: &Reader<A>) {
+    let seed = setting("FIRROZKA_SEED", SEED);
+    let rounds = setting("FIRROZKA_ROUNDS", ROUNDS);
+    let inputs = Inputs::new(reader, seed);
+    let mut coverage = Coverage::default();
+    for index in 0..inputs.directed() + rounds {
+        let bytes = inputs.at(index);
+        match check(reader, &bytes) {
+            Ok(faults) => coverage.note(&faults),
+            Err(wrong) => panic!(
+                "{}, FIRROZKA_SEED={seed}, input {index}: {wrong}\n  {}",
+                reader.name,
+                shown(&bytes)
+            ),
+        }
+    }
+    println!("{}: {coverage}", reader.name);
+    let gaps = coverage.gaps(reader);
+    assert!(gaps.is_empty(), "{}: {gaps:#?}", reader.name);
+}

@@ -1,0 +1,230 @@
+//! Small steps worked by hand, one for each rule of "Deciding" that a planner
+//! could read otherwise and that steps A to K leave open.
+
+use firrozka_tests::demands::{judged, Judged};
+use firrozka_tests::operations::{Operations, REFERENCE};
+use firrozka_tests::records::plans::plan;
+use firrozka_tests::records::sheets::{cell, sheet};
+use firrozka_tests::steps::Step;
+use firrozka_tests::worked::{old, own};
+
+/// All who are tested.
+const ALL: [&Operations; 1] = [&REFERENCE];
+
+/// The step leads to this kind, these helpands and these shares.
+fn leads_to<const N: usize>(step: &Step, kind: u32, helpands: [u32; N], shares: [u32; N]) {
+    for operations in ALL {
+        let Judged { plan, .. } = judged(operations, step, "worked by hand");
+        assert_eq!(plan.kind, kind);
+        assert_eq!(plan.helpands, helpands);
+        assert_eq!(plan.shares, shares);
+    }
+}
+
+const NO_PLAN: Vec<u8> = Vec::new();
+
+// Which kind.
+
+/// "kind 0 whatever the old tree", even if that holds.
+#[test]
+fn primary_before_kept() {
+    for helpands in [[0, 0, 0], [0, 0, 1], [2, 2, 2]] {
+        leads_to(
+            &own(10, &[36, 36, 28], old(&helpands)),
+            0,
+            [0, 1, 2],
+            [0; 3],
+        );
+    }
+}
+
+/// In kind 0 too, what others hold goes home.
+#[test]
+fn primary_with_moves() {
+    let cells = [cell(0, 1), cell(1, 0), cell(2, 2)];
+    let sheet = sheet(3, 10, &cells, &[36, 36, 28]).bytes();
+    let step = Step {
+        sheet,
+        old: NO_PLAN,
+    };
+    leads_to(&step, 0, [0, 1, 2], [0; 3]);
+    for operations in ALL {
+        let Judged { moves, .. } = judged(operations, &step, "strangers");
+        // Subdomain 0 from 1 to 0, subdomain 1 from 0 to 1.
+        assert_eq!(moves.routes, [64, 4096 + 1]);
+        assert_eq!(moves.counts, [36, 36]);
+    }
+}
+
+/// "That plan's shares and limit play no part, and L is the sheet's." Kinds 1
+/// and 2 are alike.
+#[test]
+fn shares_and_limit_of_the_old_plan() {
+    for kind in [1, 2] {
+        for (limit, shares) in [(0, [0; 3]), (5, [0, 5, 5]), (1_990_000_000, [0, 9, 72])] {
+            let old = plan(kind, limit, &[0, 0, 1], &shares).bytes();
+            leads_to(
+                &own(10, &[28, 72, 0], old.clone()),
+                1,
+                [0, 0, 1],
+                [0, 0, 36],
+            );
+            leads_to(&own(10, &[27, 73, 0], old), 2, [1, 1, 1], [7, 0, 33]);
+        }
+    }
+}
+
+/// "An empty or kind 0 old plan has no old tree."
+#[test]
+fn no_old_tree() {
+    let roots = plan(0, 7, &[0, 1, 2], &[0; 3]).bytes();
+    for old in [NO_PLAN, roots] {
+        leads_to(&own(10, &[50, 40, 10], old), 2, [1, 1, 0], [7, 0, 23]);
+    }
+}
+
+// Shares in a kept tree.
+
+/// "from the root down": node 1 has 24 of subdomain 0 before its own is
+/// divided, so that 12 remain for it.
+#[test]
+fn share_before_own_subdomain() {
+    let step = own(10, &[60, 30, 10], old(&[0, 0, 1]));
+    leads_to(&step, 1, [0, 0, 1], [0, 24, 18]);
+}
+
+/// What a helper holds it keeps up to its space, L less its least: 40 are held,
+/// and 36 − 4 can be kept. Its helper then has to take all it can.
+#[test]
+fn helpers_keep_up_to_their_space() {
+    let cells = [cell(0, 0), cell(1, 0), cell(1, 1), cell(2, 2)];
+    let sheet = sheet(3, 10, &cells, &[20, 40, 30, 10]).bytes();
+    let old = old(&[0, 0, 1]);
+    leads_to(&Step { sheet, old }, 1, [0, 0, 1], [0, 32, 26]);
+}
+
+/// "each up to its space": what is kept counts. The owner keeps 20 and has 16
+/// more, node 1 keeps 10 and has the other 12, node 2 is full with 32 of 60.
+#[test]
+fn the_rest_fills_up() {
+    let cells = [cell(0, 0), cell(1, 0), cell(1, 1), cell(2, 0), cell(2, 2)];
+    let sheet = sheet(3, 10, &cells, &[20, 10, 6, 60, 4]).bytes();
+    let old = old(&[0, 0, 0]);
+    leads_to(&Step { sheet, old }, 1, [0, 0, 0], [0, 22, 32]);
+}
+
+/// What a stranger holds it does not keep.
+#[test]
+fn strangers_keep_nothing() {
+    // Node 2 helps node 1 and holds all of subdomain 0.
+    let cells = [cell(1, 1), cell(2, 0), cell(2, 2)];
+    let sheet = sheet(3, 10, &cells, &[30, 60, 10]).bytes();
+    let old = old(&[0, 0, 1]);
+    leads_to(&Step { sheet, old }, 1, [0, 0, 1], [0, 24, 18]);
+}
+
+// Rebuilding.
+
+/// "l is the node in A with the smallest load", not with the largest need.
+/// Targets 11, 10, 10, 10: nodes 0 and 1 both need 6, and node 1 is first.
+#[test]
+fn smallest_load_not_largest_need() {
+    let step = own(1, &[5, 4, 17, 15], NO_PLAN);
+    leads_to(&step, 2, [3, 2, 2, 2], [6, 6, 0, 1]);
+}
+
+/// "the node in B with the largest load", not with the largest surplus. Targets
+/// 11, 10, 10: nodes 0 and 1 both have 15, and node 0 is helped first.
+#[test]
+fn largest_load_not_largest_surplus() {
+    leads_to(&own(1, &[15, 15, 1], NO_PLAN), 2, [1, 1, 0], [5, 0, 9]);
+}
+
+/// "lowest number on ties", for l and for g.
+#[test]
+fn ties() {
+    let step = own(1, &[2, 2, 19, 17], NO_PLAN);
+    leads_to(&step, 2, [2, 3, 2, 2], [8, 8, 0, 1]);
+    let step = own(1, &[2, 2, 18, 18], NO_PLAN);
+    leads_to(&step, 2, [2, 3, 2, 2], [8, 8, 0, 0]);
+}
+
+/// "g's load is at least the need": its load by then. Targets 3, 3, 2, 2: node
+/// 0 takes 3 of node 3's 5, and the 2 left are not enough for node 1.
+#[test]
+fn old_helpand_lacks_the_need_by_then() {
+    let step = own(1, &[0, 0, 5, 5], old(&[3, 3, 3, 3]));
+    leads_to(&step, 2, [3, 2, 2, 2], [3, 3, 0, 0]);
+}
+
+/// "at least the need": just the need will do. Targets 2: node 0 takes all that
+/// node 1 has, although node 2 has more.
+#[test]
+fn old_helpand_has_just_the_need() {
+    let step = own(1, &[0, 2, 4], old(&[1, 1, 1]));
+    leads_to(&step, 2, [1, 2, 2], [2, 2, 0]);
+    // Targets 2, 2, 1: node 0 takes both of node 2's.
+    let step = own(1, &[0, 3, 2], old(&[2, 2, 2]));
+    leads_to(&step, 2, [2, 1, 1], [2, 0, 1]);
+}
+
+/// "g is in B": not in A, and not finished.
+#[test]
+fn old_helpand_not_in_b() {
+    let star = || old(&[0, 0, 0]);
+    // Node 2 needs 23. Node 0 has 30, but that is under its target 34.
+    leads_to(&own(10, &[30, 60, 10], star()), 2, [1, 1, 1], [4, 0, 23]);
+    // Node 2 needs 3. Node 0 had 25 and is finished.
+    leads_to(&own(10, &[25, 45, 30], star()), 2, [1, 1, 1], [9, 0, 3]);
+}
+
+/// "Group A holds nodes with load under target, group B the others": node 0 is
+/// at its target 34, helped by node 2 and then in need itself.
+#[test]
+fn at_target_is_in_b() {
+    let step = own(10, &[34, 60, 6], old(&[0, 0, 0]));
+    leads_to(&step, 2, [1, 1, 0], [27, 0, 27]);
+}
+
+/// "Otherwise g is the node in B with the largest load": node 2 helps node 0
+/// with 41, its old helpand, before node 1 with 50. Without an old tree it helps
+/// node 1.
+#[test]
+fn old_helpand_before_the_largest() {
+    let step = own(10, &[41, 50, 9], old(&[0, 0, 0]));
+    leads_to(&step, 2, [1, 1, 0], [17, 0, 24]);
+    let step = own(10, &[41, 50, 9], NO_PLAN);
+    leads_to(&step, 2, [0, 0, 1], [0, 7, 24]);
+}
+
+/// "the others in B help it with share 0", whomever they helped before: nodes 1
+/// to 4 are at their targets 10 once node 0 is finished, and 1 is the lowest.
+#[test]
+fn the_lowest_in_b_is_the_root() {
+    let step = own(1, &[0, 10, 10, 10, 20], old(&[0, 0, 1, 2, 3]));
+    // Node 0 was the root and helps the largest.
+    leads_to(&step, 2, [4, 1, 1, 1, 1], [10, 0, 0, 0, 0]);
+}
+
+// Moves.
+
+/// "Both are gone through by rising number, and each pair moves the smaller of
+/// what remains."
+#[test]
+fn pairs_in_rising_order() {
+    // Subdomain 4 is held by all, and they are all of its family.
+    let cells = [cell(0, 4), cell(1, 4), cell(2, 4), cell(3, 4), cell(4, 4)];
+    let sheet = sheet(5, 1, &cells, &[7, 2, 4, 1, 1]).bytes();
+    let old = old(&[4, 4, 4, 4, 4]);
+    // L is 3, and all of it is 15: every node has 3.
+    let step = Step { sheet, old };
+    leads_to(&step, 1, [4; 5], [3, 3, 3, 3, 0]);
+    for operations in ALL {
+        let Judged { moves, .. } = judged(operations, &step, "pairs");
+        // Over: 4 at 0, 1 at 2. Short: 1 at 1, 2 at 3, 2 at 4.
+        let route = |sender: u32, receiver: u32| 4 * 4096 + sender * 64 + receiver;
+        let routes = [route(0, 1), route(0, 3), route(0, 4), route(2, 4)];
+        assert_eq!(moves.routes, routes);
+        assert_eq!(moves.counts, [1, 2, 1, 1]);
+    }
+}

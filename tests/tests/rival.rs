@@ -1,0 +1,151 @@
+//! The rival: flow and trying everything agree, and the second implementation's
+//! weighing agrees with both.
+
+use firrozka_tests::demands::{judged, Judged};
+use firrozka_tests::operations::REFERENCE;
+use firrozka_tests::random::Random;
+use firrozka_tests::records::plans::tree;
+use firrozka_tests::reference::{plan, read_sheet};
+use firrozka_tests::rival::{by_flow, by_trying, Verdict};
+use firrozka_tests::steps::{self, Size, Step};
+use firrozka_tests::worked;
+
+const SEED: u64 = 20_251_115;
+
+/// What *weigh* writes and says of a step's old tree.
+fn weighed(step: &Step) -> (Vec<u32>, bool) {
+    let weighed = REFERENCE.weighed(&step.sheet, &step.old);
+    weighed.expect("sheet and old tree are accepted")
+}
+
+/// Whether the flow finds a division; its verdict is proven either way.
+fn flows(helpands: &[u32], totals: &[u64], rooms: &[u64]) -> bool {
+    let verdict = by_flow(helpands, totals, rooms);
+    assert!(verdict.is_proven(helpands, totals, rooms));
+    matches!(verdict, Verdict::Division(_))
+}
+
+/// "Taking L as every helper's spare: it keeps H's tree at 27, 39, 34, where
+/// the least of node 1 is 37." And "Comparing P with N × L: it keeps I."
+#[test]
+fn plausible_missteps() {
+    let step = worked::own(10, &[27, 39, 34], worked::old(&[0, 0, 1]));
+    assert_eq!(weighed(&step), (vec![27, 37, 34], false));
+    assert!(!flows(&[0, 0, 1], &[27, 39, 34], &[36; 3]));
+    assert_eq!(weighed(&worked::h()), (vec![28, 36, 0], true));
+    assert!(flows(&[0, 0, 1], &[28, 72, 0], &[36; 3]));
+    assert_eq!(weighed(&worked::i()), (vec![27, 37, 0], false));
+    assert!(!flows(&[0, 0, 1], &[27, 73, 0], &[36; 3]));
+}
+
+/// Every tree of up to four nodes with few particles: trying all divisions
+/// finds one exactly when the flow does and when the tree holds.
+#[test]
+fn every_small_tree() {
+    for (n, bound, count) in [(2, 9, 2), (3, 7, 9), (4, 4, 64)] {
+        let trees = all_trees(n);
+        assert_eq!(trees.len(), count);
+        for counts in all_rows(n, bound) {
+            let totals: Vec<u64> = counts.iter().map(|&count| u64::from(count)).collect();
+            for helpands in &trees {
+                let step = worked::own(1, &counts, worked::old(helpands));
+                let limit = read_sheet(&step.sheet).limit;
+                let rooms = vec![u64::from(limit); n];
+                let found = by_trying(helpands, &totals, &rooms).is_some();
+                let place = format!("{counts:?} along {helpands:?}");
+                assert_eq!(flows(helpands, &totals, &rooms), found, "{place}");
+                assert_eq!(weighed(&step).1, found, "{place}");
+            }
+        }
+    }
+}
+
+/// All trees of n nodes, as helpands.
+fn all_trees(n: usize) -> Vec<Vec<u32>> {
+    let is_tree = |helpands: &Vec<u32>| plan::read(&worked::old(helpands)).is_ok();
+    let rows = all_rows(n, n as u32).into_iter();
+    rows.filter(is_tree).collect()
+}
+
+/// All rows of this many numbers below a bound.
+fn all_rows(length: usize, bound: u32) -> Vec<Vec<u32>> {
+    let mut rows = vec![Vec::new()];
+    for _ in 0..length {
+        let longer = |row: Vec<u32>| (0..bound).map(move |last| [&row[..], &[last]].concat());
+        rows = rows.into_iter().flat_map(longer).collect();
+    }
+    rows
+}
+
+/// Flow and trying agree for rooms of all sorts too.
+#[test]
+fn flow_and_trying() {
+    let mut found = 0;
+    for index in 0..4_000 {
+        let random = &mut Random::at(SEED, index);
+        let n = random.between(1, 5);
+        let helpands = tree(n, random);
+        let totals: Vec<u64> = (0..n).map(|_| random.amount(0, 5)).collect();
+        let rooms: Vec<u64> = (0..n).map(|_| random.amount(0, 4)).collect();
+        let tried = by_trying(&helpands, &totals, &rooms);
+        if let Some(division) = &tried {
+            assert!(division.is_along(&helpands, &totals), "case {index}");
+        }
+        let flows = flows(&helpands, &totals, &rooms);
+        assert_eq!(flows, tried.is_some(), "case {index}");
+        found += u32::from(flows);
+    }
+    assert!((500..3_500).contains(&found), "{found} of 4000");
+}
+
+/// A least is the least: with that much room at the owner and L below, the
+/// particles of its branch can be divided; with one less they cannot. And the
+/// tree holds exactly when there is a rival's division, needed or not.
+#[test]
+fn leasts() {
+    let (mut looked_at, mut of_owners) = (0, 0);
+    for index in 0..3_000 {
+        let step = steps::at(SEED, index, Size::Small);
+        let judged = judged(&REFERENCE, &step, &format!("step {index}"));
+        let Some(old) = &judged.old else { continue };
+        let (leasts, holds) = weighed(&step);
+        assert_eq!(holds, judged.rival, "step {index}");
+        let leasts: Vec<u64> = leasts.into_iter().map(u64::from).collect();
+        for (node, &least) in leasts.iter().enumerate() {
+            let branch = branch(&old.helpands, node);
+            let mut below = branch.iter().filter(|&&other| other != node);
+            // A least above L breaks the branch, whatever the owner does.
+            if below.any(|&other| leasts[other] > judged.limit) {
+                continue;
+            }
+            let fits = |room: u64| fits(&judged, &old.helpands, &branch, node, room);
+            assert!(fits(least), "step {index}, node {node}");
+            assert!(least == 0 || !fits(least - 1), "step {index}, node {node}");
+            looked_at += 1;
+            of_owners += u32::from(least > 0 && branch.len() > 1);
+        }
+    }
+    println!("{looked_at} leasts, {of_owners} of owners with helpers and above 0");
+    assert!(of_owners > 1_000);
+}
+
+/// The nodes whose chain of helpands comes by this node.
+fn branch(helpands: &[u32], node: usize) -> Vec<usize> {
+    let comes_by = |from: usize| {
+        let chain = std::iter::successors(Some(from), |&at| Some(helpands[at] as usize));
+        chain.take(helpands.len()).any(|at| at == node)
+    };
+    (0..helpands.len()).filter(|&from| comes_by(from)).collect()
+}
+
+/// Whether the branch's particles can be divided with this room at its top.
+fn fits(judged: &Judged, helpands: &[u32], branch: &[usize], top: usize, room: u64) -> bool {
+    let mut totals = vec![0; helpands.len()];
+    let mut rooms = totals.clone();
+    for &node in branch {
+        totals[node] = judged.totals[node];
+        rooms[node] = judged.limit;
+    }
+    rooms[top] = room;
+    flows(helpands, &totals, &rooms)
+}
