@@ -1,0 +1,185 @@
+-- What the three ways of a decision give: the plan can be written and read back, no owner's helpers are given more than there is, and
+-- the plan is what document 01 says of its kind. Assumes nothing.
+use mathlib.Core.Path.{_≡_, refl, sym, ap, _∙_}
+use mathlib.Core.Logic.{_≢_, _⊎_, inl, inr, ⊎-elim}
+use mathlib.Core.Bool.{Bool, true, false, _&&_, true≢false}
+use mathlib.Core.List.{List}
+use Prim.Native.Nat.{ℕ, _-_, _*_, _≤_, _<_}
+use native.Mathlib.Omega.{arith}
+use borrow.Author.Tests.{le-leb}
+use lib.Dec.{leb}
+use lib.ListN.{length, length-replicate}
+use Rattle.fold.specs.Sum.{only, sum}
+use Rattle.fold.proofs.Sums.{sum-eq, sum-zeros, sum-term}
+use Rattle.fold.proofs.Tests.{either, and-left, and-right, all-of, only-eq, only-max}
+use Rattle.limit.specs.Limit.{maxNodes, maxTolerance, maxTotal, limitOf}
+use Rattle.plan.specs.Tree.{at, helpandsBelow, Tree}
+use Rattle.plan.proofs.RoundTrip.{ReadBack, tree-read-written, roots-read-written}
+use Rattle.tree.specs.Totals.{held, tabulate, totalOf, totalsOf, primary}
+use Rattle.tree.specs.Family.{helps, overHelpers}
+use Rattle.tree.specs.Weigh.{least, holds}
+use Rattle.tree.specs.Division.{WithinLimit, OnTarget, ownOf}
+use Rattle.tree.proofs.Tabulate.{zeros-at, tabulate-at, length-tabulate}
+use Rattle.tree.proofs.Weighing.{least-is}
+use Rattle.tree.proofs.Keeping.{holds-at}
+use Rattle.shares.specs.Shares.{shareOf, sharesOf}
+use Rattle.shares.proofs.KeptShares.{table-shares}
+use Rattle.shares.proofs.KeptShares as shares
+use Rattle.rebuild.specs.Target.{targetOf}
+use Rattle.rebuild.proofs.TargetSums.{targets-within-limit, WithinTargets}
+use Rattle.rebuild.proofs.Rebuilding.{Balanced, rebuilt-on-target}
+use Rattle.decide.specs.declared.Decision.{Decision}
+use Rattle.decide.specs.Decide.{primaryPlan, leastsOf, keptPlan, rebuiltPlan, decided}
+
+-- a sheet's table and totals with its limit, and an old tree or none
+pub record Given (nodes p t : ℕ) (table totals : List ℕ) (tree : Bool) (old : List ℕ) : Type 0 where
+  pub some : 1 ≤ nodes
+  pub few : nodes ≤ maxNodes
+  pub total : p ≤ maxTotal
+  pub tolerance : t ≤ maxTolerance
+  pub counted : totals ≡ totalsOf nodes table
+  pub adds : sum nodes (at totals) ≡ p
+  pub long : length old ≡ 64
+  pub below : helpandsBelow nodes (at old) ≡ true
+  pub rooted : tree ≡ true → (r : ℕ) × Tree nodes (at old) r
+
+-- ---- what is shown of each kind
+
+-- of every plan: it is read back as what was written, and no owner's helpers are given more than there is
+pub record Fine (nodes limit : ℕ) (totals : List ℕ) (d : Decision) : Type 0 where
+  pub read-back : ReadBack nodes (d .kind) limit (d .helpands) (d .shares)
+  pub inside : (k : ℕ) → k < nodes → at (d .helpands) k < nodes
+  pub enough : (n : ℕ) → n < nodes → overHelpers nodes (at (d .helpands)) n (at (d .shares)) ≤ at totals n
+
+-- kind 1 has the old helpands, and its shares are a division within the limit
+pub record KeptFine (nodes limit : ℕ) (totals old : List ℕ) (d : Decision) : Type 0 where
+  pub kind : d .kind ≡ 1
+  pub helpands : d .helpands ≡ old
+  pub within : WithinLimit nodes (at (d .helpands)) (at totals) limit (ownOf nodes (at (d .helpands)) (at totals) (at (d .shares))) (at (d .shares))
+
+-- kind 2 has a tree, and its shares are a division with every load equal to the node's target
+pub record RebuiltFine (nodes p : ℕ) (totals : List ℕ) (d : Decision) : Type 0 where
+  pub kind : d .kind ≡ 2
+  pub tree : (r : ℕ) × Tree nodes (at (d .helpands)) r
+  pub on-target : OnTarget nodes (at (d .helpands)) (at totals) (targetOf nodes p) (ownOf nodes (at (d .helpands)) (at totals) (at (d .shares))) (at (d .shares))
+
+module _ (nodes p t : ℕ) (table totals : List ℕ) (tree : Bool) (old : List ℕ) (g : Given nodes p t table totals tree old) where
+  abbrev limit : ℕ
+  limit = limitOf p nodes t
+
+  bounds : WithinTargets nodes p t
+  bounds = targets-within-limit nodes p t (g .some) (g .total) (g .tolerance)
+
+  totals-long : length totals ≡ 64
+  totals-long = ap length (g .counted) ∙ length-tabulate nodes (totalOf nodes table) (g .few)
+
+  -- one node alone is always within the limit
+  not-alone : primary nodes (at totals) limit ≡ false → nodes ≢ 1
+  not-alone f e =
+      true≢false
+      (sym (all-of nodes (λ n. leb (at totals n) limit) (λ n l. le-leb (at totals n) limit (omega (arith, sum-term nodes (at totals) n l, g .adds, bounds .room, ap (λ (m : ℕ). m * limit) e))))
+      ∙ f)
+
+  -- ---- primary
+
+  primary-fine : Fine nodes limit totals (primaryPlan nodes)
+  primary-fine =
+      let own : (k : ℕ) → k < nodes → at (primaryPlan nodes .helpands) k ≡ k = λ k l. tabulate-at nodes (λ j. j) k l in
+      record {
+        read-back =
+            roots-read-written nodes limit (primaryPlan nodes .helpands) (primaryPlan nodes .shares) (g .few) (bounds .written)
+            (omega (arith, length-tabulate nodes (λ j. j) (g .few), g .few)) (omega (arith, length-replicate {A = ℕ} 64 0, g .few)) (g .some) own (λ k l. zeros-at 64 k);
+        inside = λ k l. omega (arith, own k l);
+        enough = λ n l.
+            omega (
+              arith,
+              sum-zeros nodes (λ k. only (helps (at (primaryPlan nodes .helpands)) n k) (at (primaryPlan nodes .shares) k))
+                  (λ k b. omega (arith, only-max (helps (at (primaryPlan nodes .helpands)) n k) (at (primaryPlan nodes .shares) k), zeros-at 64 k)),
+            );
+      }
+
+  -- ---- kept
+
+  module _ (r : ℕ) (rooted : Tree nodes (at old) r) (h : holds nodes (at old) (at totals) limit ≡ true) where
+    abbrev leasts : List ℕ
+    leasts = leastsOf nodes old totals limit
+
+    least-at : (k : ℕ) → k < nodes → at leasts k ≡ least nodes (at old) (at totals) limit k
+    least-at k l = tabulate-at nodes (least nodes (at old) (at totals) limit) k l
+
+    kept-shares : shares.Kept nodes (at old) limit (at leasts) (at totals) (held table) (at (keptPlan nodes limit table totals old .shares))
+    kept-shares =
+        table-shares nodes r limit old leasts totals table rooted (g .counted)
+        (λ n l. least-at n l ∙ least-is nodes (at old) (at totals) limit r rooted n ∙ ap (λ (x : ℕ). at totals n - x) (sym (spares n)))
+        (λ n l. omega (arith, least-at n l, holds-at nodes (at old) (at totals) limit h n l))
+      where
+        spares : (n : ℕ) → overHelpers nodes (at old) n (λ k. limit - at leasts k) ≡ overHelpers nodes (at old) n (λ k. limit - least nodes (at old) (at totals) limit k)
+        spares n =
+            sum-eq nodes (λ k. only (helps (at old) n k) (limit - at leasts k)) (λ k. only (helps (at old) n k) (limit - least nodes (at old) (at totals) limit k))
+            (λ k l. ap (λ (x : ℕ). only (helps (at old) n k) (limit - x)) (least-at k l))
+
+    kept-fine : primary nodes (at totals) limit ≡ false → Fine nodes limit totals (keptPlan nodes limit table totals old)
+    kept-fine f =
+        record {
+          read-back =
+              tree-read-written nodes limit old (keptPlan nodes limit table totals old .shares) (g .few) (bounds .written) (omega (arith, g .long, g .few))
+              (omega (arith, length-tabulate nodes (shareOf nodes (at old) limit (at leasts) (at totals) (held table)) (g .few), g .few)) 1 r (λ z. omega arith) (omega arith)
+              (not-alone f) rooted (kept-shares .most) (kept-shares .root r (rooted .root) (rooted .own));
+          inside = rooted .inside;
+          enough = kept-shares .enough;
+        }
+
+    kept-way : KeptFine nodes limit totals old (keptPlan nodes limit table totals old)
+    kept-way = record { kind = refl; helpands = refl; within = kept-shares .within }
+
+  -- ---- rebuilt
+
+  rebuilt : (r : ℕ) × Balanced nodes p totals (record { helpands = rebuiltPlan nodes p totals old .helpands; shares = rebuiltPlan nodes p totals old .shares }) r
+  rebuilt =
+      let b = rebuilt-on-target nodes p totals old (g .some) (g .few) (g .below) totals-long (g .adds) in (b .0, b .2)
+
+  rebuilt-fine : primary nodes (at totals) limit ≡ false → Fine nodes limit totals (rebuiltPlan nodes p totals old)
+  rebuilt-fine f =
+      let b = rebuilt .1 in
+      let d = rebuiltPlan nodes p totals old in
+      record {
+        read-back =
+            tree-read-written nodes limit (d .helpands) (d .shares) (g .few) (bounds .written) (omega (arith, b .helpands-long, g .few))
+            (omega (arith, b .shares-long, g .few)) 2 (rebuilt .0) (λ z. omega arith) (omega arith) (not-alone f) (b .tree)
+            (λ k l. omega (arith, b .under-target k l, bounds .below k)) (b .root-share);
+        inside = b .tree .inside;
+        enough = λ n l. omega (arith, b .on-target .division .parts n l);
+      }
+
+  rebuilt-way : RebuiltFine nodes p totals (rebuiltPlan nodes p totals old)
+  rebuilt-way = record { kind = refl; tree = (rebuilt .0, rebuilt .1 .tree); on-target = rebuilt .1 .on-target }
+
+  -- ---- the decision itself
+
+  abbrev decision : Decision
+  decision = decided nodes p limit table totals tree old
+
+  -- THEOREM. Whichever way it went, the plan is read back as what was written, and no owner's helpers are given more than there is.
+  pub decided-fine : Fine nodes limit totals decision
+  unfolding decided
+  decided-fine = by-load (either (primary nodes (at totals) limit))
+    where
+      by-tree : primary nodes (at totals) limit ≡ false → (tree && holds nodes (at old) (at totals) limit ≡ true) ⊎ (tree && holds nodes (at old) (at totals) limit ≡ false) → Fine nodes limit totals decision
+      by-tree f (inl h) =
+          let r = g .rooted (and-left tree (holds nodes (at old) (at totals) limit) h) in
+          rw (f, h) (kept-fine (r .0) (r .1) (and-right tree (holds nodes (at old) (at totals) limit) h) f)
+      by-tree f (inr h) = rw (f, h) (rebuilt-fine f)
+
+      by-load : (primary nodes (at totals) limit ≡ true) ⊎ (primary nodes (at totals) limit ≡ false) → Fine nodes limit totals decision
+      by-load (inl e) = rw e primary-fine
+      by-load (inr f) = by-tree f (either (tree && holds nodes (at old) (at totals) limit))
+
+  -- THEOREM. Where a tree is needed, an old tree that holds is kept, and its shares are a division within the limit.
+  pub decided-kept : primary nodes (at totals) limit ≡ false → tree ≡ true → holds nodes (at old) (at totals) limit ≡ true → KeptFine nodes limit totals old decision
+  unfolding decided
+  decided-kept f e h = let r = g .rooted e in rw (f, e, h) (kept-way (r .0) (r .1) h)
+
+  -- THEOREM. Where a tree is needed and there is none that holds, the new one puts every node on its target.
+  pub decided-rebuilt : primary nodes (at totals) limit ≡ false → (tree && holds nodes (at old) (at totals) limit) ≡ false → RebuiltFine nodes p totals decision
+  unfolding decided
+  decided-rebuilt f h = rw (f, h) rebuilt-way
