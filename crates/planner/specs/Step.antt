@@ -1,0 +1,145 @@
+-- Document 01, *Plan a step*: "takes a sheet and an old plan, which may have length 0, and writes plan and moves. It gives kind, L and
+-- both lengths in bytes."
+use mathlib.Core.Path.{_≡_}
+use mathlib.Core.Bool.{Bool, true, false, cond, not}
+use mathlib.Core.List.{List}
+use Prim.Native.Nat.{ℕ}
+use lib.Dec.{eqb, ltb}
+use lib.ListN.{length}
+use Rattle.words.specs.Words.{padded}
+use Rattle.words.specs.Buffer.{placed}
+use Rattle.sheet.specs.declared.Sheet.{Sheet}
+use Rattle.sheet.specs.Sheet.{readSheet, refusalNumber as sheetNumber, accepted as sheetAccepted}
+use Rattle.sheet.specs.Table.{tableOf}
+use Rattle.plan.specs.Tree.{at}
+use Rattle.plan.specs.Plan.{readPlan, helpandsOf, refusalNumber as planNumber}
+use Rattle.plan.specs.Write.{planBytes}
+use Rattle.moves.specs.Write.{movesBytes}
+use Rattle.transfer.specs.Due.{dueOf}
+use Rattle.transfer.specs.Matching.{allRoutes, allCounts}
+use Rattle.weigh.specs.Weigh.{totalsIn}
+use Rattle.decide.specs.declared.Decision.{Decision}
+use Rattle.decide.specs.Decide.{ownNumbers, decided}
+use Rattle.planner.specs.declared.StepRefusal.{StepRefusal}
+use Rattle.planner.specs.declared.StepRefusal.the-variants.{Sheet as OfSheet, Plan as OfPlan, NodesDiffer, PlanBuffer, MovesBuffer}
+use Rattle.planner.specs.declared.OldPlan.{OldPlan}
+use Rattle.planner.specs.declared.OldPlan.the-variants.{Tree as WithTree, NoTree, Refused as OldRefused}
+use Rattle.planner.specs.declared.Step.{Step}
+use Rattle.planner.specs.declared.Step.the-variants.{Planned, Refused}
+use Rattle.planner.specs.declared.StepAnswer.{StepAnswer}
+
+-- ---- answers
+
+abbrev pub refused : ℕ → StepAnswer
+refused k = record { refusal = k; kind = 0; limit = 0; plan = 0; moves = 0 }
+
+abbrev pub planned : ℕ → ℕ → ℕ → ℕ → StepAnswer
+planned kind limit planSize movesSize = record { refusal = 0; kind = kind; limit = limit; plan = planSize; moves = movesSize }
+
+-- the paper's number of each refusal: "the sheet's; the plan's; 21; 22, plan buffer too short; 23, moves buffer too short"
+abbrev pub numberOf : StepRefusal → ℕ
+numberOf (OfSheet r) = sheetNumber r
+numberOf (OfPlan r) = planNumber r
+numberOf NodesDiffer = 21
+numberOf PlanBuffer = 22
+numberOf MovesBuffer = 23
+
+-- the paper's number and values for each case of the enum
+abbrev pub answerOf : Step → StepAnswer
+answerOf (Planned p) = planned (p .kind) (p .limit) (p .plan) (p .moves)
+answerOf (Refused r) = refused (numberOf r)
+
+-- ---- the old plan, "which may have length 0"
+
+-- whether it is refused, and whether it has a tree
+pub record OldAnswer : Type 0 where
+  pub refusal : ℕ
+  pub tree : Bool
+
+abbrev pub oldRefused : ℕ → OldAnswer
+oldRefused k = record { refusal = k; tree = false }
+
+abbrev pub oldRead : Bool → OldAnswer
+oldRead tree = record { refusal = 0; tree = tree }
+
+abbrev pub oldOf : OldPlan → OldAnswer
+oldOf WithTree = oldRead true
+oldOf NoTree = oldRead false
+oldOf (OldRefused r) = oldRefused (numberOf r)
+
+-- the old plan beside a sheet of n nodes: "the plan's; 21". "An empty or kind 0 old plan has no old tree."
+unfoldable pub readOld : List ℕ → ℕ → OldAnswer
+readOld o n =
+    cond (eqb (length o) 0) (oldRead false)
+    (cond (not (eqb (readPlan o .refusal) 0)) (oldRefused (readPlan o .refusal))
+    (cond (not (eqb (readPlan o .n) n)) (oldRefused 21)
+    (oldRead (not (eqb (readPlan o .kind) 0)))))
+
+-- the helpands of the old tree; without one each node is its own
+abbrev pub oldHelpands : List ℕ → Bool → ℕ → List ℕ
+oldHelpands o tree n = cond tree (padded (helpandsOf o n)) (ownNumbers n)
+
+-- ---- what is decided, for a sheet s and an old plan o that are accepted
+
+abbrev pub tableIn : List ℕ → List ℕ
+tableIn s = tableOf s (readSheet s .e)
+
+unfoldable pub decisionIn : List ℕ → List ℕ → Decision
+decisionIn s o =
+    let n = readSheet s .n in
+    let tree = readOld o n .tree in
+    decided n (readSheet s .p) (readSheet s .limit) (tableIn s) (totalsIn s) tree (oldHelpands o tree n)
+
+-- the plan: "A plan written carries L as its limit."
+unfoldable pub planOf : ℕ → ℕ → Decision → List ℕ
+planOf n limit d = planBytes n (d .kind) limit (d .helpands) (d .shares)
+
+unfoldable pub planIn : List ℕ → List ℕ → List ℕ
+planIn s o = planOf (readSheet s .n) (readSheet s .limit) (decisionIn s o)
+
+-- what node k is due of subdomain n
+abbrev pub dueIn : ℕ → List ℕ → Decision → ℕ → ℕ → ℕ
+dueIn nodes totals d = dueOf nodes (at (d .helpands)) (at totals) (at (d .shares))
+
+-- the moves
+unfoldable pub movesOf : ℕ → List ℕ → List ℕ → Decision → List ℕ
+movesOf n table totals d =
+    let routes = allRoutes n table (dueIn n totals d) in
+    movesBytes n (length routes) routes (allCounts n table (dueIn n totals d))
+
+unfoldable pub movesIn : List ℕ → List ℕ → List ℕ
+movesIn s o = movesOf (readSheet s .n) (tableIn s) (totalsIn s) (decisionIn s o)
+
+-- ---- the checks, in the order written
+
+abbrev pub refuseIf : Bool → ℕ → StepAnswer → StepAnswer
+refuseIf test k rest = cond test (refused k) rest
+
+-- 22 and 23, for a plan and moves to be written to buffers of so many bytes
+unfoldable pub writtenAnswer : ℕ → ℕ → List ℕ → List ℕ → ℕ → ℕ → StepAnswer
+writtenAnswer kind limit plan moves planSize movesSize =
+    refuseIf (ltb planSize (length plan)) 22
+    (refuseIf (ltb movesSize (length moves)) 23
+    (planned kind limit (length plan) (length moves)))
+
+abbrev pub decidedAnswer : List ℕ → List ℕ → ℕ → ℕ → StepAnswer
+decidedAnswer s o planSize movesSize =
+    writtenAnswer (decisionIn s o .kind) (readSheet s .limit) (planIn s o) (movesIn s o) planSize movesSize
+
+-- "A refused sheet ends planning before the old plan is looked at."
+unfoldable pub stepAnswer : List ℕ → List ℕ → ℕ → ℕ → StepAnswer
+stepAnswer s o planSize movesSize =
+    refuseIf (not (eqb (readSheet s .refusal) 0)) (readSheet s .refusal)
+    (refuseIf (not (eqb (readOld o (readSheet s .n) .refusal) 0)) (readOld o (readSheet s .n) .refusal)
+    (decidedAnswer s o planSize movesSize))
+
+-- a buffer afterwards: the record in front, or as it was
+abbrev pub after : StepAnswer → List ℕ → List ℕ → List ℕ
+after a rec out = cond (eqb (a .refusal) 0) (placed rec out) out
+
+-- ---- what the inner functions ask
+
+-- the sheet was read as this, and the old plan has a tree or none
+pub record Read (s o : List ℕ) (h : Sheet) (tree : Bool) : Type 0 where
+  pub sheet : sheetAccepted (h .n) (h .t) (h .e) (h .p) (h .limit) ≡ readSheet s
+  pub old : readOld o (h .n) ≡ oldRead tree
