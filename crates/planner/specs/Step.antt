@@ -91,7 +91,7 @@ decisionIn s o =
     decided n (readSheet s .p) (readSheet s .limit) (tableIn s) (totalsIn s) tree (oldHelpands o tree n)
 
 -- the plan: "A plan written carries L as its limit."
-unfoldable pub planOf : ℕ → ℕ → Decision → List ℕ
+abbrev pub planOf : ℕ → ℕ → Decision → List ℕ
 planOf n limit d = planBytes n (d .kind) limit (d .helpands) (d .shares)
 
 unfoldable pub planIn : List ℕ → List ℕ → List ℕ

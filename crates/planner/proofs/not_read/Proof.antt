@@ -1,24 +1,17 @@
+-- `planner::not_read` meets its contract: a refusal is passed on, and an accepted sheet has none. Assumes nothing.
 use borrow.Author.Needs.{needs}
+use mathlib.Core.Path.{sym, ap}
+use Rattle.sheet.specs.declared.SheetReading.{SheetReading}
+use Rattle.sheet.specs.Sheet.{answerOf as sheetAnswer}
+use Rattle.planner.specs.Step.{refused}
 use Rattle.planner.proofs.not_read.Statement.{statement}
 use Rattle.planner.proofs.not_read.Tie as tie
-use Rattle.planner.proofs.not_read.Reads as reads
-use Rattle.planner.proofs.not_read.Lts as lts
-
--- src/lib.rt:63:31
-enum-known-reading : tie.Need-enum-known-reading
-enum-known-reading c = search needs
-
--- src/lib.rt:65:52
-enum-told : tie.Need-enum-told
-enum-told c = search needs
-
--- src/lib.rt:58:1
-returns : tie.Need-returns
-returns c = search needs
-
--- src/lib.rt:58:1
-returns-2 : tie.Need-returns-2
-returns-2 c = search needs
 
 pub not-read-spec : {M : Type 1} → statement M
-not-read-spec = tie.close (tie.spec enum-known-reading enum-told returns returns-2)
+not-read-spec =
+    tie.close
+    (tie.spec
+    (λ c. search needs)  -- enum-known-reading
+    (λ c. search needs)  -- enum-told
+    (λ c. ap (λ (r : SheetReading). refused (sheetAnswer r .refusal)) (sym (c .before .reading .given .1)))  -- returns
+    (λ c. absurd (c .before .before .pre (ap (λ (r : SheetReading). sheetAnswer r .refusal) (c .enum-told .given .1)))))  -- returns-2

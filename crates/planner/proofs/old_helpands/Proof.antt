@@ -1,26 +1,29 @@
+-- `planner::old_helpands` meets its contract: the words of the old plan, or each node's own number. Assumes nothing.
 use borrow.Author.Needs.{needs}
+use mathlib.Core.Path.{_≡_, _∙_}
+use mathlib.Core.Bool.{Bool, true, false}
+use mathlib.Core.List.{List}
+use Prim.Native.Nat.{ℕ}
+use native.Mathlib.Omega.{arith}
+use denote.Ref.{now}
+use Rattle.words.specs.Words.{padded}
+use Rattle.plan.specs.Plan.{helpandsOf}
+use Rattle.decide.specs.Decide.{ownNumbers}
+use Rattle.planner.specs.Step.{oldHelpands}
 use Rattle.planner.proofs.old_helpands.Statement.{statement}
 use Rattle.planner.proofs.old_helpands.Tie as tie
-use Rattle.planner.proofs.old_helpands.Reads as reads
-use Rattle.planner.proofs.old_helpands.Lts as lts
-use Rattle.decide.proofs.own_numbers.Reads as own-numbers-reads
-use Rattle.words.proofs.words_64.Reads as words-64-reads
 
--- src/lib.rt:97:9
-words-64-requires : tie.Need-words-64-requires
-words-64-requires c κs = search needs
+with-tree : (o : List ℕ) (tree : Bool) (n : ℕ) (xs : List ℕ) → tree ≡ true → xs ≡ padded (helpandsOf o n) → xs ≡ oldHelpands o tree n
+with-tree o tree n xs t e = rw t e
 
--- src/lib.rt:97:9
-returns : tie.Need-returns
-returns c = search needs
-
--- src/lib.rt:99:5
-own-numbers-requires : tie.Need-own-numbers-requires
-own-numbers-requires c κs = search needs
-
--- src/lib.rt:92:1
-returns-2 : tie.Need-returns-2
-returns-2 c = search needs
+without : (o : List ℕ) (tree : Bool) (n : ℕ) (xs : List ℕ) → tree ≡ false → xs ≡ ownNumbers n → xs ≡ oldHelpands o tree n
+without o tree n xs t e = rw t e
 
 pub old-helpands-spec : {M : Type 1} → statement M
-old-helpands-spec = tie.close (tie.spec words-64-requires returns own-numbers-requires returns-2)
+old-helpands-spec =
+    tie.close
+    (tie.spec
+    (λ c κs. (omega (arith, c .before .before .pre .1 (c .if1 .taken)), c .before .before .pre .0))  -- words-64-requires
+    (λ c. let a = c .before .before .before .args in with-tree (now (a .old)) (a .tree) (a .nodes) (c .words-64 .result) (c .before .if1 .taken) (c .words-64 .ensures))  -- returns
+    (λ c κs. search needs)  -- own-numbers-requires
+    (λ c. let a = c .before .before .before .args in without (now (a .old)) (a .tree) (a .nodes) (c .own-numbers .result) (c .before .if1 .left) (c .own-numbers .ensures)))  -- returns-2

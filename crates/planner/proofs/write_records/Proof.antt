@@ -1,87 +1,70 @@
+-- `planner::write_records` meets its contract: the sizes that it tests are the lengths of the two records. Assumes nothing.
 use borrow.Author.Needs.{needs}
+use mathlib.Core.Path.{_≡_, _∙_}
+use mathlib.Core.List.{List}
+use Prim.Native.Nat.{ℕ, _+_, _*_}
+use native.Mathlib.Omega.{arith}
+use lib.ListN.{length}
+use denote.Ref.{now}
+use Rattle.moves.specs.Write.{movesBytes}
+use Rattle.moves.proofs.Laws.{length-moves}
+use Rattle.plan.proofs.Writing.{length-plan}
+use Rattle.planner.specs.Step.{planOf}
+use Rattle.planner.proofs.Ways.{writes-plan-short, writes-moves-short, writes-both}
 use Rattle.planner.proofs.write_records.Statement.{statement}
 use Rattle.planner.proofs.write_records.Tie as tie
-use Rattle.planner.proofs.write_records.Reads as reads
-use Rattle.planner.proofs.write_records.Lts as lts
-use Rattle.moves.proofs.write.put_moves.Reads as put-moves-reads
-use Rattle.plan.proofs.write.put_plan.Reads as put-plan-reads
 
--- src/lib.rt:118:30
-mul-plan-size : tie.Need-mul-plan-size
-mul-plan-size c = search needs
+module _ (c : tie.Start) where
+  abbrev plan : List ℕ
+  plan = planOf (c .args .n) (c .args .limit) (c .args .d)
 
--- src/lib.rt:118:26
-add-plan-size : tie.Need-add-plan-size
-add-plan-size c = search needs
+  abbrev moves : List ℕ
+  moves = movesBytes (c .args .n) (c .args .e) (now (c .args .routes)) (now (c .args .counts))
 
--- src/lib.rt:118:21
-mul-plan-size-2 : tie.Need-mul-plan-size-2
-mul-plan-size-2 c = search needs
+  plan-size : length plan ≡ 4 * (3 + 2 * c .args .n)
+  plan-size =
+      let d = c .args .d in
+      let h : (length (d .helpands) ≡ 64) × (length (d .shares) ≡ 64) = search needs in
+      length-plan (c .args .n) (d .kind) (c .args .limit) (d .helpands) (d .shares) (omega (arith, c .pre .0)) (omega (arith, c .pre .0))
 
--- src/lib.rt:120:9
+  moves-size : length moves ≡ 4 * (2 + 2 * c .args .e)
+  moves-size = length-moves (c .args .n) (c .args .e) (now (c .args .routes)) (now (c .args .counts)) (c .pre .2) (c .pre .3)
+
 returns : tie.Need-returns
-returns c = search needs
+returns c =
+    let s = c .before .before .before .before .before in
+    writes-plan-short (s .args .d .kind) (s .args .limit) (plan s) (moves s) (now (s .args .plan)) (now (s .args .moves)) _ (plan-size s) (c .if1 .taken)
 
--- src/lib.rt:122:31
-mul-moves-size : tie.Need-mul-moves-size
-mul-moves-size c = search needs
-
--- src/lib.rt:122:27
-add-moves-size : tie.Need-add-moves-size
-add-moves-size c = search needs
-
--- src/lib.rt:122:22
-mul-moves-size-2 : tie.Need-mul-moves-size-2
-mul-moves-size-2 c = search needs
-
--- src/lib.rt:124:9
 returns-2 : tie.Need-returns-2
-returns-2 c = search needs
+returns-2 c =
+    let s = c .before .before .before .before .before .before in
+    writes-moves-short (s .args .d .kind) (s .args .limit) (plan s) (moves s) (now (s .args .plan)) (now (s .args .moves)) _ (plan-size s) (c .before .if1 .left) _ (moves-size s) (c .if2 .taken)
 
--- src/lib.rt:128:5
-put-plan-requires : tie.Need-put-plan-requires
-put-plan-requires c κs = search needs
-
--- src/lib.rt:129:5
-put-moves-requires : tie.Need-put-moves-requires
-put-moves-requires c κs = search needs
-
--- src/lib.rt:133:15
-cast-t24 : tie.Need-cast-t24
-cast-t24 c = search needs
-
--- src/lib.rt:134:16
-cast-t25 : tie.Need-cast-t25
-cast-t25 c = search needs
-
--- src/lib.rt:103:1
-same-length : tie.Need-same-length
-same-length c = search needs
-
--- src/lib.rt:103:1
-same-length-2 : tie.Need-same-length-2
-same-length-2 c = search needs
-
--- src/lib.rt:103:1
 returns-3 : tie.Need-returns-3
-returns-3 c = search needs
+returns-3 c =
+    let m = c .before .before in
+    let p = m .before .before .before .before in
+    let e = p .before .before .before .before in
+    let s = e .before .before .before .before .before .before in
+    let w = writes-both (s .args .d .kind) (s .args .limit) (plan s) (moves s) (now (s .args .plan)) (now (s .args .moves)) _ (plan-size s) (e .before .if1 .left) _ (moves-size s) (e .if2 .left) in
+    (w .0, (p .put-plan .ensures ∙ w .1 .0, m .put-moves .ensures ∙ w .1 .1))
 
 pub write-records-spec : {M : Type 1} → statement M
 write-records-spec =
     tie.close
     (tie.spec
-    mul-plan-size
-    add-plan-size
-    mul-plan-size-2
+    (λ c. search needs)  -- mul-plan-size
+    (λ c. search needs)  -- add-plan-size
+    (λ c. search needs)  -- mul-plan-size-2
     returns
-    mul-moves-size
-    add-moves-size
-    mul-moves-size-2
+    (λ c. search needs)  -- mul-moves-size
+    (λ c. search needs)  -- add-moves-size
+    (λ c. search needs)  -- mul-moves-size-2
     returns-2
-    put-plan-requires
-    put-moves-requires
-    cast-t24
-    cast-t25
-    same-length
-    same-length-2
+    (λ c κs. search needs)  -- put-plan-requires
+    (λ c κs. search needs)  -- put-moves-requires
+    (λ c. search needs)  -- cast-t24
+    (λ c. search needs)  -- cast-t25
+    (λ c. search needs)  -- same-length
+    (λ c. search needs)  -- same-length-2
     returns-3)

@@ -1,0 +1,87 @@
+-- One law for each way that the checks can go: of the old plan, of the two buffers, and of the sheet. Assumes nothing.
+use mathlib.Core.Path.{_≡_, refl, sym, ap, _∙_}
+use mathlib.Core.Logic.{_≢_}
+use mathlib.Core.Bool.{Bool, true, false}
+use mathlib.Core.List.{List}
+use Prim.Native.Nat.{ℕ, _≤_, _<_}
+use native.Mathlib.Omega.{arith}
+use borrow.Author.Tests.{lt-ltb, le-ltb, eq-eqb, ne-eqb}
+use lib.ListN.{length}
+use Rattle.words.specs.Buffer.{placed}
+use Rattle.sheet.specs.declared.SheetAnswer.{SheetAnswer}
+use Rattle.sheet.specs.Sheet.{readSheet}
+use Rattle.plan.specs.declared.Plan.{Plan}
+use Rattle.plan.specs.Plan.{readPlan, accepted}
+use Rattle.planner.specs.declared.StepAnswer.{StepAnswer}
+use Rattle.planner.specs.Step.{refused, planned, oldRefused, oldRead, readOld, writtenAnswer, decidedAnswer, stepAnswer, after}
+
+-- ---- the old plan
+
+module _ (o : List ℕ) (n : ℕ) where
+  pub old-empty : length o ≡ 0 → oldRead false ≡ readOld o n
+  unfolding readOld
+  old-empty e = rw (eq-eqb (length o) 0 e)
+
+  module _ (full : length o ≢ 0) where
+    pub old-refused : (k : ℕ) → k ≡ readPlan o .refusal → k ≢ 0 → oldRefused k ≡ readOld o n
+    unfolding readOld
+    old-refused k e d = rw (ne-eqb (length o) 0 full, ← e, ne-eqb k 0 d)
+
+    module _ (p : Plan) (r : accepted (p .n) (p .kind) (p .limit) ≡ readPlan o) where
+      pub old-differs : p .n ≢ n → oldRefused 21 ≡ readOld o n
+      unfolding readOld
+      old-differs d = rw (ne-eqb (length o) 0 full, ← r, ne-eqb (p .n) n d)
+
+      pub old-primary : p .n ≡ n → p .kind ≡ 0 → oldRead false ≡ readOld o n
+      unfolding readOld
+      old-primary e z = rw (ne-eqb (length o) 0 full, ← r, eq-eqb (p .n) n e, eq-eqb (p .kind) 0 z)
+
+      pub old-tree : p .n ≡ n → p .kind ≢ 0 → oldRead true ≡ readOld o n
+      unfolding readOld
+      old-tree e d = rw (ne-eqb (length o) 0 full, ← r, eq-eqb (p .n) n e, ne-eqb (p .kind) 0 d)
+
+-- ---- the two buffers
+
+module _ (kind limit : ℕ) (plan moves planOut movesOut : List ℕ) where
+  abbrev answer : StepAnswer
+  answer = writtenAnswer kind limit plan moves (length planOut) (length movesOut)
+
+  -- the answer, and both buffers as they are then
+  abbrev pub Writes : StepAnswer → List ℕ → List ℕ → Type 0
+  Writes a planAfter movesAfter = (a ≡ answer) × ((planAfter ≡ after a plan planOut) × (movesAfter ≡ after a moves movesOut))
+
+  pub writes-plan-short : (size : ℕ) → length plan ≡ size → length planOut < size → Writes (refused 22) planOut movesOut
+  unfolding writtenAnswer
+  writes-plan-short size e l = (rw (lt-ltb (length planOut) (length plan) (omega (arith, e))), (refl, refl))
+
+  module _ (size : ℕ) (e : length plan ≡ size) (long : size ≤ length planOut) where
+    pub writes-moves-short : (size₂ : ℕ) → length moves ≡ size₂ → length movesOut < size₂ → Writes (refused 23) planOut movesOut
+    unfolding writtenAnswer
+    writes-moves-short size₂ f l =
+        (rw (le-ltb (length planOut) (length plan) (omega (arith, e)), lt-ltb (length movesOut) (length moves) (omega (arith, f))), (refl, refl))
+
+    pub writes-both : (size₂ : ℕ) → length moves ≡ size₂ → size₂ ≤ length movesOut
+        → Writes (planned kind limit size size₂) (placed plan planOut) (placed moves movesOut)
+    unfolding writtenAnswer
+    writes-both size₂ f l =
+        (rw (le-ltb (length planOut) (length plan) (omega (arith, e)), le-ltb (length movesOut) (length moves) (omega (arith, f)), e, f), (refl, refl))
+
+-- ---- the sheet, and then the old plan
+
+module _ (s o : List ℕ) (a b : ℕ) where
+  pub step-sheet : (k : ℕ) → k ≡ readSheet s .refusal → k ≢ 0 → refused k ≡ stepAnswer s o a b
+  unfolding stepAnswer
+  step-sheet k e d = rw (← e, ne-eqb k 0 d)
+
+  module _ (n : ℕ) (z : 0 ≡ readSheet s .refusal) (m : n ≡ readSheet s .n) where
+    pub step-old : (k : ℕ) → oldRefused k ≡ readOld o n → k ≢ 0 → refused k ≡ stepAnswer s o a b
+    unfolding stepAnswer
+    step-old k e d = rw (← z, ← m, ← e, ne-eqb k 0 d)
+
+    pub step-decided : (tree : Bool) → oldRead tree ≡ readOld o n → decidedAnswer s o a b ≡ stepAnswer s o a b
+    unfolding stepAnswer
+    step-decided tree e = rw (← z, ← m, ← e)
+
+-- a refusal leaves a buffer as it was
+pub refused-after : (k : ℕ) (rec out : List ℕ) → k ≢ 0 → out ≡ after (refused k) rec out
+refused-after k rec out d = rw (ne-eqb k 0 d)
