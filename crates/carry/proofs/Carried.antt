@@ -1,21 +1,18 @@
 -- What carrying out needs of a sheet and moves that were accepted, the checks one by one, and the sheet that is written. Assumes
 -- nothing.
 use mathlib.Core.Path.{_≡_, refl, sym, ap, _∙_}
-use mathlib.Core.Logic.{_⊎_, inl, inr}
-use mathlib.Core.Bool.{Bool, true, false, cond, not, true≢false, false≢true}
+use mathlib.Core.Bool.{Bool, true, false, cond, true≢false, false≢true}
 use mathlib.Core.List.{List}
-use Prim.Native.Nat.{ℕ, _+_, _-_, _*_, _≤_, _<_, _^_}
+use Prim.Native.Nat.{ℕ, _-_, _*_, _≤_, _<_, _^_}
 use native.Mathlib.Nat.{mul-le-mul}
 use native.Mathlib.Omega.{arith}
-use borrow.Author.Tests.{lt-ltb, le-ltb, ltb-false, ltb-true, eq-eqb, ne-eqb, eqb-true, not-false}
+use borrow.Author.Tests.{lt-ltb, le-ltb, ltb-false, ltb-true, eq-eqb, ne-eqb}
 use lib.Dec.{ltb, eqb}
 use lib.ListN.{length, getD, take, drop, length-append}
 use lib.Seq.{take-at, getD-take}
 use Rattle.fold.specs.Sum.{sum}
-use Rattle.fold.proofs.Tests.{either, passed}
 use Rattle.limit.specs.Limit.{maxNodes, maxTotal}
 use Rattle.words.specs.Buffer.{placed, written, writing}
-use Rattle.words.specs.declared.Written.{Written}
 use Rattle.words.specs.declared.Written.the-variants.{Bytes, Short}
 use Rattle.plan.specs.Tree.{at}
 use Rattle.sheet.specs.declared.Sheet.{Sheet}
@@ -36,17 +33,18 @@ use Rattle.transfer.specs.Carry.{sendsWithin, carried, afterMoves, Acceptable}
 use Rattle.transfer.specs.declared.carry.AfterMoves.{AfterMoves}
 use Rattle.transfer.proofs.Kept.{acceptable-below}
 use Rattle.carry.specs.declared.CarryAnswer.{CarryAnswer}
-use Rattle.carry.specs.Carry.{refused, accepted, tableIn, routesIn, countsIn, nextTable, nextSheet, pairAnswer, carryAnswer, bytesAfter, pairNext, Read}
+use Rattle.carry.specs.Carry.{refused, accepted, withinIn, nextTable, nextSheet, pairAnswer, carryAnswer, bytesAfter, pairNext, Read}
 
 -- ---- accepted moves
 
 -- they pass the checks that *carry out* relies on
-pub moves-acceptable : (m : List ℕ) (a : MovesAnswer) → AcceptedMoves m a → Acceptable (a .n) (routesOf m (a .e)) (countsOf m (a .e))
+pub moves-acceptable : (m : List ℕ) (a : MovesAnswer) → AcceptedMoves m a
+    → Acceptable (a .n) (routesOf m (a .e)) (countsOf m (a .e))
 moves-acceptable m a k =
     let l = routes-are m a k in
     record { same = l ∙ sym (counts-are m a k); few = omega (arith, k .e-high); routes-fine = k .routes; counts-fine = k .counts }
 
--- there are less than 4,096
+-- an array of 4,096 holds them all
 pub moves-few : (m : List ℕ) (a : MovesAnswer) → AcceptedMoves m a → a .e ≤ 4096
 moves-few m a k =
     let less : a .n - 1 ≤ 64 = omega (arith, k .n-high) in
@@ -75,13 +73,14 @@ module _ (s m : List ℕ) (h : Sheet) (q : Moves) (r : Read s m h q) where
 
   -- the table's sum does not wrap
   pub sum-within : sum 4096 (at (tableOf s (h .e))) ≤ maxTotal
-  sum-within = omega (arith, table-sum s (sheetAccepted (h .n) (h .t) (h .e) (h .p) (h .limit)) sheet-facts, sheet-facts .sum .within)
+  sum-within = omega (arith, table-sum s _ sheet-facts, sheet-facts .sum .within)
 
   -- each route is one of 64 × 4,096
   pub route-below : (i : ℕ) → i < q .e → getD (routesOf m (q .e)) i 0 < 262144
   route-below i l =
-      acceptable-below (q .n) (moves-facts .n-high) (routesOf m (q .e)) (countsOf m (q .e)) (moves-acceptable m (movesAccepted (q .n) (q .e)) moves-facts) i
-      (omega (arith, routes-are m (movesAccepted (q .n) (q .e)) moves-facts))
+      let a = movesAccepted (q .n) (q .e) in
+      acceptable-below (q .n) (moves-facts .n-high) (routesOf m (q .e)) (countsOf m (q .e)) (moves-acceptable m a moves-facts) i
+      (omega (arith, routes-are m a moves-facts))
 
   -- ---- one law for each way that the checks of a pair can go
 
@@ -94,15 +93,16 @@ module _ (s m : List ℕ) (h : Sheet) (q : Moves) (r : Read s m h q) where
       same : eqb (readSheet s .n) (readMoves m .n) ≡ true
       same = rw (← r .sheet, ← r .moves) (eq-eqb (h .n) (q .n) e)
 
-      pub pair-sends : sendsWithin (tableIn s) (routesIn m) (countsIn m) ≡ false → pairAnswer s m size ≡ refused 42
+      pub pair-sends : withinIn s m ≡ false → pairAnswer s m size ≡ refused 42
       unfolding pairAnswer
       pair-sends f = rw (same, f)
 
-      pub pair-short : sendsWithin (tableIn s) (routesIn m) (countsIn m) ≡ true → size < length (nextSheet s m) → pairAnswer s m size ≡ refused 43
+      pub pair-short : withinIn s m ≡ true → size < length (nextSheet s m) → pairAnswer s m size ≡ refused 43
       unfolding pairAnswer
       pair-short w l = rw (same, w, lt-ltb size (length (nextSheet s m)) l)
 
-      pub pair-carried : sendsWithin (tableIn s) (routesIn m) (countsIn m) ≡ true → length (nextSheet s m) ≤ size → pairAnswer s m size ≡ accepted (length (nextSheet s m))
+      pub pair-carried : withinIn s m ≡ true → length (nextSheet s m) ≤ size
+          → pairAnswer s m size ≡ accepted (length (nextSheet s m))
       unfolding pairAnswer
       pair-carried w l = rw (same, w, le-ltb size (length (nextSheet s m)) l)
 
@@ -133,7 +133,8 @@ module _ (table routes counts : List ℕ) (x : AfterMoves) (e : x ≡ afterMoves
 
 module _ (rec out : List ℕ) where
   -- what a writer answers says whether the record fits, and so what it wrote
-  pub wrote : (size : ℕ) → Bytes size ≡ writing rec out → (size ≡ length rec) × (length rec ≤ length out) × (written rec out ≡ placed rec out)
+  pub wrote : (size : ℕ) → Bytes size ≡ writing rec out
+      → (size ≡ length rec) × (length rec ≤ length out) × (written rec out ≡ placed rec out)
   wrote size e = go (ltb (length out) (length rec)) refl e
     where
       go : (b : Bool) → ltb (length out) (length rec) ≡ b → Bytes size ≡ cond b Short (Bytes (length rec))
@@ -144,7 +145,8 @@ module _ (rec out : List ℕ) where
   pub short : Short ≡ writing rec out → (length out < length rec) × (written rec out ≡ out)
   short e = go (ltb (length out) (length rec)) refl e
     where
-      go : (b : Bool) → ltb (length out) (length rec) ≡ b → Short ≡ cond b Short (Bytes (length rec)) → (length out < length rec) × (cond b out (placed rec out) ≡ out)
+      go : (b : Bool) → ltb (length out) (length rec) ≡ b → Short ≡ cond b Short (Bytes (length rec))
+          → (length out < length rec) × (cond b out (placed rec out) ≡ out)
       go true w q = (ltb-true (length out) (length rec) w, refl)
       go false w q = let z : _≡_ {A = ℕ} 0 1 = cc in absurd (omega arith)
 
@@ -153,7 +155,7 @@ module _ (s m : List ℕ) (h : Sheet) (q : Moves) (r : Read s m h q) (table : Li
   unfolding nextSheet
   next-is = ap (sheetBytes (h .n) (h .t)) e ∙ ap (λ (a : SheetAnswer). sheetBytes (a .n) (a .t) (nextTable s m)) (r .sheet)
 
-  module _ (out : List ℕ) (n : h .n ≡ q .n) (w : sendsWithin (tableIn s) (routesIn m) (countsIn m) ≡ true) where
+  module _ (out : List ℕ) (n : h .n ≡ q .n) (w : withinIn s m ≡ true) where
     pub pair-wrote : (size : ℕ) → Bytes size ≡ writing (sheetBytes (h .n) (h .t) table) out
         → (accepted size ≡ pairAnswer s m (length out)) × (written (sheetBytes (h .n) (h .t) table) out ≡ pairNext s m out)
     pair-wrote size b =
@@ -173,7 +175,8 @@ pub length-small : (n t : ℕ) (table : List ℕ) → n ≤ maxNodes → length 
 length-small n t table h = omega (arith, length-sheet n t table, cells-le table (64 * n))
 
 -- a refusal leaves the buffer, and its number is not 0
-pub refused-both : (next out : List ℕ) (a : CarryAnswer) (k : ℕ) → (k ≡ 0 → ⊥) → a ≡ refused k → (refused k ≡ a) × (out ≡ bytesAfter next a out)
+pub refused-both : (next out : List ℕ) (a : CarryAnswer) (k : ℕ) → (k ≡ 0 → ⊥) → a ≡ refused k
+    → (refused k ≡ a) × (out ≡ bytesAfter next a out)
 refused-both next out a k d e = rw e (refl, rw (ne-eqb k 0 d))
 
 -- ---- one law for each way that the two readings can go

@@ -24,7 +24,8 @@ abbrev carry : List ℕ → ℕ → CarryAnswer
 carry ws size = carryAnswer sheet-D (encode ws) size
 
 -- "moves words 3 2 1 2 27 29": subdomain 0 is held 34, 27, 29 by nodes 0, 1, 2, and the others as before
-next-D : nextSheet sheet-D (encode (3 ∷ 2 ∷ 1 ∷ 2 ∷ 27 ∷ 29 ∷ [])) ≡ encode (3 ∷ 10 ∷ 5 ∷ 0 ∷ 64 ∷ 65 ∷ 128 ∷ 130 ∷ 34 ∷ 27 ∷ 6 ∷ 29 ∷ 4 ∷ [])
+next-D : nextSheet sheet-D (encode (3 ∷ 2 ∷ 1 ∷ 2 ∷ 27 ∷ 29 ∷ []))
+    ≡ encode (3 ∷ 10 ∷ 5 ∷ 0 ∷ 64 ∷ 65 ∷ 128 ∷ 130 ∷ 34 ∷ 27 ∷ 6 ∷ 29 ∷ 4 ∷ [])
 unfolding every collect rising limitOf words encode runningSum readSheet stored zeros tableOf filled sheetBytes readMoves moved carriedFrom nextSheet
 next-D = refl
 

@@ -1,5 +1,5 @@
--- Document 01, *Carry out*: "takes a sheet and moves, writes the sheet that follows (same t; each cell less what it sends, plus what
--- it receives), and gives its length in bytes."
+-- Document 01, *Carry out*: "takes a sheet and moves, writes the sheet that follows (same t; each cell less what it sends, plus
+-- what it receives), and gives its length in bytes."
 use mathlib.Core.Path.{_≡_}
 use Prim.Native.Nat.{ℕ}
 use mathlib.Core.List.{List}
@@ -55,6 +55,10 @@ routesIn m = routesOf m (readMoves m .e)
 abbrev pub countsIn : List ℕ → List ℕ
 countsIn m = countsOf m (readMoves m .e)
 
+-- not "42, some cell sends in all more than the old sheet gives it"
+abbrev pub withinIn : List ℕ → List ℕ → Bool
+withinIn s m = sendsWithin (tableIn s) (routesIn m) (countsIn m)
+
 -- "each cell less what it sends, plus what it receives"
 abbrev pub nextTable : List ℕ → List ℕ → List ℕ
 nextTable s m = carried (tableIn s) (routesIn m) (countsIn m)
@@ -72,7 +76,7 @@ refuseIf test k rest = cond test (refused k) rest
 unfoldable pub pairAnswer : List ℕ → List ℕ → ℕ → CarryAnswer
 pairAnswer s m size =
     refuseIf (not (eqb (readSheet s .n) (readMoves m .n))) 41
-    (refuseIf (not (sendsWithin (tableIn s) (routesIn m) (countsIn m))) 42
+    (refuseIf (not (withinIn s m)) 42
     (refuseIf (ltb size (length (nextSheet s m))) 43
     (accepted (length (nextSheet s m)))))
 

@@ -1,7 +1,6 @@
 -- `carry::carry_out` meets its contract: the sheet's refusal, then the moves', then what the pair of them gives. Assumes nothing.
 use borrow.Author.Needs.{needs}
 use mathlib.Core.Path.{_≡_, sym, ap, _∙_}
-use Prim.Native.Nat.{ℕ}
 use native.Mathlib.Omega.{arith}
 use lib.ListN.{length}
 use denote.Ref.{now}
@@ -24,8 +23,9 @@ returns c =
     let k = sheetNumber (r .r .given .0 .0) in
     let d : k ≡ 0 → ⊥ = λ z. omega (arith, sheet-more (r .r .given .0 .0)) in
     let e = ap (λ (x : SheetAnswer). x .refusal) (ap sheetAnswer (sym (r .r .given .1)) ∙ f .read-sheet .ensures) in
-    refused-both (nextSheet (now (a .sheet)) (now (a .moves))) (now (a .next)) (carryAnswer (now (a .sheet)) (now (a .moves)) (length (now (a .next)))) k d
-    (carry-sheet (now (a .sheet)) (now (a .moves)) (length (now (a .next))) k e d)
+    let size = length (now (a .next)) in
+    refused-both (nextSheet (now (a .sheet)) (now (a .moves))) (now (a .next)) (carryAnswer (now (a .sheet)) (now (a .moves)) size) k d
+    (carry-sheet (now (a .sheet)) (now (a .moves)) size k e d)
 
 -- the sheet was accepted, and then the moves
 module _ (c : tie.After-s) where
@@ -44,8 +44,10 @@ returns-2 c =
     let k = movesNumber (r .r2 .given .0 .0) in
     let d : k ≡ 0 → ⊥ = λ z. omega (arith, moves-more (r .r2 .given .0 .0)) in
     let e = ap (λ (x : MovesAnswer). x .refusal) (ap movesAnswer (sym (r .r2 .given .1)) ∙ f .read-moves .ensures) in
-    refused-both (nextSheet (now (a .sheet)) (now (a .moves))) (now (a .next)) (carryAnswer (now (a .sheet)) (now (a .moves)) (length (now (a .next)))) k d
-    (carry-moves (now (a .sheet)) (now (a .moves)) (length (now (a .next))) (ap (λ (x : SheetAnswer). x .refusal) (sheet-read s)) k e d)
+    let z = ap (λ (x : SheetAnswer). x .refusal) (sheet-read s) in
+    let size = length (now (a .next)) in
+    refused-both (nextSheet (now (a .sheet)) (now (a .moves))) (now (a .next)) (carryAnswer (now (a .sheet)) (now (a .moves)) size) k d
+    (carry-moves (now (a .sheet)) (now (a .moves)) size z k e d)
 
 carry-read-requires : tie.Need-carry-read-requires
 carry-read-requires c κs =
@@ -61,7 +63,8 @@ returns-3 c =
     let s = f .before .before in
     let a = s .before .before .before .before .before .before .args in
     let y = ap (λ (x : MovesAnswer). x .refusal) (ap movesAnswer (sym (p .m .given .1)) ∙ f .read-moves .ensures) in
-    let e = carry-pair (now (a .sheet)) (now (a .moves)) (length (now (a .next))) (ap (λ (x : SheetAnswer). x .refusal) (sheet-read s)) y in
+    let z = ap (λ (x : SheetAnswer). x .refusal) (sheet-read s) in
+    let e = carry-pair (now (a .sheet)) (now (a .moves)) (length (now (a .next))) z y in
     (w .carry-read .ensures .0 ∙ sym e, w .carry-read .ensures .1 ∙ rw e)
 
 pub carry-out-spec : {M : Type 1} → statement M

@@ -1,7 +1,7 @@
--- `carry::carry_read` meets its contract: each way out gives the answer of the first check that refuses, and the writer's own test is
--- 43. Assumes nothing.
+-- `carry::carry_read` meets its contract: each way out gives the answer of the first check that refuses, and the writer's own test
+-- is 43. Assumes nothing.
 use borrow.Author.Needs.{needs}
-use mathlib.Core.Path.{_≡_, sym, ap, _∙_}
+use mathlib.Core.Path.{_≡_, sym, _∙_}
 use mathlib.Core.Bool.{true}
 use mathlib.Core.List.{List}
 use native.Mathlib.Omega.{arith}
@@ -9,8 +9,8 @@ use Prim.Native.Nat.{ℕ}
 use lib.ListN.{length}
 use denote.Ref.{now}
 use Rattle.sheet.specs.Write.{sheetBytes}
-use Rattle.transfer.specs.Carry.{sendsWithin}
-use Rattle.carry.specs.Carry.{tableIn, routesIn, countsIn, nextTable, nextSheet, pairAnswer}
+use Rattle.transfer.specs.declared.carry.AfterMoves.{AfterMoves}
+use Rattle.carry.specs.Carry.{tableIn, routesIn, countsIn, withinIn, nextTable, nextSheet, pairAnswer}
 use Rattle.carry.proofs.Carried.{sheet-facts, pair-differ, pair-sends, after-refused, after-carried, wrote, pair-wrote, pair-unwritten, length-small, refused-both}
 use Rattle.carry.proofs.carry_read.Statement.{statement}
 use Rattle.carry.proofs.carry_read.Tie as tie
@@ -22,7 +22,8 @@ returns c =
     let s = now (a .sheet) in
     let m = now (a .moves) in
     let size = length (now (a .next)) in
-    refused-both (nextSheet s m) (now (a .next)) (pairAnswer s m size) 41 (λ z. omega arith) (pair-differ s m (a .s) (a .m) (start .pre) size (c .if1 .taken))
+    refused-both (nextSheet s m) (now (a .next)) (pairAnswer s m size) 41 (λ z. omega arith)
+    (pair-differ s m (a .s) (a .m) (start .pre) size (c .if1 .taken))
 
 returns-2 : tie.Need-returns-2
 returns-2 c =
@@ -32,8 +33,9 @@ returns-2 c =
     let s = now (a .sheet) in
     let m = now (a .moves) in
     let size = length (now (a .next)) in
+    let f = after-refused (tableIn s) (routesIn m) (countsIn m) (t .table-after .result) (t .table-after .ensures) (c .if2 .taken) in
     refused-both (nextSheet s m) (now (a .next)) (pairAnswer s m size) 42 (λ z. omega arith)
-    (pair-sends s m (a .s) (a .m) (start .pre) size (t .before .if1 .left) (after-refused (tableIn s) (routesIn m) (countsIn m) (t .table-after .result) (t .table-after .ensures) (c .if2 .taken)))
+    (pair-sends s m (a .s) (a .m) (start .pre) size (t .before .if1 .left) f)
 
 write-sheet-requires : tie.Need-write-sheet-requires
 write-sheet-requires c κs =
@@ -54,17 +56,22 @@ module _ (c : tie.After-write-sheet) where
   abbrev moves : List ℕ
   moves = now (start .args .moves)
 
-  carried : (sendsWithin (tableIn sheet) (routesIn moves) (countsIn moves) ≡ true) × (passed .before .table-after .result .table ≡ nextTable sheet moves)
+  abbrev after : AfterMoves
+  after = passed .before .table-after .result
+
+  carried : (withinIn sheet moves ≡ true) × (after .table ≡ nextTable sheet moves)
   carried =
-      after-carried (tableIn sheet) (routesIn moves) (countsIn moves) (passed .before .table-after .result) (passed .before .table-after .ensures) (passed .if2 .left)
+      after-carried (tableIn sheet) (routesIn moves) (countsIn moves) after (passed .before .table-after .ensures) (passed .if2 .left)
 
 returns-3 : tie.Need-returns-3
 returns-3 c =
     let w = c .before .before .before .before .before in
     let a = start w .args in
     let e = carried w in
-    let p = pair-wrote (sheet w) (moves w) (a .s) (a .m) (start w .pre) (passed w .before .table-after .result .table) (e .1) (now (a .next)) (passed w .before .before .if1 .left) (e .0) (c .before .size .given .0 .0)
-    (sym (c .before .size .given .1) ∙ w .write-sheet .ensures .0) in
+    let n = passed w .before .before .if1 .left in
+    let size = c .before .size .given in
+    let p = pair-wrote (sheet w) (moves w) (a .s) (a .m) (start w .pre) (after w .table) (e .1) (now (a .next)) n (e .0) (size .0 .0)
+    (sym (size .1) ∙ w .write-sheet .ensures .0) in
     (p .0, w .write-sheet .ensures .1 ∙ p .1)
 
 returns-4 : tie.Need-returns-4
@@ -72,7 +79,8 @@ returns-4 c =
     let w = c .before .before .before .before in
     let a = start w .args in
     let e = carried w in
-    let p = pair-unwritten (sheet w) (moves w) (a .s) (a .m) (start w .pre) (passed w .before .table-after .result .table) (e .1) (now (a .next)) (passed w .before .before .if1 .left) (e .0)
+    let n = passed w .before .before .if1 .left in
+    let p = pair-unwritten (sheet w) (moves w) (a .s) (a .m) (start w .pre) (after w .table) (e .1) (now (a .next)) n (e .0)
     (sym (c .enum-told .given .1) ∙ w .write-sheet .ensures .0) in
     (p .0, w .write-sheet .ensures .1 ∙ p .1)
 
@@ -81,8 +89,9 @@ cast : tie.Need-cast-t17
 cast c =
     let w = c .before .before .before .before .before in
     let a = start w .args in
-    let table = passed w .before .table-after .result .table in
-    let z = wrote (sheetBytes (a .s .n) (a .s .t) table) (now (a .next)) (c .before .size .given .0 .0) (sym (c .before .size .given .1) ∙ w .write-sheet .ensures .0) in
+    let table = after w .table in
+    let size = c .before .size .given in
+    let z = wrote (sheetBytes (a .s .n) (a .s .t) table) (now (a .next)) (size .0 .0) (sym (size .1) ∙ w .write-sheet .ensures .0) in
     let h = sheet-facts (sheet w) (moves w) (a .s) (a .m) (start w .pre) .n-high in
     omega (arith, z .0, length-small (a .s .n) (a .s .t) table h)
 

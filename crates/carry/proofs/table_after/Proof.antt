@@ -1,7 +1,7 @@
--- `carry::table_after` meets its contract: the moves' routes and counts at the front of two arrays, the sheet's table, and the moves
--- applied to it. Assumes nothing.
+-- `carry::table_after` meets its contract: the moves' routes and counts at the front of two arrays, the sheet's table, and the
+-- moves applied to it. Assumes nothing.
 use borrow.Author.Needs.{needs}
-use mathlib.Core.Path.{_≡_, sym, ap, _∙_}
+use mathlib.Core.Path.{_≡_, _∙_}
 use mathlib.Core.List.{List}
 use Prim.Native.Nat.{ℕ, _≤_}
 use native.Mathlib.Omega.{arith}
@@ -62,7 +62,8 @@ apply-moves-requires c κs =
     let m = start .args .m in (
       front-long (routesOf (moves start) (e start)) _ _ (e start) (routes-length start) (w .get-words .ensures),
       front-long (countsOf (moves start) (e start)) _ _ (e start) (counts-length start) (k .get-words2 .ensures),
-      λ i l. rw (front-at (routesOf (moves start) (e start)) _ _ (e start) (routes-length start) (w .get-words .ensures) i l) (route-below (sheet start) (moves start) s m (start .pre) i l),
+      λ i l. rw (front-at (routesOf (moves start) (e start)) _ _ (e start) (routes-length start) (w .get-words .ensures) i l)
+          (route-below (sheet start) (moves start) s m (start .pre) i l),
       rw (u .unpack .ensures) (sum-within (sheet start) (moves start) s m (start .pre)),
     )
 
@@ -72,8 +73,9 @@ returns c =
     let k = u .before .before .before in
     let w = k .before .before .before in
     let start = w .before .before .before .before .before in
-    rw (← start .pre .sheet, ← start .pre .moves)
-    (c .apply-moves .ensures ∙ rw (u .unpack .ensures, front-is (routesOf (moves start) (e start)) _ _ (e start) (routes-length start) (w .get-words .ensures), front-is (countsOf (moves start) (e start)) _ _ (e start) (counts-length start) (k .get-words2 .ensures)))
+    let routes = front-is (routesOf (moves start) (e start)) _ _ (e start) (routes-length start) (w .get-words .ensures) in
+    let counts = front-is (countsOf (moves start) (e start)) _ _ (e start) (counts-length start) (k .get-words2 .ensures) in
+    rw (← start .pre .sheet, ← start .pre .moves) (c .apply-moves .ensures ∙ rw (u .unpack .ensures, routes, counts))
 
 pub table-after-spec : {M : Type 1} → statement M
 table-after-spec =
