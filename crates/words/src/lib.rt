@@ -5,6 +5,7 @@ ghost use Prim.Native.Nat.{_+_, _*_, _≤_};
 ghost use lib.ListN.{length, getD, take};
 ghost use lib.Seq.{sets};
 ghost use Rattle.words.specs.Words.{word, putWord, words, encode, part, padded};
+ghost use Rattle.words.specs.Buffer.{placed};
 
 // What writing a record into a lent buffer answers: its length in bytes, or that the buffer is too short.
 pub enum Written {
@@ -40,6 +41,18 @@ pub fn words_64(s: &[u8], first: usize, k: usize) -> [u32; 64]
         i += 1;
     }
     out
+}
+
+// Reads the k words of s from number first on to the front of out.
+pub fn get_words(s: &[u8], first: usize, k: usize, out: &mut [u32])
+    requires { ⌜ (4 * (first + k) ≤ length (now s)) × (k ≤ length (now out)) ⌝ }
+    ensures { λ _. ⌜ now (out .exit) ≡ placed (part first k (words (now (s .entry)))) (now (out .entry)) ⌝ }
+{
+    let mut i = 0;
+    while i < k {
+        out[i] = word_number(s, first + i);
+        i += 1;
+    }
 }
 
 // Writes w as word number k of out.

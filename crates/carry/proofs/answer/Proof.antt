@@ -1,0 +1,16 @@
+-- `carry::answer` meets its contract, case by case. Assumes nothing.
+use borrow.Author.Needs.{needs}
+use mathlib.Core.Path.{sym, ap, _∙_}
+use Rattle.carry.specs.Carry.{refused, answerOf}
+use Rattle.carry.proofs.answer.Statement.{statement}
+use Rattle.carry.proofs.answer.Tie as tie
+
+pub answer-spec : {M : Type 1} → statement M
+answer-spec =
+    tie.close
+    (tie.spec
+    (λ c. search needs)  -- enum-known-c
+    (λ c. search needs)  -- enum-known-c-2
+    (λ c κs. search needs)  -- number-requires
+    (λ c. sym (ap answerOf (c .before .c .given .1)))  -- returns
+    (λ c. ap refused (c .number .ensures) ∙ sym (ap answerOf (c .before .before .c2 .given .1))))  -- returns-2

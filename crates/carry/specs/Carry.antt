@@ -1,0 +1,104 @@
+-- Document 01, *Carry out*: "takes a sheet and moves, writes the sheet that follows (same t; each cell less what it sends, plus
+-- what it receives), and gives its length in bytes."
+use mathlib.Core.Path.{_≡_}
+use Prim.Native.Nat.{ℕ}
+use mathlib.Core.List.{List}
+use mathlib.Core.Bool.{Bool, cond, not}
+use lib.Dec.{eqb, ltb}
+use lib.ListN.{length}
+use Rattle.words.specs.Buffer.{placed}
+use Rattle.sheet.specs.declared.Sheet.{Sheet}
+use Rattle.sheet.specs.Sheet.{readSheet, refusalNumber as sheetNumber, accepted as sheetAccepted}
+use Rattle.sheet.specs.Table.{tableOf}
+use Rattle.sheet.specs.Write.{sheetBytes}
+use Rattle.moves.specs.declared.Moves.{Moves}
+use Rattle.moves.specs.Moves.{readMoves, routesOf, countsOf, refusalNumber as movesNumber, accepted as movesAccepted}
+use Rattle.transfer.specs.Carry.{sendsWithin, carried}
+use Rattle.carry.specs.declared.CarryRefusal.{CarryRefusal}
+use Rattle.carry.specs.declared.CarryRefusal.the-variants.{Sheet as OfSheet, Moves as OfMoves, NodesDiffer, Sends, Buffer}
+use Rattle.carry.specs.declared.Carrying.{Carrying}
+use Rattle.carry.specs.declared.Carrying.the-variants.{Carried, Refused}
+use Rattle.carry.specs.declared.CarryAnswer.{CarryAnswer}
+
+-- ---- answers
+
+abbrev pub refused : ℕ → CarryAnswer
+refused k = record { refusal = k; bytes = 0 }
+
+abbrev pub accepted : ℕ → CarryAnswer
+accepted bytes = record { refusal = 0; bytes = bytes }
+
+-- the paper's number of each refusal: "the sheet's; the moves'; 41, N differ; 42, some cell sends in all more than the old sheet
+-- gives it; 43, buffer too short"
+abbrev pub numberOf : CarryRefusal → ℕ
+numberOf (OfSheet r) = sheetNumber r
+numberOf (OfMoves r) = movesNumber r
+numberOf NodesDiffer = 41
+numberOf Sends = 42
+numberOf Buffer = 43
+
+-- the paper's number and values for each case of the enum
+abbrev pub answerOf : Carrying → CarryAnswer
+answerOf (Carried bytes) = accepted bytes
+answerOf (Refused r) = refused (numberOf r)
+
+-- ---- what is carried out, for a sheet s and moves m that are accepted and have the same N
+
+-- the sheet's table
+abbrev pub tableIn : List ℕ → List ℕ
+tableIn s = tableOf s (readSheet s .e)
+
+-- the moves' two arrays
+abbrev pub routesIn : List ℕ → List ℕ
+routesIn m = routesOf m (readMoves m .e)
+
+abbrev pub countsIn : List ℕ → List ℕ
+countsIn m = countsOf m (readMoves m .e)
+
+-- not "42, some cell sends in all more than the old sheet gives it"
+abbrev pub withinIn : List ℕ → List ℕ → Bool
+withinIn s m = sendsWithin (tableIn s) (routesIn m) (countsIn m)
+
+-- "each cell less what it sends, plus what it receives"
+abbrev pub nextTable : List ℕ → List ℕ → List ℕ
+nextTable s m = carried (tableIn s) (routesIn m) (countsIn m)
+
+-- "the sheet that follows (same t ...)"
+unfoldable pub nextSheet : List ℕ → List ℕ → List ℕ
+nextSheet s m = sheetBytes (readSheet s .n) (readSheet s .t) (nextTable s m)
+
+-- ---- the checks, in the order written
+
+abbrev pub refuseIf : Bool → ℕ → CarryAnswer → CarryAnswer
+refuseIf test k rest = cond test (refused k) rest
+
+-- 41, 42 and 43, with a buffer of so many bytes
+unfoldable pub pairAnswer : List ℕ → List ℕ → ℕ → CarryAnswer
+pairAnswer s m size =
+    refuseIf (not (eqb (readSheet s .n) (readMoves m .n))) 41
+    (refuseIf (not (withinIn s m)) 42
+    (refuseIf (ltb size (length (nextSheet s m))) 43
+    (accepted (length (nextSheet s m)))))
+
+unfoldable pub carryAnswer : List ℕ → List ℕ → ℕ → CarryAnswer
+carryAnswer s m size =
+    refuseIf (not (eqb (readSheet s .refusal) 0)) (readSheet s .refusal)
+    (refuseIf (not (eqb (readMoves m .refusal) 0)) (readMoves m .refusal)
+    (pairAnswer s m size))
+
+-- the buffer afterwards: it begins with the sheet that follows, or is as it was
+abbrev pub bytesAfter : List ℕ → CarryAnswer → List ℕ → List ℕ
+bytesAfter next a out = cond (eqb (a .refusal) 0) (placed next out) out
+
+abbrev pub pairNext : List ℕ → List ℕ → List ℕ → List ℕ
+pairNext s m out = bytesAfter (nextSheet s m) (pairAnswer s m (length out)) out
+
+abbrev pub nextAfter : List ℕ → List ℕ → List ℕ → List ℕ
+nextAfter s m out = bytesAfter (nextSheet s m) (carryAnswer s m (length out)) out
+
+-- ---- what the inner functions ask
+
+-- the sheet and the moves were read as these
+pub record Read (s m : List ℕ) (h : Sheet) (q : Moves) : Type 0 where
+  pub sheet : sheetAccepted (h .n) (h .t) (h .e) (h .p) (h .limit) ≡ readSheet s
+  pub moves : movesAccepted (q .n) (q .e) ≡ readMoves m

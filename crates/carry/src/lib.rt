@@ -1,0 +1,111 @@
+// *Carry out*: the sheet that follows a sheet and moves, written to a lent buffer. Any accepted moves will do, not only ours.
+use moves::Moves;
+use moves::MovesReading;
+use moves::MovesRefusal;
+use sheet::Sheet;
+use sheet::SheetReading;
+use sheet::SheetRefusal;
+use transfer::carry::AfterMoves;
+use words::Written;
+ghost use mathlib.Core.Path.{_≡_};
+ghost use lib.ListN.{length};
+ghost use Rattle.transfer.specs.Carry.{afterMoves};
+ghost use Rattle.carry.specs.Carry.{Read, tableIn, routesIn, countsIn, pairAnswer, pairNext, carryAnswer, nextAfter, numberOf, answerOf};
+
+// Why carrying out is refused, in the order of the checks.
+pub enum CarryRefusal {
+    Sheet(SheetRefusal),
+    Moves(MovesRefusal),
+    NodesDiffer,
+    Sends,
+    Buffer,
+}
+
+// The length in bytes of the sheet that follows, or why there is none.
+pub enum Carrying {
+    Carried(u32),
+    Refused(CarryRefusal),
+}
+
+// The answer in document 01's numbers: 0 or the refusal's, and the length of the sheet that follows, 0 in a refusal.
+#[repr(C)]
+pub struct CarryAnswer {
+    pub refusal: u32,
+    pub bytes: u32,
+}
+
+// The table after the moves, for a sheet and moves that were read, or that some cell sends too much.
+fn table_after(sheet: &[u8], moves: &[u8], s: Sheet, m: Moves) -> AfterMoves
+    requires { ⌜ Read (now sheet) (now moves) s m ⌝ }
+    ensures { λ r. ⌜ r ≡ afterMoves (tableIn (now (sheet .entry))) (routesIn (now (moves .entry))) (countsIn (now (moves .entry))) ⌝ }
+{
+    let e = m.e as usize;
+    let mut routes = [0u32; 4096];
+    words::get_words(moves, 2, e, &mut routes);
+    let mut counts = [0u32; 4096];
+    words::get_words(moves, 2 + e, e, &mut counts);
+    let table = sheet::table::unpack(sheet, s.e as usize);
+    transfer::carry::apply_moves(table, &routes, &counts, e)
+}
+
+// Carries out moves on a sheet, both read.
+fn carry_read(sheet: &[u8], moves: &[u8], s: Sheet, m: Moves, next: &mut [u8]) -> Carrying
+    requires { ⌜ Read (now sheet) (now moves) s m ⌝ }
+    ensures answer { λ r. ⌜ answerOf r ≡ pairAnswer (now (sheet .entry)) (now (moves .entry)) (length (now (next .entry))) ⌝ }
+    ensures bytes { λ _. ⌜ now (next .exit) ≡ pairNext (now (sheet .entry)) (now (moves .entry)) (now (next .entry)) ⌝ }
+{
+    if s.n != m.n {
+        return Carrying::Refused(CarryRefusal::NodesDiffer);
+    }
+    let after = table_after(sheet, moves, s, m);
+    if after.refused {
+        return Carrying::Refused(CarryRefusal::Sends);
+    }
+    match sheet::write::write_sheet(next, s.n, s.t, &after.table) {
+        Written::Bytes(size) => Carrying::Carried(size as u32),
+        Written::Short => Carrying::Refused(CarryRefusal::Buffer),
+    }
+}
+
+// *Carry out*.
+pub fn carry_out(sheet: &[u8], moves: &[u8], next: &mut [u8]) -> Carrying
+    ensures answer { λ r. ⌜ answerOf r ≡ carryAnswer (now (sheet .entry)) (now (moves .entry)) (length (now (next .entry))) ⌝ }
+    ensures bytes { λ _. ⌜ now (next .exit) ≡ nextAfter (now (sheet .entry)) (now (moves .entry)) (now (next .entry)) ⌝ }
+{
+    match sheet::read_sheet(sheet) {
+        SheetReading::Refused(r) => Carrying::Refused(CarryRefusal::Sheet(r)),
+        SheetReading::Accepted(s) => match moves::read_moves(moves) {
+            MovesReading::Refused(r) => Carrying::Refused(CarryRefusal::Moves(r)),
+            MovesReading::Accepted(m) => carry_read(sheet, moves, s, m, next),
+        },
+    }
+}
+
+// Document 01's number of a refusal.
+fn number(r: CarryRefusal) -> u32
+    ensures { λ k. ⌜ k ≡ numberOf r ⌝ }
+{
+    match r {
+        CarryRefusal::Sheet(r) => sheet::number(r),
+        CarryRefusal::Moves(r) => moves::number(r),
+        CarryRefusal::NodesDiffer => 41,
+        CarryRefusal::Sends => 42,
+        CarryRefusal::Buffer => 43,
+    }
+}
+
+// A carrying out in document 01's numbers.
+pub fn answer(c: Carrying) -> CarryAnswer
+    ensures { λ r. ⌜ r ≡ answerOf c ⌝ }
+{
+    match c {
+        Carrying::Carried(bytes) => CarryAnswer {
+            refusal: 0,
+            bytes: bytes,
+        },
+        Carrying::Refused(r) => CarryAnswer {
+            refusal: number(r),
+            bytes: 0,
+        },
+    }
+}
