@@ -20,8 +20,8 @@ use Rattle.sheet.specs.declared.SheetAnswer.{SheetAnswer}
 use Rattle.sheet.specs.Sheet.{readSheet, accepted as sheetAccepted}
 use Rattle.sheet.specs.Table.{tableOf}
 use Rattle.sheet.specs.Write.{sheetBytes}
-use Rattle.sheet.proofs.Accepted.{Accepted as AcceptedSheet, sheet-accepted}
-use Rattle.sheet.proofs.Tables.{table-sum}
+use Rattle.sheet.proofs.Accepted.{Accepted as AcceptedSheet, reading-accepted}
+use Rattle.sheet.proofs.Tables.{table-within}
 use Rattle.sheet.proofs.Filled.{cells-le, length-sheet}
 use Rattle.moves.specs.declared.Moves.{Moves}
 use Rattle.moves.specs.declared.MovesAnswer.{MovesAnswer}
@@ -66,14 +66,14 @@ module _ (xs out ys : List ℕ) (e : ℕ) (l : length xs ≡ e) (q : ys ≡ plac
 
 module _ (s m : List ℕ) (h : Sheet) (q : Moves) (r : Read s m h q) where
   pub sheet-facts : AcceptedSheet s (sheetAccepted (h .n) (h .t) (h .e) (h .p) (h .limit))
-  sheet-facts = rw (r .sheet) (sheet-accepted s (ap (λ (a : SheetAnswer). a .refusal) (sym (r .sheet))))
+  sheet-facts = reading-accepted s h (r .sheet)
 
   pub moves-facts : AcceptedMoves m (movesAccepted (q .n) (q .e))
   moves-facts = rw (r .moves) (moves-accepted m (ap (λ (a : MovesAnswer). a .refusal) (sym (r .moves))))
 
   -- the table's sum does not wrap
   pub sum-within : sum 4096 (at (tableOf s (h .e))) ≤ maxTotal
-  sum-within = omega (arith, table-sum s _ sheet-facts, sheet-facts .sum .within)
+  sum-within = table-within s (sheetAccepted (h .n) (h .t) (h .e) (h .p) (h .limit)) sheet-facts
 
   -- each route is one of 64 × 4,096
   pub route-below : (i : ℕ) → i < q .e → getD (routesOf m (q .e)) i 0 < 262144

@@ -26,8 +26,9 @@ use Rattle.moves.proofs.Accepted.{moves-accepted}
 use Rattle.transfer.specs.Carry.{Acceptable}
 use Rattle.transfer.proofs.Applied.{within-at}
 use Rattle.transfer.proofs.Kept.{acceptable-fine, sum-kept, writable-kept}
+use Rattle.sheet.specs.Table.{tableIn}
 use Rattle.carry.specs.declared.CarryAnswer.{CarryAnswer}
-use Rattle.carry.specs.Carry.{refused, accepted, refuseIf, tableIn, routesIn, countsIn, withinIn, nextTable, nextSheet, pairAnswer, carryAnswer, nextAfter}
+use Rattle.carry.specs.Carry.{refused, accepted, refuseIf, routesIn, countsIn, withinIn, nextTable, nextSheet, pairAnswer, carryAnswer, nextAfter}
 use Rattle.carry.proofs.Carried.{moves-acceptable}
 
 -- ---- accepted: every check passed, so each says its part

@@ -9,7 +9,7 @@ use lib.ListN.{length}
 use Rattle.words.specs.Buffer.{placed}
 use Rattle.sheet.specs.declared.Sheet.{Sheet}
 use Rattle.sheet.specs.Sheet.{readSheet, refusalNumber as sheetNumber, accepted as sheetAccepted}
-use Rattle.sheet.specs.Table.{tableOf}
+use Rattle.sheet.specs.Table.{tableIn}
 use Rattle.sheet.specs.Write.{sheetBytes}
 use Rattle.moves.specs.declared.Moves.{Moves}
 use Rattle.moves.specs.Moves.{readMoves, routesOf, countsOf, refusalNumber as movesNumber, accepted as movesAccepted}
@@ -43,10 +43,6 @@ answerOf (Carried bytes) = accepted bytes
 answerOf (Refused r) = refused (numberOf r)
 
 -- ---- what is carried out, for a sheet s and moves m that are accepted and have the same N
-
--- the sheet's table
-abbrev pub tableIn : List ℕ → List ℕ
-tableIn s = tableOf s (readSheet s .e)
 
 -- the moves' two arrays
 abbrev pub routesIn : List ℕ → List ℕ

@@ -9,8 +9,9 @@ use transfer::carry::AfterMoves;
 use words::Written;
 ghost use mathlib.Core.Path.{_≡_};
 ghost use lib.ListN.{length};
+ghost use Rattle.sheet.specs.Table.{tableIn};
 ghost use Rattle.transfer.specs.Carry.{afterMoves};
-ghost use Rattle.carry.specs.Carry.{Read, tableIn, routesIn, countsIn, pairAnswer, pairNext, carryAnswer, nextAfter, numberOf, answerOf};
+ghost use Rattle.carry.specs.Carry.{Read, routesIn, countsIn, pairAnswer, pairNext, carryAnswer, nextAfter, numberOf, answerOf};
 
 // Why carrying out is refused, in the order of the checks.
 pub enum CarryRefusal {

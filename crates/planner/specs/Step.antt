@@ -10,7 +10,7 @@ use Rattle.words.specs.Words.{padded}
 use Rattle.words.specs.Buffer.{placed}
 use Rattle.sheet.specs.declared.Sheet.{Sheet}
 use Rattle.sheet.specs.Sheet.{readSheet, refusalNumber as sheetNumber, accepted as sheetAccepted}
-use Rattle.sheet.specs.Table.{tableOf}
+use Rattle.sheet.specs.Table.{tableIn}
 use Rattle.plan.specs.Tree.{at}
 use Rattle.plan.specs.Plan.{readPlan, helpandsOf, refusalNumber as planNumber}
 use Rattle.plan.specs.Write.{planBytes}
@@ -80,9 +80,6 @@ abbrev pub oldHelpands : List ℕ → Bool → ℕ → List ℕ
 oldHelpands o tree n = cond tree (padded (helpandsOf o n)) (ownNumbers n)
 
 -- ---- what is decided, for a sheet s and an old plan o that are accepted
-
-abbrev pub tableIn : List ℕ → List ℕ
-tableIn s = tableOf s (readSheet s .e)
 
 unfoldable pub decisionIn : List ℕ → List ℕ → Decision
 decisionIn s o =

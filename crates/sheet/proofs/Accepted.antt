@@ -71,6 +71,11 @@ sheet-accepted s q =
       limit-is = refl;
     })
 
+-- the same of a reading
+pub reading-accepted : (s : List ℕ) (h : Sheet) → accepted (h .n) (h .t) (h .e) (h .p) (h .limit) ≡ readSheet s
+    → Accepted s (accepted (h .n) (h .t) (h .e) (h .p) (h .limit))
+reading-accepted s h e = rw e (sheet-accepted s (ap (λ (a : SheetAnswer). a .refusal) (sym e)))
+
 -- ---- what callers need of an accepted sheet
 
 module _ (s : List ℕ) (a : SheetAnswer) (k : Accepted s a) where

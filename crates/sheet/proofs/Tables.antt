@@ -15,6 +15,7 @@ use Rattle.fold.specs.Sum.{sum, total}
 use Rattle.fold.specs.Rising.{rising}
 use Rattle.fold.proofs.Sums.{sum-set, sum-zeros}
 use Rattle.fold.proofs.Lists.{Rises, rises}
+use Rattle.limit.specs.Limit.{maxTotal}
 use Rattle.sheet.specs.declared.SheetAnswer.{SheetAnswer}
 use Rattle.sheet.specs.Sheet.{cellsOf, countsOf, cellFine}
 use Rattle.sheet.specs.Table.{countAt, stored, zeros, tableOf}
@@ -145,3 +146,7 @@ module _ (s : List ℕ) (a : SheetAnswer) (k : Accepted s a) where
         sum-zeros 4096 (λ c. getD zeros c 0) (λ c l. zeros-at c),
         k .sum .is,
       )
+
+  -- so it does not wrap
+  pub table-within : sum 4096 (λ c. getD (tableOf s (a .e)) c 0) ≤ maxTotal
+  table-within = omega (arith, table-sum, k .sum .within)

@@ -4,7 +4,7 @@ use mathlib.Core.List.{List, [], _∷_}
 use mathlib.Core.Bool.{cond}
 use lib.Dec.{eqb}
 use lib.ListN.{set, replicate}
-use Rattle.sheet.specs.Sheet.{cellsOf, countsOf}
+use Rattle.sheet.specs.Sheet.{cellsOf, countsOf, readSheet}
 
 -- the count that stands beside cell c, and 0 where c is absent
 unfoldable pub countAt : List ℕ → List ℕ → ℕ → ℕ
@@ -26,3 +26,7 @@ zeros = replicate 4096 0
 -- the table of a sheet's bytes with e entries
 unfoldable pub tableOf : List ℕ → ℕ → List ℕ
 tableOf s e = stored zeros (cellsOf s e) (countsOf s e)
+
+-- the table of an accepted sheet
+abbrev pub tableIn : List ℕ → List ℕ
+tableIn s = tableOf s (readSheet s .e)

@@ -22,8 +22,8 @@ use Rattle.sheet.specs.declared.Sheet.{Sheet}
 use Rattle.sheet.specs.declared.SheetAnswer.{SheetAnswer}
 use Rattle.sheet.specs.Sheet.{readSheet, accepted}
 use Rattle.sheet.specs.Table.{tableOf}
-use Rattle.sheet.proofs.Accepted.{Accepted, sheet-accepted}
-use Rattle.sheet.proofs.Tables.{table-sum}
+use Rattle.sheet.proofs.Accepted.{Accepted, reading-accepted}
+use Rattle.sheet.proofs.Tables.{table-within}
 use Rattle.plan.specs.Tree.{at, Tree}
 use Rattle.plan.specs.Plan.{readPlan, helpandsOf}
 use Rattle.plan.proofs.AcceptedTree.{accepted-tree}
@@ -36,11 +36,11 @@ use Rattle.weigh.specs.Weigh.{refused, weighed, leastIn, holdsIn, leastB
 module _ (s p : List ℕ) (h : Sheet) (w : Weighable s p h) where
   -- the sheet's facts
   pub facts : Accepted s (accepted (h .n) (h .t) (h .e) (h .p) (h .limit))
-  facts = rw (w .sheet) (sheet-accepted s (ap (λ (a : SheetAnswer). a .refusal) (sym (w .sheet))))
+  facts = reading-accepted s h (w .sheet)
 
   -- the table's sum does not wrap
   pub sum-within : sum 4096 (at (tableOf s (h .e))) ≤ maxTotal
-  sum-within = omega (arith, table-sum s (accepted (h .n) (h .t) (h .e) (h .p) (h .limit)) facts, facts .sum .within)
+  sum-within = table-within s (accepted (h .n) (h .t) (h .e) (h .p) (h .limit)) facts
 
   -- the plan's helpands are a tree
   pub tree : (r : ℕ) × Tree (h .n) (at (helpandsOf p (h .n))) r

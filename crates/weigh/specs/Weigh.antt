@@ -12,7 +12,7 @@ use Rattle.words.specs.Words.{encode}
 use Rattle.words.specs.Buffer.{placed}
 use Rattle.sheet.specs.declared.Sheet.{Sheet}
 use Rattle.sheet.specs.Sheet.{readSheet, refusalNumber as sheetNumber, accepted as sheetAccepted}
-use Rattle.sheet.specs.Table.{tableOf}
+use Rattle.sheet.specs.Table.{tableIn}
 use Rattle.plan.specs.Tree.{at}
 use Rattle.plan.specs.declared.Plan.{Plan}
 use Rattle.plan.specs.Plan.{readPlan, helpandsOf, refusalNumber as planNumber, accepted as planAccepted}
@@ -49,7 +49,7 @@ answerOf (Refused r) = refused (numberOf r)
 
 -- the totals of the sheet's subdomains
 abbrev pub totalsIn : List ℕ → List ℕ
-totalsIn s = totalsOf (readSheet s .n) (tableOf s (readSheet s .e))
+totalsIn s = totalsOf (readSheet s .n) (tableIn s)
 
 -- "least under the sheet's limit"
 abbrev pub leastIn : List ℕ → List ℕ → ℕ → ℕ

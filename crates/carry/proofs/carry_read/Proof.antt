@@ -10,7 +10,8 @@ use lib.ListN.{length}
 use denote.Ref.{now}
 use Rattle.sheet.specs.Write.{sheetBytes}
 use Rattle.transfer.specs.declared.carry.AfterMoves.{AfterMoves}
-use Rattle.carry.specs.Carry.{tableIn, routesIn, countsIn, withinIn, nextTable, nextSheet, pairAnswer}
+use Rattle.sheet.specs.Table.{tableIn}
+use Rattle.carry.specs.Carry.{routesIn, countsIn, withinIn, nextTable, nextSheet, pairAnswer}
 use Rattle.carry.proofs.Carried.{sheet-facts, pair-differ, pair-sends, after-refused, after-carried, wrote, pair-wrote, pair-unwritten, length-small, refused-both}
 use Rattle.carry.proofs.carry_read.Statement.{statement}
 use Rattle.carry.proofs.carry_read.Tie as tie

@@ -1,0 +1,110 @@
+-- The two records that planning writes: worked out from the arrays in the code, they are those of the definitions. Assumes nothing.
+use mathlib.Core.Path.{_≡_, refl, sym, ap, _∙_}
+use mathlib.Core.Bool.{Bool}
+use mathlib.Core.List.{List, _++_}
+use Prim.Native.Nat.{ℕ, _-_, _*_, _≤_, _<_}
+use native.Mathlib.Nat.{mul-le-mul}
+use native.Mathlib.Omega.{arith}
+use lib.ListN.{length, take, drop}
+use lib.Seq.{take-at, take-all}
+use Rattle.words.specs.Words.{encode}
+use Rattle.words.specs.Buffer.{placed}
+use Rattle.sheet.specs.declared.Sheet.{Sheet}
+use Rattle.sheet.specs.declared.SheetAnswer.{SheetAnswer}
+use Rattle.sheet.proofs.Tables.{length-table}
+use Rattle.plan.specs.Tree.{at}
+use Rattle.moves.specs.Write.{movesWords, movesBytes}
+use Rattle.tree.specs.Totals.{totalsOf}
+use Rattle.transfer.specs.Due.{Allotted}
+use Rattle.transfer.specs.Matching.{allRoutes, allCounts}
+use Rattle.transfer.proofs.Carrying.{Carries, carries-totals}
+use Rattle.decide.specs.declared.Decision.{Decision}
+use Rattle.decide.specs.Decide.{decided}
+use Rattle.planner.specs.declared.StepAnswer.{StepAnswer}
+use Rattle.planner.specs.Step.{decisionIn, planOf, planIn, dueIn, movesOf, movesIn, writtenAnswer, decidedAnswer, after, Read}
+use Rattle.planner.proofs.Facts.{table, totals, old, facts, sum-within, decision, decision-fine}
+
+-- moves at the front of two arrays are written as they are
+moves-front : (n : ℕ) (routes counts a b : List ℕ) → length routes ≡ length counts
+    → movesBytes n (length routes) (placed routes a) (placed counts b) ≡ movesBytes n (length routes) routes counts
+unfolding movesBytes
+moves-front n routes counts a b e =
+    rw (
+      take-at routes (drop (length routes) a) (length routes) refl,
+      take-at counts (drop (length counts) b) (length routes) (sym e),
+      take-all routes (length routes) refl,
+      take-all counts (length routes) (sym e),
+    )
+
+module _ (s o : List ℕ) (h : Sheet) (tree : Bool) (r : Read s o h tree) where
+  abbrev d₀ : Decision
+  d₀ = decisionIn s o
+
+  pub allotted : Allotted (h .n) (at (d₀ .helpands)) (at (totals s o h tree r)) (at (d₀ .shares))
+  allotted = let f = decision-fine s o h tree r in record { inside = f .inside; enough = f .enough }
+
+  -- the moves carry out what is due
+  pub carries-due : Carries (h .n) (table s o h tree r) (dueIn (h .n) (totals s o h tree r) d₀)
+  carries-due =
+      carries-totals (h .n) (table s o h tree r) (totals s o h tree r) (at (d₀ .helpands)) (at (d₀ .shares)) (facts s o h tree r .n-high) (length-table s (h .e))
+      (sum-within s o h tree r) refl allotted
+
+  -- N × (N−1) is at most the size of the arrays
+  pub product-small : h .n * (h .n - 1) ≤ 4096
+  product-small =
+      let l : h .n ≤ 64 = facts s o h tree r .n-high in
+      let m : h .n - 1 ≤ 64 = omega (arith, l) in
+      mul-le-mul l m
+
+  -- what the code works out: a table, totals, old helpands and a decision
+  pub record Here (t u v : List ℕ) (d : Decision) : Type 0 where
+    pub table-is : t ≡ table s o h tree r
+    pub totals-is : u ≡ totalsOf (h .n) t
+    pub old-is : v ≡ old s o h tree r
+    pub decision-is : d ≡ decided (h .n) (h .p) (h .limit) t u tree v
+
+  module _ (t u v : List ℕ) (d : Decision) (k : Here t u v d) where
+    here-totals : u ≡ totals s o h tree r
+    here-totals = k .totals-is ∙ ap (totalsOf (h .n)) (k .table-is)
+
+    here-decision : d ≡ d₀
+    here-decision = k .decision-is ∙ rw (here-totals, k .table-is, k .old-is) (sym (decision s o h tree r))
+
+    pub here-allotted : Allotted (h .n) (at (d .helpands)) (at u) (at (d .shares))
+    here-allotted = rw (here-decision, here-totals) allotted
+
+    abbrev routes : List ℕ
+    routes = allRoutes (h .n) t (dueIn (h .n) u d)
+
+    abbrev counts : List ℕ
+    counts = allCounts (h .n) t (dueIn (h .n) u d)
+
+    here-carries : Carries (h .n) t (dueIn (h .n) u d)
+    here-carries = rw (here-decision, here-totals, k .table-is) carries-due
+
+    pub here-few : length routes ≤ 4096
+    here-few = omega (arith, here-carries .accepted .few, product-small)
+
+    here-plan : planOf (h .n) (h .limit) d ≡ planIn s o
+    unfolding planIn
+    here-plan = rw (← r .sheet, here-decision)
+
+    here-moves : (e : ℕ) (xs ys a b : List ℕ) → e ≡ length routes → xs ≡ placed routes a → ys ≡ placed counts b → movesBytes (h .n) e xs ys ≡ movesIn s o
+    unfolding movesIn movesOf
+    here-moves e xs ys a b i j q =
+        rw (i, j, q) (moves-front (h .n) routes counts a b (here-carries .accepted .same) ∙ rw (← r .sheet, here-decision, here-totals, k .table-is))
+
+    -- so the answer and the buffers are those of the definitions
+    pub here-answers : (e : ℕ) (xs ys a b : List ℕ) → e ≡ length routes → xs ≡ placed routes a → ys ≡ placed counts b
+        → (w : StepAnswer) (p m p₁ m₁ : List ℕ)
+        → (w ≡ writtenAnswer (d .kind) (h .limit) (planOf (h .n) (h .limit) d) (movesBytes (h .n) e xs ys) (length p) (length m))
+            × ((p₁ ≡ after w (planOf (h .n) (h .limit) d) p) × (m₁ ≡ after w (movesBytes (h .n) e xs ys) m))
+        → (w ≡ decidedAnswer s o (length p) (length m)) × ((p₁ ≡ after w (planIn s o) p) × (m₁ ≡ after w (movesIn s o) m))
+    here-answers e xs ys a b i j q w p m p₁ m₁ f =
+        let kinds : d .kind ≡ d₀ .kind = ap (λ (x : Decision). x .kind) here-decision in
+        let limits = ap (λ (x : SheetAnswer). x .limit) (r .sheet) in
+        let moves = here-moves e xs ys a b i j q in
+        (
+          f .0 ∙ rw (kinds, limits) (rw (← limits, here-plan, moves)),
+          (f .1 .0 ∙ rw here-plan, f .1 .1 ∙ rw moves),
+        )
