@@ -1,3 +1,4 @@
 pub mod Ways
 pub mod Facts
 pub mod Records
+pub mod WorkedSteps
