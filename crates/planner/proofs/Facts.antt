@@ -36,10 +36,10 @@ use Rattle.planner.specs.Step.{OldAnswer, oldRefused, oldRead, readOld, 
 -- ---- an old plan with a tree
 
 -- which checks were passed
-record Passed (o : List ℕ) (n : ℕ) : Type 0 where
-  accepted : readPlan o .refusal ≡ 0
-  nodes : readPlan o .n ≡ n
-  kind : readPlan o .kind ≢ 0
+pub record Passed (o : List ℕ) (n : ℕ) : Type 0 where
+  pub accepted : readPlan o .refusal ≡ 0
+  pub nodes : readPlan o .n ≡ n
+  pub kind : readPlan o .kind ≢ 0
 
 pub old-passed : (o : List ℕ) (n : ℕ) → readOld o n ≡ oldRead true → Passed o n
 unfolding readOld

@@ -1,19 +1,20 @@
 -- The two records that planning writes: worked out from the arrays in the code, they are those of the definitions. Assumes nothing.
 use mathlib.Core.Path.{_≡_, refl, sym, ap, _∙_}
-use mathlib.Core.Bool.{Bool}
+use mathlib.Core.Bool.{Bool, true}
 use mathlib.Core.List.{List, _++_}
 use Prim.Native.Nat.{ℕ, _-_, _*_, _≤_, _<_}
 use native.Mathlib.Nat.{mul-le-mul}
 use native.Mathlib.Omega.{arith}
-use lib.ListN.{length, take, drop}
-use lib.Seq.{take-at, take-all}
-use Rattle.words.specs.Words.{encode}
+use lib.ListN.{length, take, drop, length-append}
+use lib.Seq.{take-at, take-all, take-length}
+use Rattle.fold.specs.Sum.{sum}
 use Rattle.words.specs.Buffer.{placed}
 use Rattle.sheet.specs.declared.Sheet.{Sheet}
 use Rattle.sheet.specs.declared.SheetAnswer.{SheetAnswer}
+use Rattle.sheet.specs.Sheet.{readSheet}
 use Rattle.sheet.proofs.Tables.{length-table}
-use Rattle.plan.specs.Tree.{at}
-use Rattle.moves.specs.Write.{movesWords, movesBytes}
+use Rattle.plan.specs.Tree.{at, helpandsBelow, Tree}
+use Rattle.moves.specs.Write.{movesBytes}
 use Rattle.tree.specs.Totals.{totalsOf}
 use Rattle.transfer.specs.Due.{Allotted}
 use Rattle.transfer.specs.Matching.{allRoutes, allCounts}
@@ -22,7 +23,7 @@ use Rattle.decide.specs.declared.Decision.{Decision}
 use Rattle.decide.specs.Decide.{decided}
 use Rattle.planner.specs.declared.StepAnswer.{StepAnswer}
 use Rattle.planner.specs.Step.{decisionIn, planOf, planIn, dueIn, movesOf, movesIn, writtenAnswer, decidedAnswer, after, Read}
-use Rattle.planner.proofs.Facts.{table, totals, old, facts, sum-within, decision, decision-fine}
+use Rattle.planner.proofs.Facts.{table, totals, old, facts, sum-within, given, decision, decision-fine}
 
 -- moves at the front of two arrays are written as they are
 moves-front : (n : ℕ) (routes counts a b : List ℕ) → length routes ≡ length counts
@@ -32,8 +33,8 @@ moves-front n routes counts a b e =
     rw (
       take-at routes (drop (length routes) a) (length routes) refl,
       take-at counts (drop (length counts) b) (length routes) (sym e),
-      take-all routes (length routes) refl,
-      take-all counts (length routes) (sym e),
+      take-length routes,
+      take-all (length routes) counts (omega (arith, e)),
     )
 
 module _ (s o : List ℕ) (h : Sheet) (tree : Bool) (r : Read s o h tree) where
@@ -56,7 +57,14 @@ module _ (s o : List ℕ) (h : Sheet) (tree : Bool) (r : Read s o h tree) where
       let m : h .n - 1 ≤ 64 = omega (arith, l) in
       mul-le-mul l m
 
-  -- what the code works out: a table, totals, old helpands and a decision
+  -- what the code works out before it decides
+  pub before-deciding : (t u v : List ℕ) → t ≡ table s o h tree r → u ≡ totalsOf (h .n) t → v ≡ old s o h tree r
+      → (sum (h .n) (at u) ≡ h .p) × (helpandsBelow (h .n) (at v) ≡ true) × (tree ≡ true → (root : ℕ) × Tree (h .n) (at v) root)
+  before-deciding t u v e f i =
+      let g = given s o h tree r in
+      (rw (f, e) (g .adds), rw i (g .below), rw i (g .rooted))
+
+  -- and then: a table, totals, old helpands and a decision
   pub record Here (t u v : List ℕ) (d : Decision) : Type 0 where
     pub table-is : t ≡ table s o h tree r
     pub totals-is : u ≡ totalsOf (h .n) t
@@ -85,6 +93,13 @@ module _ (s o : List ℕ) (h : Sheet) (tree : Bool) (r : Read s o h tree) where
     pub here-few : length routes ≤ 4096
     here-few = omega (arith, here-carries .accepted .few, product-small)
 
+    -- the arrays have the moves at their front
+    pub here-long : (e : ℕ) (xs ys a b : List ℕ) → e ≡ length routes → xs ≡ placed routes a → ys ≡ placed counts b → (e ≤ length xs) × (e ≤ length ys)
+    here-long e xs ys a b i j q = (
+      omega (arith, ap length j, length-append routes (drop (length routes) a)),
+      omega (arith, ap length q, length-append counts (drop (length counts) b), here-carries .accepted .same),
+    )
+
     here-plan : planOf (h .n) (h .limit) d ≡ planIn s o
     unfolding planIn
     here-plan = rw (← r .sheet, here-decision)
@@ -98,13 +113,16 @@ module _ (s o : List ℕ) (h : Sheet) (tree : Bool) (r : Read s o h tree) where
     pub here-answers : (e : ℕ) (xs ys a b : List ℕ) → e ≡ length routes → xs ≡ placed routes a → ys ≡ placed counts b
         → (w : StepAnswer) (p m p₁ m₁ : List ℕ)
         → (w ≡ writtenAnswer (d .kind) (h .limit) (planOf (h .n) (h .limit) d) (movesBytes (h .n) e xs ys) (length p) (length m))
-            × ((p₁ ≡ after w (planOf (h .n) (h .limit) d) p) × (m₁ ≡ after w (movesBytes (h .n) e xs ys) m))
+        × ((p₁ ≡ after w (planOf (h .n) (h .limit) d) p) × (m₁ ≡ after w (movesBytes (h .n) e xs ys) m))
         → (w ≡ decidedAnswer s o (length p) (length m)) × ((p₁ ≡ after w (planIn s o) p) × (m₁ ≡ after w (movesIn s o) m))
     here-answers e xs ys a b i j q w p m p₁ m₁ f =
         let kinds : d .kind ≡ d₀ .kind = ap (λ (x : Decision). x .kind) here-decision in
         let limits = ap (λ (x : SheetAnswer). x .limit) (r .sheet) in
-        let moves = here-moves e xs ys a b i j q in
-        (
-          f .0 ∙ rw (kinds, limits) (rw (← limits, here-plan, moves)),
-          (f .1 .0 ∙ rw here-plan, f .1 .1 ∙ rw moves),
+        let moves = here-moves e xs ys a b i j q in (
+          f .0
+              ∙ ap (λ (k : ℕ). writtenAnswer k (h .limit) (planOf (h .n) (h .limit) d) (movesBytes (h .n) e xs ys) (length p) (length m)) kinds
+              ∙ ap (λ (l : ℕ). writtenAnswer (d₀ .kind) l (planOf (h .n) (h .limit) d) (movesBytes (h .n) e xs ys) (length p) (length m)) limits
+              ∙ ap (λ (x : List ℕ). writtenAnswer (d₀ .kind) (readSheet s .limit) x (movesBytes (h .n) e xs ys) (length p) (length m)) here-plan
+              ∙ ap (λ (x : List ℕ). writtenAnswer (d₀ .kind) (readSheet s .limit) (planIn s o) x (length p) (length m)) moves,
+          (f .1 .0 ∙ ap (λ (x : List ℕ). after w x p) here-plan, f .1 .1 ∙ ap (λ (x : List ℕ). after w x m) moves),
         )
