@@ -1,5 +1,5 @@
 -- One law for each way that the checks can go: of the old plan, of the two buffers, and of the sheet. Assumes nothing.
-use mathlib.Core.Path.{_≡_, refl, sym, ap, _∙_}
+use mathlib.Core.Path.{_≡_, refl, ap, _∙_}
 use mathlib.Core.Logic.{_≢_}
 use mathlib.Core.Bool.{Bool, true, false}
 use mathlib.Core.List.{List}
@@ -8,12 +8,18 @@ use native.Mathlib.Omega.{arith}
 use borrow.Author.Tests.{lt-ltb, le-ltb, eq-eqb, ne-eqb}
 use lib.ListN.{length}
 use Rattle.words.specs.Buffer.{placed}
-use Rattle.sheet.specs.declared.SheetAnswer.{SheetAnswer}
-use Rattle.sheet.specs.Sheet.{readSheet}
-use Rattle.plan.specs.declared.Plan.{Plan}
+use Rattle.sheet.specs.declared.SheetRefusal.{SheetRefusal}
+use Rattle.sheet.specs.declared.SheetReading.{SheetReading}
+use Rattle.sheet.specs.declared.SheetReading.the-variants.{Refused}
+use Rattle.sheet.specs.Sheet.{readSheet, answerOf as sheetAnswer}
+use Rattle.sheet.proofs.Answers.{number-more as sheet-more}
+use Rattle.plan.proofs.Answers.{number-more as plan-more}
+use Rattle.plan.specs.declared.Plan as read
 use Rattle.plan.specs.Plan.{readPlan, accepted}
 use Rattle.planner.specs.declared.StepAnswer.{StepAnswer}
-use Rattle.planner.specs.Step.{refused, planned, oldRefused, oldRead, readOld, writtenAnswer, decidedAnswer, stepAnswer, after}
+use Rattle.planner.specs.declared.StepRefusal.{StepRefusal}
+use Rattle.planner.specs.declared.StepRefusal.the-variants.{Sheet, Plan, NodesDiffer, PlanBuffer, MovesBuffer}
+use Rattle.planner.specs.Step.{refused, planned, numberOf, oldRefused, oldRead, readOld, writtenAnswer, decidedAnswer, stepAnswer, after}
 
 -- ---- the old plan
 
@@ -27,7 +33,7 @@ module _ (o : List ℕ) (n : ℕ) where
     unfolding readOld
     old-refused k e d = rw (ne-eqb (length o) 0 full, ← e, ne-eqb k 0 d)
 
-    module _ (p : Plan) (r : accepted (p .n) (p .kind) (p .limit) ≡ readPlan o) where
+    module _ (p : read.Plan) (r : accepted (p .n) (p .kind) (p .limit) ≡ readPlan o) where
       pub old-differs : p .n ≢ n → oldRefused 21 ≡ readOld o n
       unfolding readOld
       old-differs d = rw (ne-eqb (length o) 0 full, ← r, ne-eqb (p .n) n d)
@@ -39,6 +45,18 @@ module _ (o : List ℕ) (n : ℕ) where
       pub old-tree : p .n ≡ n → p .kind ≢ 0 → oldRead true ≡ readOld o n
       unfolding readOld
       old-tree e d = rw (ne-eqb (length o) 0 full, ← r, eq-eqb (p .n) n e, ne-eqb (p .kind) 0 d)
+
+-- no refusal has the number 0
+pub number-more : (r : StepRefusal) → numberOf r ≢ 0
+number-more (Sheet r) z = omega (arith, sheet-more r)
+number-more (Plan r) z = omega (arith, plan-more r)
+number-more NodesDiffer z = omega arith
+number-more PlanBuffer z = omega arith
+number-more MovesBuffer z = omega arith
+
+-- nor that of a sheet
+pub refusal-more : (x : SheetReading) (r : SheetRefusal) → x ≡ Refused r → sheetAnswer x .refusal ≢ 0
+refusal-more x r e z = omega (arith, sheet-more r, ap (λ (y : SheetReading). sheetAnswer y .refusal) e)
 
 -- ---- the two buffers
 
@@ -82,6 +100,18 @@ module _ (s o : List ℕ) (a b : ℕ) where
     unfolding stepAnswer
     step-decided tree e = rw (← z, ← m, ← e)
 
--- a refusal leaves a buffer as it was
-pub refused-after : (k : ℕ) (rec out : List ℕ) → k ≢ 0 → out ≡ after (refused k) rec out
-refused-after k rec out d = rw (ne-eqb k 0 d)
+-- ---- the answer with both buffers
+
+module _ (a : StepAnswer) (plan moves p m : List ℕ) where
+  -- the answer a, and both buffers as they are then
+  abbrev pub Answers : StepAnswer → List ℕ → List ℕ → Type 0
+  Answers w p₁ m₁ = (w ≡ a) × ((p₁ ≡ after a plan p) × (m₁ ≡ after a moves m))
+
+  -- a refusal leaves both as they were
+  pub answers-refused : (w : StepAnswer) (k : ℕ) → w ≡ refused k → k ≢ 0 → refused k ≡ a → Answers w p m
+  answers-refused w k f d e = (f ∙ e, (rw (← e, ne-eqb k 0 d), rw (← e, ne-eqb k 0 d)))
+
+  pub answers-decided : (w b : StepAnswer) (p₁ m₁ : List ℕ) → b ≡ a → (w ≡ b) × ((p₁ ≡ after w plan p) × (m₁ ≡ after w moves m)) → Answers w p₁ m₁
+  answers-decided w b p₁ m₁ e f =
+      let q : w ≡ a = f .0 ∙ e in
+      (q, (f .1 .0 ∙ ap (λ (x : StepAnswer). after x plan p) q, f .1 .1 ∙ ap (λ (x : StepAnswer). after x moves m) q))
