@@ -1,12 +1,26 @@
 //! The archive under test: its C declarations, and a safe function for each.
 #![allow(unsafe_code)]
 
-use crate::answers::{MovesAnswer, PlanAnswer, SheetAnswer};
+use crate::answers::{MovesAnswer, PartAnswer, PlanAnswer, SheetAnswer, WeighedAnswer};
 
 extern "C" {
     fn firrozka_read_sheet(sheet: *const u8, len: usize) -> SheetAnswer;
     fn firrozka_read_plan(plan: *const u8, len: usize) -> PlanAnswer;
     fn firrozka_read_moves(moves: *const u8, len: usize) -> MovesAnswer;
+    fn firrozka_weigh(
+        sheet: *const u8,
+        sheet_len: usize,
+        plan: *const u8,
+        plan_len: usize,
+        least: *mut u8,
+        least_len: usize,
+    ) -> WeighedAnswer;
+    fn firrozka_tree_in_force(
+        old: *const u8,
+        old_len: usize,
+        new: *const u8,
+        new_len: usize,
+    ) -> PartAnswer;
 }
 
 /// *Read sheet*, as the archive does it.
@@ -25,4 +39,26 @@ pub fn read_plan(plan: &[u8]) -> PlanAnswer {
 pub fn read_moves(moves: &[u8]) -> MovesAnswer {
     // SAFETY: pointer and length are those of a slice that outlives the call.
     unsafe { firrozka_read_moves(moves.as_ptr(), moves.len()) }
+}
+
+/// *Weigh*, as the archive does it.
+pub fn weigh(sheet: &[u8], plan: &[u8], least: &mut [u8]) -> WeighedAnswer {
+    // SAFETY: pointers and lengths are those of slices that outlive the call,
+    // and nobody else has the one that is written.
+    unsafe {
+        firrozka_weigh(
+            sheet.as_ptr(),
+            sheet.len(),
+            plan.as_ptr(),
+            plan.len(),
+            least.as_mut_ptr(),
+            least.len(),
+        )
+    }
+}
+
+/// *Tree in force*, as the archive does it.
+pub fn tree_in_force(old: &[u8], new: &[u8]) -> PartAnswer {
+    // SAFETY: pointers and lengths are those of slices that outlive the call.
+    unsafe { firrozka_tree_in_force(old.as_ptr(), old.len(), new.as_ptr(), new.len()) }
 }

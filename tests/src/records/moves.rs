@@ -16,6 +16,11 @@ pub fn moves(n: u32, routes: &[u32], counts: &[u32]) -> Record {
     Record::new(1, &[n, routes.len() as u32], routes, counts)
 }
 
+/// Moves from the bytes of valid ones.
+pub fn of(bytes: &[u8]) -> Record {
+    Record::of(1, 2, bytes)
+}
+
 /// Some valid moves.
 pub fn build(random: &mut Random) -> Record {
     let n = nodes(random);

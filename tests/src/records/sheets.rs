@@ -15,6 +15,11 @@ pub fn sheet(n: u32, t: u32, cells: &[u32], counts: &[u32]) -> Record {
     Record::new(2, &[n, t, cells.len() as u32], cells, counts)
 }
 
+/// A sheet from the bytes of a valid one.
+pub fn of(bytes: &[u8]) -> Record {
+    Record::of(2, 3, bytes)
+}
+
 /// Some valid sheet.
 pub fn build(random: &mut Random) -> Record {
     let n = nodes(random);

@@ -46,11 +46,17 @@ pub enum Size {
     Small,
     /// N is 64, with few cells for so many nodes.
     Wide,
+    /// This N, which is 2 or more; cells from none to all.
+    Of(u32),
 }
 
 /// The step at this index of the run with this seed.
 pub fn at(seed: u64, index: u64, size: Size) -> Step {
-    let random = &mut Random::at(seed, index);
+    some(size, &mut Random::at(seed, index))
+}
+
+/// Some step.
+pub fn some(size: Size, random: &mut Random) -> Step {
     match random.below(12) {
         0 | 1 => scattered(size, random),
         2 => level(size, random),

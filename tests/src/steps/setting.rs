@@ -22,6 +22,7 @@ impl Setting {
             Size::Any => nodes(random),
             Size::Small => random.between(1, 8),
             Size::Wide => 64,
+            Size::Of(n) => n,
         };
         let (low, high) = (*TOLERANCE.start(), *TOLERANCE.end());
         let any = random.between(low, high);
