@@ -42,7 +42,7 @@ pub struct Operation {
     /// How many buffers it is lent.
     pub buffers: usize,
     /// The operation, done by someone: the words of the answer.
-    pub answer: fn(&Operations, [&[u8]; 2], [&mut [u8]; 2]) -> Vec<u32>,
+    pub answer: Answering,
     /// How long the buffers have to be.
     pub needed: fn(&[u8], &[u8]) -> [usize; 2],
     /// Every check on its own.
@@ -54,6 +54,9 @@ pub struct Operation {
     /// What accepted calls have to have come by, in a run.
     pub corners: &'static [Corner],
 }
+
+/// Someone, the records, the buffers; what is not lent has length 0.
+pub type Answering = fn(&Operations, [&[u8]; 2], [&mut [u8]; 2]) -> Vec<u32>;
 
 /// Whether an accepted call and the answer to it are of some sort.
 pub type Corner = (&'static str, fn(&Call, &[u32]) -> bool);
