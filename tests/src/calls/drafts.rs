@@ -55,7 +55,7 @@ const MORE_ROOMS: [[Room; 2]; 4] = [
 ];
 
 impl Draft {
-    fn new(first: Record, second: Record) -> Draft {
+    pub fn new(first: Record, second: Record) -> Draft {
         Draft {
             records: [first, second],
             rooms: [Room::Exact; 2],
@@ -224,7 +224,7 @@ fn some_step(random: &mut Random) -> Step {
 }
 
 /// The old plan of a step. Where there is none, a small one cut to nothing.
-fn plan_or_none(old: &[u8]) -> Record {
+pub fn plan_or_none(old: &[u8]) -> Record {
     if !old.is_empty() {
         return plans::of(old);
     }
