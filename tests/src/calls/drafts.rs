@@ -216,7 +216,7 @@ pub fn tree_in_force(random: &mut Random) -> Draft {
 fn some_step(random: &mut Random) -> Step {
     let size = match random.below(24) {
         0..=2 => Size::Any,
-        3 | 4 => Size::Wide,
+        3 | 4 => Size::Few(64),
         5 => Size::Of(64),
         _ => Size::Small,
     };

@@ -44,10 +44,10 @@ pub enum Size {
     Any,
     /// N from 1 to 8.
     Small,
-    /// N is 64, with few cells for so many nodes.
-    Wide,
     /// This N, which is 2 or more; cells from none to all.
     Of(u32),
+    /// This N, which is 2 or more; few cells for so many nodes.
+    Few(u32),
 }
 
 /// The step at this index of the run with this seed.
