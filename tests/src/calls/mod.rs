@@ -51,7 +51,7 @@ pub struct Operation {
     pub agrees: fn(&[u32], &[u32]) -> bool,
     /// Some call that is mostly accepted.
     pub build: fn(&mut Random) -> Draft,
-    /// What accepted calls have to have come by, in a run.
+    /// What a run has to meet among accepted calls: `EVERYWHERE`, and this.
     pub corners: &'static [Corner],
 }
 
@@ -60,6 +60,13 @@ pub type Answering = fn(&Operations, [&[u8]; 2], [&mut [u8]; 2]) -> Vec<u32>;
 
 /// Whether an accepted call and the answer to it are of some sort.
 pub type Corner = (&'static str, fn(&Call, &[u32]) -> bool);
+
+/// What every run has to meet.
+pub const EVERYWHERE: [Corner; 3] = [
+    ("N 2", |call, _| first_word(call) == 2),
+    ("N 63", |call, _| first_word(call) == 63),
+    ("N 64", |call, _| first_word(call) == 64),
+];
 
 pub const WEIGH: Operation = Operation {
     name: "weigh",
@@ -77,9 +84,6 @@ pub const WEIGH: Operation = Operation {
     agrees: is_first,
     build: drafts::weigh,
     corners: &[
-        ("N 2", |call, _| first_word(call) == 2),
-        ("N 63", |call, _| first_word(call) == 63),
-        ("N 64", |call, _| first_word(call) == 64),
         ("4,096 cells", has_all_cells),
         ("a tree that holds", |_, answer| answer[1] == 1),
         ("one that does not", |_, answer| answer[1] == 0),
@@ -111,9 +115,6 @@ pub const PLAN_STEP: Operation = Operation {
     build: drafts::plan_step,
     corners: &[
         ("N 1", |call, _| first_word(call) == 1),
-        ("N 2", |call, _| first_word(call) == 2),
-        ("N 63", |call, _| first_word(call) == 63),
-        ("N 64", |call, _| first_word(call) == 64),
         ("4,096 cells", has_all_cells),
         ("no old plan", |call, _| call.records[1].is_empty()),
         ("kind 0", |_, answer| answer[1] == 0),
@@ -140,9 +141,6 @@ pub const CARRY_OUT: Operation = Operation {
     build: drafts::carry_out,
     corners: &[
         ("N 1", |call, _| first_word(call) == 1),
-        ("N 2", |call, _| first_word(call) == 2),
-        ("N 63", |call, _| first_word(call) == 63),
-        ("N 64", |call, _| first_word(call) == 64),
         ("4,096 cells", has_all_cells),
         ("no moves", |call, _| call.records[1].len() == 8),
         ("hundreds of moves", |call, _| call.records[1].len() > 2_000),
@@ -170,8 +168,6 @@ pub const TREE_IN_FORCE: Operation = Operation {
     build: drafts::tree_in_force,
     corners: &[
         ("N 1", |call, _| first_word(call) == 1),
-        ("N 2", |call, _| first_word(call) == 2),
-        ("N 64", |call, _| first_word(call) == 64),
         ("the old plan's", |_, answer| answer[0] == 1),
         ("the new plan's", |_, answer| answer[0] == 2),
     ],
@@ -179,6 +175,13 @@ pub const TREE_IN_FORCE: Operation = Operation {
 
 /// All four.
 pub const OPERATIONS: [&Operation; 4] = [&WEIGH, &PLAN_STEP, &CARRY_OUT, &TREE_IN_FORCE];
+
+impl Operation {
+    /// All that a run has to meet among accepted calls.
+    pub fn corners(&self) -> impl Iterator<Item = &Corner> {
+        EVERYWHERE.iter().chain(self.corners)
+    }
+}
 
 /// "Checks run in the order written", so the first fault is the answer. "A
 /// refusal's other values are all 0".

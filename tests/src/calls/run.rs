@@ -31,7 +31,7 @@ impl Operation {
         let wanted = wanted(self.numbers, &self.pairs());
         let mut met = Met {
             coverage: Coverage::default(),
-            corners: vec![0; self.corners.len()],
+            corners: vec![0; self.corners().count()],
             calls: 0,
         };
         for index in 0..FOR_EACH * wanted.len() + rounds {
@@ -98,7 +98,7 @@ impl Operation {
 
     /// What a run should have met and has not.
     pub fn gaps(&self, met: &Met) -> Vec<String> {
-        let corners = self.corners.iter().zip(&met.corners);
+        let corners = self.corners().zip(&met.corners);
         let unmet = corners.filter(|(_, &times)| times == 0);
         let unmet = unmet.map(|((what, _), _)| format!("no call with {what}"));
         let gaps = met.coverage.gaps(self.numbers, &self.pairs());
@@ -111,7 +111,7 @@ impl Met {
         self.calls += TIMES;
         self.coverage.note(&checked.faults);
         if checked.faults.is_empty() {
-            for ((_, is_met), times) in operation.corners.iter().zip(&mut self.corners) {
+            for ((_, is_met), times) in operation.corners().zip(&mut self.corners) {
                 *times += usize::from(is_met(call, &checked.answer));
             }
         }

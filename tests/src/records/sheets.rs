@@ -86,14 +86,10 @@ fn too_many_cells(record: &mut Record, random: &mut Random) {
 
 /// A cell that does not rise or names no node. Takes an entry.
 fn bad_cell(record: &mut Record, random: &mut Random) {
-    if record.entries() == 0 {
+    let Some(at) = spoil::some_entry(record, random) else {
         return;
-    }
+    };
     let n = record.words[0];
-    let any = random.place(record.entries());
-    let last = record.entries() - 1;
-    // At the end a higher cell still rises, so nothing else is wrong.
-    let at = random.one_of(&[any, last, last]);
     let (holder, subdomain) = (record.first()[at] / 64, record.first()[at] % 64);
     match random.below(4) {
         0 => spoil::stop_rising(record.first(), random),
