@@ -270,8 +270,8 @@ fn allowed(sheet: &mut Record, random: &mut Random) -> Record {
     listed(n, sends)
 }
 
-/// Has some cell send one particle more than it has, or far more, to one node
-/// or to several. Takes two nodes.
+/// Has some cell send one particle more than it has, to one node or to several.
+/// Takes two nodes.
 fn send_too_much(sheet: &mut Record, record: &mut Record, random: &mut Random) {
     let n = sheet.words[0];
     if !(2..=64).contains(&n) {
@@ -279,24 +279,26 @@ fn send_too_much(sheet: &mut Record, record: &mut Record, random: &mut Random) {
     }
     let held: BTreeMap<u32, u32> = pairs(sheet).collect();
     let absent = sheets::cell(random.below(n), random.below(n));
-    let present: Vec<u32> = held.keys().copied().chain([absent]).collect();
-    let cell = random.one_of(&present);
-    let has = held.get(&cell).copied().unwrap_or(0);
+    let cells: Vec<u32> = held.keys().copied().chain([absent]).collect();
+    let cell = random.one_of(&cells);
     let (holder, subdomain) = (cell / 64, cell % 64);
-    let is_of_cell = |route: u32| (route / 4096, route / 64 % 64) == (subdomain, holder);
-    let mut sends: BTreeMap<u32, u32> = pairs(record)
-        .filter(|&(route, _)| !is_of_cell(route))
-        .collect();
-    let mut left = has + 1;
-    let several = random.one_of(&[1, 2, 5]);
-    for receiver in (0..n).filter(|&node| node != holder).take(several) {
-        let part = random.between(1, left.max(1)).max(1);
-        sends.insert(moves::route(subdomain, holder, receiver), part);
-        left = left.saturating_sub(part);
-    }
-    // What is left goes with the last one.
-    if let Some((_, count)) = sends.iter_mut().rev().find(|(&route, _)| is_of_cell(route)) {
-        *count += left;
+    let is_other =
+        |&(route, _): &(u32, u32)| (route / 4096, route / 64 % 64) != (subdomain, holder);
+    let mut sends: BTreeMap<u32, u32> = pairs(record).filter(is_other).collect();
+    let others = (0..n).filter(|&node| node != holder);
+    let receivers = others.take(random.one_of(&[1, 2, 5])).enumerate();
+    let mut left = held.get(&cell).map_or(1, |count| count.saturating_add(1));
+    for (at, receiver) in receivers.collect::<Vec<_>>().into_iter().rev() {
+        // The first one gets what is left.
+        let part = if at == 0 {
+            left
+        } else {
+            random.between(0, left)
+        };
+        if part > 0 {
+            sends.insert(moves::route(subdomain, holder, receiver), part);
+        }
+        left -= part;
     }
     *record = listed(n, sends);
 }
