@@ -1,7 +1,9 @@
 //! The archive under test: its C declarations, and a safe function for each.
 #![allow(unsafe_code)]
 
-use crate::answers::{MovesAnswer, PartAnswer, PlanAnswer, SheetAnswer, WeighedAnswer};
+use crate::answers::{
+    MovesAnswer, PartAnswer, PlanAnswer, SheetAnswer, StepAnswer, WeighedAnswer, WrittenAnswer,
+};
 
 extern "C" {
     fn firrozka_read_sheet(sheet: *const u8, len: usize) -> SheetAnswer;
@@ -15,6 +17,24 @@ extern "C" {
         least: *mut u8,
         least_len: usize,
     ) -> WeighedAnswer;
+    fn firrozka_plan_step(
+        sheet: *const u8,
+        sheet_len: usize,
+        old: *const u8,
+        old_len: usize,
+        plan: *mut u8,
+        plan_len: usize,
+        moves: *mut u8,
+        moves_len: usize,
+    ) -> StepAnswer;
+    fn firrozka_carry_out(
+        sheet: *const u8,
+        sheet_len: usize,
+        moves: *const u8,
+        moves_len: usize,
+        next: *mut u8,
+        next_len: usize,
+    ) -> WrittenAnswer;
     fn firrozka_tree_in_force(
         old: *const u8,
         old_len: usize,
@@ -53,6 +73,40 @@ pub fn weigh(sheet: &[u8], plan: &[u8], least: &mut [u8]) -> WeighedAnswer {
             plan.len(),
             least.as_mut_ptr(),
             least.len(),
+        )
+    }
+}
+
+/// *Plan a step*, as the archive does it.
+pub fn plan_step(sheet: &[u8], old: &[u8], plan: &mut [u8], moves: &mut [u8]) -> StepAnswer {
+    // SAFETY: pointers and lengths are those of slices that outlive the call,
+    // and nobody else has the two that are written.
+    unsafe {
+        firrozka_plan_step(
+            sheet.as_ptr(),
+            sheet.len(),
+            old.as_ptr(),
+            old.len(),
+            plan.as_mut_ptr(),
+            plan.len(),
+            moves.as_mut_ptr(),
+            moves.len(),
+        )
+    }
+}
+
+/// *Carry out*, as the archive does it.
+pub fn carry_out(sheet: &[u8], moves: &[u8], next: &mut [u8]) -> WrittenAnswer {
+    // SAFETY: pointers and lengths are those of slices that outlive the call,
+    // and nobody else has the one that is written.
+    unsafe {
+        firrozka_carry_out(
+            sheet.as_ptr(),
+            sheet.len(),
+            moves.as_ptr(),
+            moves.len(),
+            next.as_mut_ptr(),
+            next.len(),
         )
     }
 }

@@ -39,12 +39,12 @@ pub const REFERENCE: Operations = Operations {
     tree_in_force: reference::tree_in_force,
 };
 
-/// The archive. It has neither *plan a step* nor *carry out* as yet.
+/// The archive.
 pub const ARCHIVE: Operations = Operations {
     name: "the archive",
     weigh: boundary::weigh,
-    plan_step: reference::plan_step,
-    carry_out: reference::carry_out,
+    plan_step: boundary::plan_step,
+    carry_out: boundary::carry_out,
     tree_in_force: boundary::tree_in_force,
 };
 
