@@ -1,6 +1,7 @@
 /* Firrozka: the load balance of a particle simulation, decided with machine-checked proof.
  *
- * The library keeps no state and takes no memory of its own. Every function takes any bytes of any length and returns.
+ * The library keeps no state and takes no memory of its own. Every function takes any bytes of any length and returns. A buffer to
+ * write to lies apart from the records to read.
  * An answer carries 0 or a refusal number (docs/FORMATS.md lists them), and the values named; in a refusal these are all 0. */
 #ifndef FIRROZKA_H
 #define FIRROZKA_H
@@ -29,6 +30,21 @@ struct firrozka_moves {
     uint32_t refusal, n, e;
 };
 struct firrozka_moves firrozka_read_moves(const uint8_t *moves, size_t moves_len);
+
+/* Weigh: writes N words, the least of each node in the plan's tree under the sheet's limit, to the first 4N bytes of the buffer, and
+ * says whether the tree holds, 1 or 0. Refused: the sheet's; the plan's; 21, 24, 25. The buffer is then untouched. */
+struct firrozka_weighed {
+    uint32_t refusal, holds;
+};
+struct firrozka_weighed firrozka_weigh(const uint8_t *sheet, size_t sheet_len, const uint8_t *plan, size_t plan_len,
+                                       uint8_t *least, size_t least_len);
+
+/* Tree in force: the stretch of helpands that holds after a step, so many bytes from start on. Source 1 is the old plan, 2 the new.
+ * Nothing is copied. The length is 0 when there is none. */
+struct firrozka_part {
+    uint32_t source, start, length;
+};
+struct firrozka_part firrozka_tree_in_force(const uint8_t *old_plan, size_t old_len, const uint8_t *new_plan, size_t new_len);
 
 #ifdef __cplusplus
 }

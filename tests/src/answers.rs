@@ -5,7 +5,7 @@
 
 use std::fmt::Debug;
 
-/// What every answer has.
+/// What the answer of every reader has.
 pub trait Answer: Copy + Debug + PartialEq {
     /// 0, or the refusal number.
     fn refusal(&self) -> u32;
@@ -103,38 +103,14 @@ impl PartAnswer {
     }
 }
 
-impl Answer for SheetAnswer {
-    fn refusal(&self) -> u32 {
-        self.refusal
-    }
+macro_rules! answers {
+    ($($answer:ty),*) => {
+        $(impl Answer for $answer {
+            fn refusal(&self) -> u32 {
+                self.refusal
+            }
+        })*
+    };
 }
 
-impl Answer for PlanAnswer {
-    fn refusal(&self) -> u32 {
-        self.refusal
-    }
-}
-
-impl Answer for MovesAnswer {
-    fn refusal(&self) -> u32 {
-        self.refusal
-    }
-}
-
-impl Answer for WeighedAnswer {
-    fn refusal(&self) -> u32 {
-        self.refusal
-    }
-}
-
-impl Answer for StepAnswer {
-    fn refusal(&self) -> u32 {
-        self.refusal
-    }
-}
-
-impl Answer for WrittenAnswer {
-    fn refusal(&self) -> u32 {
-        self.refusal
-    }
-}
+answers!(SheetAnswer, PlanAnswer, MovesAnswer);

@@ -1,53 +1,75 @@
 //! The input and the expected output of a program that the gate runs: the steps
-//! worked by hand, one step for each refusal, and random steps.
+//! worked by hand, one step for each refusal, random steps, and one step of the
+//! largest size.
+//!
+//! The input has one case after the other, to its end. A case is a word, low
+//! byte first, with the number of bytes that follow; and these bytes, which are
+//! what the bench program would be given: a sheet, followed at once by an old
+//! plan or nothing. No case has more than `MOST_BYTES`.
+//!
+//! The output is what the bench program prints for each case, one after the
+//! other, with nothing between them.
 
 use crate::bench_text::{bench, text};
+use crate::operations::{PLAN_BYTES, SHEET_BYTES};
+use crate::records::sheets;
 use crate::steps::{self, Size, Step};
 use crate::{refused, worked};
+
+/// The longest case, without its length: the longest sheet and the longest plan.
+pub const MOST_BYTES: usize = SHEET_BYTES + PLAN_BYTES;
 
 /// Two files.
 #[derive(Default)]
 pub struct Cases {
-    /// Each case: the sheet's length, the old plan's length, both as words, low
-    /// byte first; the sheet's bytes; the old plan's bytes.
     pub stdin: Vec<u8>,
-    /// For each case what the bench program prints, and an empty line.
     pub stdout: String,
 }
 
-/// All cases: A to K, then the refusals, then `count` random steps.
+/// All cases: A to K, then the refusals, then `count` random steps, then the
+/// largest.
 pub fn all(seed: u64, count: u64) -> Cases {
     let worked = worked::all().into_iter().map(|(_, step)| step);
     let refused = refused::all().into_iter().map(|(_, step)| step);
     let random = (0..count).map(|index| steps::at(seed, index, size(index)));
     let mut cases = Cases::default();
-    for step in worked.chain(refused).chain(random) {
+    for step in worked.chain(refused).chain(random).chain([largest()]) {
         cases.add(&step);
     }
     cases
 }
 
-/// Mostly small steps; one in fifteen has 64 nodes.
+/// Mostly small steps; one in fifteen has 64 nodes, and one in fifteen some
+/// number between.
 fn size(index: u64) -> Size {
     match index % 15 {
-        0 => Size::Wide,
+        0 => Size::Few(64),
+        5 => Size::Few(9 + index as u32 * 7 % 55),
         _ => Size::Small,
+    }
+}
+
+/// 64 nodes, each of which holds some of every subdomain, and an old chain that
+/// is kept: the longest records that there are.
+fn largest() -> Step {
+    let cells: Vec<u32> = (0..4_096).collect();
+    let crowded = |cell: u32| if cell % 64 == 7 { 12 } else { 10 };
+    let counts: Vec<u32> = cells.iter().map(|&cell| crowded(cell)).collect();
+    let chain: Vec<u32> = (0..64u32).map(|node| node.saturating_sub(1)).collect();
+    Step {
+        sheet: sheets::sheet(64, 10, &cells, &counts).bytes(),
+        old: worked::old(&chain),
     }
 }
 
 impl Cases {
     fn add(&mut self, step: &Step) {
+        let case = [&step.sheet[..], &step.old[..]].concat();
         let text = text(&step.sheet, &step.old);
-        // The lengths in the file and the bench program's own way to find the
-        // sheet's end must not disagree.
-        assert_eq!(text, bench(&[&step.sheet[..], &step.old[..]].concat()));
-        for part in [&step.sheet, &step.old] {
-            let length = part.len() as u32;
-            self.stdin.extend(length.to_le_bytes());
-        }
-        self.stdin.extend(&step.sheet);
-        self.stdin.extend(&step.old);
+        // The bench program finds the sheet's end itself.
+        assert_eq!(text, bench(&case));
+        self.stdin.extend((case.len() as u32).to_le_bytes());
+        self.stdin.extend(case);
         self.stdout += &text;
-        self.stdout += "\n";
     }
 }

@@ -2,11 +2,9 @@
 //! the archive against the second implementation, from several addresses.
 
 use crate::answers::Answer;
+use crate::guarded::Guarded;
 use crate::readers::Reader;
 use std::hint::black_box;
-
-/// Bytes on either side of an input that nobody may write.
-const GUARD: usize = 16;
 
 /// Compares all answers to one input. Gives its faults, or what is wrong.
 pub fn check<A: Answer>(reader: &Reader<A>, bytes: &[u8]) -> Result<Vec<u32>, String> {
@@ -44,22 +42,12 @@ fn exact<A>(tested: fn(&[u8]) -> A, bytes: &[u8]) -> Result<A, String> {
     Ok(answer)
 }
 
-/// The answer from an address `offset` bytes past a multiple of 4, with guard
-/// bytes before and behind.
+/// The answer from guarded memory.
 fn guarded<A>(tested: fn(&[u8]) -> A, bytes: &[u8], offset: usize, guard: u8) -> Result<A, String> {
-    let mut memory = vec![guard; GUARD + 3 + bytes.len() + GUARD];
-    let past = (memory.as_ptr() as usize + GUARD) % 4;
-    let start = GUARD + (4 + offset - past) % 4;
-    let end = start + bytes.len();
-    memory[start..end].copy_from_slice(bytes);
-    let answer = tested(&memory[start..end]);
-    let memory = black_box(memory);
-    if memory[start..end] != *bytes {
-        return Err("the input was written".into());
-    }
-    let mut guards = memory[..start].iter().chain(&memory[end..]);
-    if guards.any(|&byte| byte != guard) {
-        return Err("memory beside the input was written".into());
-    }
+    let memory = Guarded::new(bytes, offset, guard);
+    let answer = tested(memory.lent());
+    memory
+        .check(bytes)
+        .map_err(|wrong| format!("the input: {wrong}"))?;
     Ok(answer)
 }

@@ -3,7 +3,6 @@
 //! answer, and whoever checks b before a answers otherwise.
 
 use crate::faults::IMPOSSIBLE;
-use crate::readers::Reader;
 use std::collections::BTreeMap;
 use std::fmt;
 
@@ -26,11 +25,11 @@ impl Coverage {
         }
     }
 
-    /// What should have come up and did not, and what came up and cannot.
-    pub fn gaps<A>(&self, reader: &Reader<A>) -> Vec<String> {
-        let numbers = std::iter::once(0).chain(reader.refusals.clone());
+    /// Which of these numbers and pairs did not come up, and what came up and
+    /// cannot.
+    pub fn gaps(&self, numbers: &[u32], pairs: &[(u32, u32)]) -> Vec<String> {
+        let numbers = std::iter::once(&0).chain(numbers);
         let unmet = numbers.filter(|number| !self.refusals.contains_key(number));
-        let pairs = reader.pairs();
         let unpaired = pairs.iter().filter(|pair| !self.pairs.contains_key(pair));
         let wrong = IMPOSSIBLE.iter();
         let wrong = wrong.filter(|(a, b, _)| self.pairs.contains_key(&(*a, *b)));

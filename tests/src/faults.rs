@@ -8,9 +8,18 @@
 use crate::bounds::{MOST_LIMIT, MOST_PARTICLES, NODES, TOLERANCE};
 use crate::records::to_words;
 
-/// The pairs of faults that no record can have together, with the reason.
-/// All other pairs of one reader can occur, and a run has to meet them.
-pub const IMPOSSIBLE: [(u32, u32, &str); 12] = [
+/// The refusal numbers of *read sheet*.
+pub const OF_SHEET: [u32; 7] = [1, 2, 3, 4, 5, 6, 7];
+
+/// The refusal numbers of *read plan*.
+pub const OF_PLAN: [u32; 8] = [11, 12, 13, 14, 15, 16, 17, 18];
+
+/// The refusal numbers of *read moves*.
+pub const OF_MOVES: [u32; 6] = [31, 32, 33, 34, 35, 36];
+
+/// The pairs of faults that cannot come together, with the reason. All other
+/// pairs of one operation can, and a run has to meet them.
+pub const IMPOSSIBLE: [(u32, u32, &str); 14] = [
     (1, 4, "E ends at byte 12"),
     (1, 5, "E, from which the length follows, ends at byte 12"),
     (1, 6, "the first cell begins at byte 12"),
@@ -23,11 +32,16 @@ pub const IMPOSSIBLE: [(u32, u32, &str); 12] = [
     (31, 34, "E, from which the length follows, ends at byte 8"),
     (31, 35, "the first route begins at byte 8"),
     (31, 36, "the counts begin at byte 8 or later"),
+    (13, 24, "kind 0 goes with any N"),
+    (31, 42, "no send ends before byte 16"),
 ];
 
-/// Whether some record can have both faults, `a` and `b` of one reader.
-pub fn can_meet(a: u32, b: u32) -> bool {
-    !IMPOSSIBLE.iter().any(|&(x, y, _)| (x, y) == (a, b))
+/// The pairs of these faults that can come together, the smaller first.
+pub fn pairs(numbers: &[u32]) -> Vec<(u32, u32)> {
+    let above = |&a: &u32| numbers.iter().map(move |&b| (a, b));
+    let pairs = numbers.iter().flat_map(above).filter(|(a, b)| a < b);
+    let impossible = |&(a, b): &(u32, u32)| IMPOSSIBLE.iter().any(|&(x, y, _)| (x, y) == (a, b));
+    pairs.filter(|pair| !impossible(pair)).collect()
 }
 
 /// The faults of a sheet, rising.
@@ -95,18 +109,18 @@ pub fn moves(bytes: &[u8]) -> Vec<u32> {
 }
 
 /// The numbers whose condition holds.
-fn holding(checks: &[(u32, bool)]) -> Vec<u32> {
+pub fn holding(checks: &[(u32, bool)]) -> Vec<u32> {
     let held = checks.iter().filter(|(_, holds)| *holds);
     held.map(|&(number, _)| number).collect()
 }
 
 /// The word at this place, if it is there.
-fn number(words: &[u32], index: usize) -> Option<u64> {
+pub fn number(words: &[u32], index: usize) -> Option<u64> {
     words.get(index).map(|&word| u64::from(word))
 }
 
 /// `count` words from `from` on, as far as they are there.
-fn stretch(words: &[u32], from: u64, count: u64) -> &[u32] {
+pub fn stretch(words: &[u32], from: u64, count: u64) -> &[u32] {
     let there = words.len() as u64;
     &words[from.min(there) as usize..(from + count).min(there) as usize]
 }

@@ -1,9 +1,10 @@
 //! Which input stands at which index of a run. First come the inputs with
 //! wanted faults, so that a run of any length meets them all; then mixed ones.
 
+use crate::faults;
 use crate::random::Random;
 use crate::readers::Reader;
-use crate::records::damage::{damage, random_sizes, scribble, some_bytes};
+use crate::records::damage::{damage, muddle, some_bytes};
 
 /// How many inputs a run has for each fault and each pair of faults.
 const FOR_EACH: usize = 100;
@@ -17,7 +18,7 @@ pub struct Inputs<'a, A> {
 
 impl<'a, A> Inputs<'a, A> {
     pub fn new(reader: &'a Reader<A>, seed: u64) -> Inputs<'a, A> {
-        let wanted = reader.fault_lists();
+        let wanted = wanted(reader.refusals, &faults::pairs(reader.refusals));
         Inputs {
             reader,
             seed,
@@ -40,21 +41,37 @@ impl<'a, A> Inputs<'a, A> {
     }
 }
 
-/// A record whose first fault is the first one asked for, and which has the
-/// others too. Faults can hide each other, so it may take some attempts.
+/// No fault, every fault, and every pair.
+pub fn wanted(numbers: &[u32], pairs: &[(u32, u32)]) -> Vec<Vec<u32>> {
+    let none = std::iter::once(Vec::new());
+    let alone = numbers.iter().map(|&fault| vec![fault]);
+    let pairs = pairs.iter().map(|&(a, b)| vec![a, b]);
+    none.chain(alone).chain(pairs).collect()
+}
+
+/// What the first attempt gives whose first fault is the first one wanted, and
+/// which has the others too. Faults can hide each other, so it may take some.
+pub fn first_with<T>(wanted: &[u32], mut attempt: impl FnMut() -> (T, Vec<u32>)) -> T {
+    let suits = |found: &[u32]| {
+        found.first() == wanted.first() && wanted.iter().all(|fault| found.contains(fault))
+    };
+    let mut attempts = (0..10_000).map(|_| attempt());
+    let found = attempts.find(|(_, faults)| suits(faults));
+    found
+        .unwrap_or_else(|| panic!("no input with faults {wanted:?} came up"))
+        .0
+}
+
 fn with_faults<A>(reader: &Reader<A>, faults: &[u32], random: &mut Random) -> Vec<u8> {
-    for _ in 0..1_000 {
+    first_with(faults, || {
         let mut record = (reader.build)(random);
         for &fault in faults {
             (reader.spoil)(&mut record, fault, random);
         }
         let bytes = record.bytes();
         let found = (reader.faults)(&bytes);
-        if found.first() == faults.first() && faults.iter().all(|fault| found.contains(fault)) {
-            return bytes;
-        }
-    }
-    panic!("{}: no record with faults {faults:?} came up", reader.name);
+        (bytes, found)
+    })
 }
 
 /// Some record: whole, damaged, spoilt, or never one.
@@ -62,20 +79,13 @@ fn mixed<A>(reader: &Reader<A>, random: &mut Random) -> Vec<u8> {
     let mut record = (reader.build)(random);
     match random.below(20) {
         0..=5 => (),
-        6..=10 => damage(&mut record, random),
-        11..=12 => {
-            damage(&mut record, random);
-            damage(&mut record, random);
-        }
-        13..=16 => {
-            let fault = random.between(*reader.refusals.start(), *reader.refusals.end());
-            (reader.spoil)(&mut record, fault, random);
+        6..=14 => muddle(&mut record, random),
+        15..=18 => {
+            (reader.spoil)(&mut record, random.one_of(reader.refusals), random);
             if random.chance(1, 4) {
                 damage(&mut record, random);
             }
         }
-        17 => random_sizes(&mut record, random),
-        18 => scribble(&mut record, random),
         _ => {
             let length = random.place(48);
             return some_bytes(length, random);

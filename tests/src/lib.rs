@@ -15,9 +15,11 @@
 //! | `inputs` | which input stands at which index of a run |
 //! | `compare` | one input, all answers |
 //! | `coverage` | which refusals and pairs of faults a run has met |
+//! | `guarded` | bytes with guards before and behind |
 //! | `steps` | seeded whole steps |
 //! | `worked` | the steps that document 01 works by hand |
 //! | `operations` | the operations on more than one record, side by side |
+//! | `calls` | the differential run over these |
 //! | `division` | what a division along a tree is |
 //! | `rival` | whether there is one, found in other ways |
 //! | `demands` | what must hold of a planned step, however it was found |
@@ -29,12 +31,14 @@ pub mod answers;
 pub mod bench_text;
 pub mod boundary;
 pub mod bounds;
+pub mod calls;
 pub mod cases;
 pub mod compare;
 pub mod coverage;
 pub mod demands;
 pub mod division;
 pub mod faults;
+pub mod guarded;
 pub mod inputs;
 pub mod operations;
 pub mod random;

@@ -3,7 +3,7 @@
 
 use crate::answers::{PartAnswer, StepAnswer, WeighedAnswer, WrittenAnswer};
 use crate::bounds::NODES;
-use crate::reference;
+use crate::{boundary, reference};
 
 const MOST_NODES: usize = *NODES.end() as usize;
 
@@ -38,6 +38,18 @@ pub const REFERENCE: Operations = Operations {
     carry_out: reference::carry_out,
     tree_in_force: reference::tree_in_force,
 };
+
+/// The archive.
+pub const ARCHIVE: Operations = Operations {
+    name: "the archive",
+    weigh: boundary::weigh,
+    plan_step: boundary::plan_step,
+    carry_out: boundary::carry_out,
+    tree_in_force: boundary::tree_in_force,
+};
+
+/// All who are tested.
+pub const ALL: [&Operations; 2] = [&REFERENCE, &ARCHIVE];
 
 /// The plan and the moves of a step.
 #[derive(Clone, Debug, PartialEq, Eq)]

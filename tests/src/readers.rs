@@ -5,13 +5,12 @@ use crate::answers::{MovesAnswer, PlanAnswer, SheetAnswer};
 use crate::random::Random;
 use crate::records::{moves, plans, sheets, Record};
 use crate::{boundary, faults, reference};
-use std::ops::RangeInclusive;
 
 /// One reader and all that its tests need.
 pub struct Reader<A> {
     pub name: &'static str,
     /// The refusal numbers that document 01 gives it.
-    pub refusals: RangeInclusive<u32>,
+    pub refusals: &'static [u32],
     /// The archive under test.
     pub tested: fn(&[u8]) -> A,
     /// The second implementation.
@@ -26,7 +25,7 @@ pub struct Reader<A> {
 
 pub const SHEET: Reader<SheetAnswer> = Reader {
     name: "read sheet",
-    refusals: 1..=7,
+    refusals: &faults::OF_SHEET,
     tested: boundary::read_sheet,
     reference: reference::read_sheet,
     faults: faults::sheet,
@@ -36,7 +35,7 @@ pub const SHEET: Reader<SheetAnswer> = Reader {
 
 pub const PLAN: Reader<PlanAnswer> = Reader {
     name: "read plan",
-    refusals: 11..=18,
+    refusals: &faults::OF_PLAN,
     tested: boundary::read_plan,
     reference: reference::read_plan,
     faults: faults::plan,
@@ -46,28 +45,10 @@ pub const PLAN: Reader<PlanAnswer> = Reader {
 
 pub const MOVES: Reader<MovesAnswer> = Reader {
     name: "read moves",
-    refusals: 31..=36,
+    refusals: &faults::OF_MOVES,
     tested: boundary::read_moves,
     reference: reference::read_moves,
     faults: faults::moves,
     build: moves::build,
     spoil: moves::spoil,
 };
-
-impl<A> Reader<A> {
-    /// No fault, every fault, and every pair that can occur, the smaller first.
-    pub fn fault_lists(&self) -> Vec<Vec<u32>> {
-        let none = std::iter::once(Vec::new());
-        let alone = self.refusals.clone().map(|fault| vec![fault]);
-        let pairs = self.pairs().into_iter().map(|(a, b)| vec![a, b]);
-        none.chain(alone).chain(pairs).collect()
-    }
-
-    /// The pairs of faults that can occur together, the smaller first.
-    pub fn pairs(&self) -> Vec<(u32, u32)> {
-        let all = self.refusals.clone();
-        let above = |a| (a + 1..=*self.refusals.end()).map(move |b| (a, b));
-        let pairs = all.flat_map(above);
-        pairs.filter(|&(a, b)| faults::can_meet(a, b)).collect()
-    }
-}

@@ -72,50 +72,61 @@ fn header_refused() {
     }
 }
 
-/// The files taken apart again: each case with its text.
-fn take_apart(cases: &cases::Cases) -> Vec<(Step, String)> {
-    let mut texts = cases.stdout.split_terminator("\n\n");
+/// The files taken apart again: each case with its text, which is all lines up
+/// to the next one that begins a text.
+fn take_apart(cases: &cases::Cases) -> Vec<(Vec<u8>, String)> {
+    let mut texts: Vec<String> = Vec::new();
+    for line in cases.stdout.split_inclusive('\n') {
+        match texts.last_mut() {
+            Some(text) if line.starts_with("node") || line.starts_with("move") => *text += line,
+            _ => texts.push(line.into()),
+        }
+    }
+    let mut texts = texts.into_iter();
     let mut rest = &cases.stdin[..];
     let mut all = Vec::new();
     while !rest.is_empty() {
-        let lengths = firrozka_tests::records::to_words(&rest[..8]);
-        let (sheet, behind) = rest[8..].split_at(lengths[0] as usize);
-        let (old, behind) = behind.split_at(lengths[1] as usize);
+        let length = firrozka_tests::records::to_words(&rest[..4])[0];
+        let (case, behind) = rest[4..].split_at(length as usize);
         rest = behind;
-        let text = texts.next().expect("a text for each case");
-        let (sheet, old) = (sheet.to_vec(), old.to_vec());
-        all.push((Step { sheet, old }, format!("{text}\n")));
+        all.push((case.to_vec(), texts.next().expect("a text for each case")));
     }
     assert_eq!(texts.next(), None);
     all
 }
 
-/// The files hold A to K, all refusals in order, and steps of every kind; each
-/// text is what the bench program prints; they stay small, and the same seed
-/// gives the same files.
+/// The files hold A to K, all refusals in order, and steps of every kind and of
+/// all sizes; each text is what the bench program prints; they stay small, and
+/// the same seed gives the same files.
 #[test]
 fn files() {
     let cases = cases::all(1, 300);
     let all = take_apart(&cases);
-    assert_eq!(all.len(), 11 + 16 + 300);
+    assert_eq!(all.len(), 11 + 16 + 300 + 1);
     assert_eq!(all[3].1, D);
     let numbers = [1, 2, 3, 4, 5, 6, 7, 11, 12, 13, 14, 15, 16, 17, 18, 21];
     for (at, number) in numbers.into_iter().enumerate() {
         assert_eq!(all[11 + at].1, format!("refused {number}\n"));
     }
-    for (step, text) in &all {
-        assert_eq!(&bench(&input(step)), text);
+    for (case, text) in &all {
+        assert_eq!(&bench(case), text);
+        assert!(case.len() <= cases::MOST_BYTES);
     }
-    for kind in 0..=2 {
-        let start = format!("kind {kind} ");
-        let times = all[27..]
+    let with = |part: &str| {
+        all[27..]
             .iter()
-            .filter(|(_, text)| text.starts_with(&start));
-        assert!(times.count() >= 40, "kind {kind}");
+            .filter(|(_, text)| text.contains(part))
+            .count()
+    };
+    for kind in 0..=2 {
+        assert!(with(&format!("kind {kind} ")) >= 40, "kind {kind}");
     }
-    let wide = all.iter().filter(|(_, text)| text.contains("\nnode 63 "));
-    assert!(wide.count() >= 15);
-    assert!(cases.stdin.len() + cases.stdout.len() < 400_000);
+    assert!(with("\nnode 63 ") >= 15);
+    assert!(with("\nnode 9 ") >= 30);
+    let (case, text) = &all[all.len() - 1];
+    assert_eq!(case.len(), cases::MOST_BYTES);
+    assert!(text.starts_with("kind 1 "));
+    assert!(cases.stdin.len() < 200_000 && cases.stdout.len() < 500_000);
     let again = cases::all(1, 300);
     assert!(again.stdin == cases.stdin && again.stdout == cases.stdout);
 }

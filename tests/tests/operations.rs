@@ -3,7 +3,7 @@
 //! bound; and nothing written behind the record.
 
 use firrozka_tests::answers::{PartAnswer, StepAnswer, WeighedAnswer, WrittenAnswer};
-use firrozka_tests::operations::{Operations, REFERENCE};
+use firrozka_tests::operations::ALL;
 use firrozka_tests::records::moves::{moves, route};
 use firrozka_tests::records::plans::plan;
 use firrozka_tests::records::sheets::{cell, sheet};
@@ -12,9 +12,6 @@ use firrozka_tests::steps::{self, Size, Step};
 use firrozka_tests::{refused, worked};
 
 const SEED: u64 = 20_251_115;
-
-/// All who are tested.
-const ALL: [&Operations; 1] = [&REFERENCE];
 
 /// What untouched bytes look like.
 const FILL: u8 = 0xa5;

@@ -7,6 +7,7 @@
 use firrozka_tests::answers::Answer;
 use firrozka_tests::compare::check;
 use firrozka_tests::coverage::Coverage;
+use firrozka_tests::faults::pairs;
 use firrozka_tests::inputs::Inputs;
 use firrozka_tests::readers::{Reader, MOVES, PLAN, SHEET};
 use firrozka_tests::records::shown;
@@ -47,6 +48,6 @@ fn run<A: Answer>(reader: &Reader<A>) {
         }
     }
     println!("{}: {coverage}", reader.name);
-    let gaps = coverage.gaps(reader);
+    let gaps = coverage.gaps(reader.refusals, &pairs(reader.refusals));
     assert!(gaps.is_empty(), "{}: {gaps:#?}", reader.name);
 }

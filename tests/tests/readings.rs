@@ -2,14 +2,11 @@
 //! could read otherwise and that steps A to K leave open.
 
 use firrozka_tests::demands::{judged, Judged};
-use firrozka_tests::operations::{Operations, REFERENCE};
+use firrozka_tests::operations::ALL;
 use firrozka_tests::records::plans::plan;
 use firrozka_tests::records::sheets::{cell, sheet};
 use firrozka_tests::steps::Step;
 use firrozka_tests::worked::{old, own};
-
-/// All who are tested.
-const ALL: [&Operations; 1] = [&REFERENCE];
 
 /// The step leads to this kind, these helpands and these shares.
 fn leads_to<const N: usize>(step: &Step, kind: u32, helpands: [u32; N], shares: [u32; N]) {

@@ -1,8 +1,8 @@
-//! The rival: flow and trying everything agree, and the second implementation's
-//! weighing agrees with both.
+//! The rival: flow and trying everything agree, and weighing and planning agree
+//! with both, in the archive and in the second implementation.
 
 use firrozka_tests::demands::{judged, Judged};
-use firrozka_tests::operations::REFERENCE;
+use firrozka_tests::operations::{Operations, ALL};
 use firrozka_tests::random::Random;
 use firrozka_tests::records::plans::tree;
 use firrozka_tests::reference::{plan, read_sheet};
@@ -13,8 +13,8 @@ use firrozka_tests::worked;
 const SEED: u64 = 20_251_115;
 
 /// What *weigh* writes and says of a step's old tree.
-fn weighed(step: &Step) -> (Vec<u32>, bool) {
-    let weighed = REFERENCE.weighed(&step.sheet, &step.old);
+fn weighed(operations: &Operations, step: &Step) -> (Vec<u32>, bool) {
+    let weighed = operations.weighed(&step.sheet, &step.old);
     weighed.expect("sheet and old tree are accepted")
 }
 
@@ -30,16 +30,20 @@ fn flows(helpands: &[u32], totals: &[u64], rooms: &[u64]) -> bool {
 #[test]
 fn plausible_missteps() {
     let step = worked::own(10, &[27, 39, 34], worked::old(&[0, 0, 1]));
-    assert_eq!(weighed(&step), (vec![27, 37, 34], false));
+    for operations in ALL {
+        let weighed = |step: &Step| weighed(operations, step);
+        assert_eq!(weighed(&step), (vec![27, 37, 34], false));
+        assert_eq!(weighed(&worked::h()), (vec![28, 36, 0], true));
+        assert_eq!(weighed(&worked::i()), (vec![27, 37, 0], false));
+    }
     assert!(!flows(&[0, 0, 1], &[27, 39, 34], &[36; 3]));
-    assert_eq!(weighed(&worked::h()), (vec![28, 36, 0], true));
     assert!(flows(&[0, 0, 1], &[28, 72, 0], &[36; 3]));
-    assert_eq!(weighed(&worked::i()), (vec![27, 37, 0], false));
     assert!(!flows(&[0, 0, 1], &[27, 73, 0], &[36; 3]));
 }
 
 /// Every tree of up to four nodes with few particles: trying all divisions
-/// finds one exactly when the flow does and when the tree holds.
+/// finds one exactly when the flow does, when the tree holds, and when it is
+/// kept where a tree is needed.
 #[test]
 fn every_small_tree() {
     for (n, bound, count) in [(2, 9, 2), (3, 7, 9), (4, 4, 64)] {
@@ -50,14 +54,25 @@ fn every_small_tree() {
             for helpands in &trees {
                 let step = worked::own(1, &counts, worked::old(helpands));
                 let limit = read_sheet(&step.sheet).limit;
+                let needed = counts.iter().any(|&count| count > limit);
                 let rooms = vec![u64::from(limit); n];
                 let found = by_trying(helpands, &totals, &rooms).is_some();
                 let place = format!("{counts:?} along {helpands:?}");
                 assert_eq!(flows(helpands, &totals, &rooms), found, "{place}");
-                assert_eq!(weighed(&step).1, found, "{place}");
+                for operations in ALL {
+                    assert_eq!(weighed(operations, &step).1, found, "{place}");
+                    assert_eq!(keeps(operations, &step), needed && found, "{place}");
+                }
             }
         }
     }
+}
+
+/// Whether the plan written is of kind 1.
+fn keeps(operations: &Operations, step: &Step) -> bool {
+    let planned = operations.planned(&step.sheet, &step.old);
+    let planned = planned.expect("sheet and old tree are accepted");
+    plan::read(&planned.plan).is_ok_and(|plan| plan.kind == 1)
 }
 
 /// All trees of n nodes, as helpands.
@@ -106,10 +121,12 @@ fn leasts() {
     let (mut looked_at, mut of_owners) = (0, 0);
     for index in 0..3_000 {
         let step = steps::at(SEED, index, Size::Small);
-        let judged = judged(&REFERENCE, &step, &format!("step {index}"));
+        let place = format!("step {index}");
+        let [judged, _] = ALL.map(|operations| judged(operations, &step, &place));
         let Some(old) = &judged.old else { continue };
-        let (leasts, holds) = weighed(&step);
-        assert_eq!(holds, judged.rival, "step {index}");
+        let [(leasts, holds), again] = ALL.map(|operations| weighed(operations, &step));
+        assert_eq!((&leasts, holds), (&again.0, again.1), "{place}");
+        assert_eq!(holds, judged.rival, "{place}");
         let leasts: Vec<u64> = leasts.into_iter().map(u64::from).collect();
         for (node, &least) in leasts.iter().enumerate() {
             let branch = branch(&old.helpands, node);

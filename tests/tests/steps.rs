@@ -1,4 +1,4 @@
-//! The second implementation on its own terms, without the archive: the steps
+//! The archive and the second implementation each on its own terms: the steps
 //! worked by hand, and thousands of seeded steps judged by demand 3 and by what
 //! `demands` says of the rules.
 //!
@@ -6,7 +6,7 @@
 //! counts are printed with `-- --nocapture`.
 
 use firrozka_tests::demands::{judged, Judged};
-use firrozka_tests::operations::REFERENCE;
+use firrozka_tests::operations::{Operations, ALL};
 use firrozka_tests::random::Random;
 use firrozka_tests::records::to_words;
 use firrozka_tests::reference::plan::{self, Plan};
@@ -19,7 +19,8 @@ use firrozka_tests::worked;
 
 const SEED: u64 = 20_251_115;
 const STEPS: u64 = 6_000;
-const PAIRS: u64 = 500;
+/// For each N.
+const PAIRS: u64 = 8;
 
 // Steps worked by hand.
 
@@ -29,8 +30,7 @@ fn leads_to<const N: usize>(
     [kind, limit]: [u32; 2],
     helpands: [u32; N],
     shares: [u32; N],
-) -> Judged {
-    let judged = judged(&REFERENCE, &step, "a worked step");
+) -> [Judged; ALL.len()] {
     let expected = Plan {
         n: N as u32,
         kind,
@@ -38,15 +38,19 @@ fn leads_to<const N: usize>(
         helpands: helpands.to_vec(),
         shares: shares.to_vec(),
     };
-    assert_eq!(judged.plan, expected);
-    judged
+    ALL.map(|operations| {
+        let judged = judged(operations, &step, "a worked step");
+        assert_eq!(judged.plan, expected, "{}", operations.name);
+        judged
+    })
 }
 
 /// "A: N 1, E 0: L 0, kind 0, no moves."
 #[test]
 fn step_a() {
-    let judged = leads_to(worked::a(), [0, 0], [0], [0]);
-    assert!(judged.moves.routes.is_empty());
+    for judged in leads_to(worked::a(), [0, 0], [0], [0]) {
+        assert!(judged.moves.routes.is_empty());
+    }
 }
 
 /// "B: t 1, counts 2, 1: L 2, kind 0."
@@ -68,12 +72,14 @@ fn step_c() {
 fn step_d() {
     let step = worked::d();
     assert_eq!(to_words(&step.sheet), [3, 10, 3, 0, 65, 130, 90, 6, 4]);
-    let planned = REFERENCE
-        .planned(&step.sheet, &step.old)
-        .expect("D is accepted");
-    assert_eq!(to_words(&planned.plan), [3, 2, 36, 0, 0, 0, 0, 27, 29]);
-    assert_eq!(to_words(&planned.moves), [3, 2, 1, 2, 27, 29]);
-    assert_eq!(planned.plan, worked::d_plan());
+    for operations in ALL {
+        let planned = operations
+            .planned(&step.sheet, &step.old)
+            .expect("D is accepted");
+        assert_eq!(to_words(&planned.plan), [3, 2, 36, 0, 0, 0, 0, 27, 29]);
+        assert_eq!(to_words(&planned.moves), [3, 2, 1, 2, 27, 29]);
+        assert_eq!(planned.plan, worked::d_plan());
+    }
     leads_to(step, [2, 36], [0, 0, 0], [0, 27, 29]);
 }
 
@@ -81,9 +87,10 @@ fn step_d() {
 /// 0 to 2 in subdomain 2"
 #[test]
 fn step_e() {
-    let judged = leads_to(worked::e(), [1, 36], [0, 0, 0], [0, 27, 29]);
-    assert_eq!(judged.moves.routes, [2 * 64, 2 * 4096 + 2]);
-    assert_eq!(judged.moves.counts, [1, 3]);
+    for judged in leads_to(worked::e(), [1, 36], [0, 0, 0], [0, 27, 29]) {
+        assert_eq!(judged.moves.routes, [2 * 64, 2 * 4096 + 2]);
+        assert_eq!(judged.moves.counts, [1, 3]);
+    }
 }
 
 /// "F: D's plan, 50, 40, 10: helpands 1, 1, 0, shares 7, 0, 23."
@@ -136,11 +143,8 @@ fn seeded_steps() {
     let steps = setting("FIRROZKA_STEPS", STEPS);
     for index in 0..steps {
         let step = steps::at(seed, index, Size::Any);
-        let judged = judged(
-            &REFERENCE,
-            &step,
-            &format!("FIRROZKA_SEED={seed}, step {index}"),
-        );
+        let place = format!("FIRROZKA_SEED={seed}, step {index}");
+        let [judged, _] = ALL.map(|operations| judged(operations, &step, &place));
         kinds[judged.plan.kind as usize] += 1;
         for corner in &mut corners {
             corner.times += u64::from((corner.met)(&judged));
@@ -270,26 +274,31 @@ fn old_depth(step: &Judged) -> Option<usize> {
     (0..step.sheet.n).map(depth).max()
 }
 
-/// One particle decides whether the old tree is kept, and whether one is needed.
+/// One particle decides whether the old tree is kept, and whether one is needed,
+/// at every N. (Of two nodes, one has room for what the other has above L. A
+/// tree breaks only where the helper is above L, and then the owner is below:
+/// one particle less, and no tree is needed.)
 #[test]
 fn pairs_of_steps() {
     let seed = setting("FIRROZKA_SEED", SEED);
-    for index in 0..PAIRS {
+    for (n, index) in (2..=64).flat_map(|n| (0..PAIRS).map(move |index| (n, index))) {
         let random = &mut Random::at(seed, index);
-        let name = format!("FIRROZKA_SEED={seed}, pair {index}");
-        let tree = kinds(&pairs::tree(Size::Any, random), &name);
-        assert_eq!(tree, [1, 2], "{name}");
-        let primary = kinds(&pairs::primary(Size::Any, random), &name);
-        assert!(primary[0] == 0 && primary[1] > 0, "{name}");
+        let name = format!("FIRROZKA_SEED={seed}, N {n}, pair {index}");
+        let primary = pairs::primary(Size::Of(n), random);
+        let tree = (n > 2).then(|| pairs::tree(Size::Of(n), random));
+        for operations in ALL {
+            let primary = kinds(operations, &primary, &name);
+            assert!(primary[0] == 0 && primary[1] > 0, "{name}");
+            if let Some(tree) = &tree {
+                assert_eq!(kinds(operations, tree, &name), [1, 2], "{name}");
+            }
+        }
     }
 }
 
 /// The kinds of both steps, which differ in one particle and nothing else.
-fn kinds(pair: &Pair, name: &str) -> [u32; 2] {
-    let (within, above) = (
-        judged(&REFERENCE, &pair.within, name),
-        judged(&REFERENCE, &pair.above, name),
-    );
+fn kinds(operations: &Operations, pair: &Pair, name: &str) -> [u32; 2] {
+    let [within, above] = [&pair.within, &pair.above].map(|step| judged(operations, step, name));
     let totals = within.totals.iter().zip(&above.totals);
     let apart: u64 = totals.map(|(a, b)| a.abs_diff(*b)).sum();
     assert_eq!(apart, 2, "{name}");
@@ -304,15 +313,13 @@ fn small_steps() {
     let counts = |n: usize| (0..7u32.pow(n as u32)).map(move |k| digits(k, 7, n));
     for n in 1..=3 {
         for counts in counts(n) {
-            judged(
-                &REFERENCE,
-                &worked::own(1, &counts, Vec::new()),
-                "a small step",
-            );
-            for helpands in (0..3u32.pow(n as u32)).map(|k| digits(k, 3, n)) {
-                let old = worked::old(&helpands);
-                if plan::read(&old).is_ok() {
-                    judged(&REFERENCE, &worked::own(1, &counts, old), "a small step");
+            let rows = (0..3u32.pow(n as u32)).map(|k| digits(k, 3, n));
+            let olds = rows.map(|helpands| worked::old(&helpands));
+            let olds = olds.filter(|old| plan::read(old).is_ok());
+            for old in olds.chain([Vec::new()]) {
+                let step = worked::own(1, &counts, old);
+                for operations in ALL {
+                    judged(operations, &step, "a small step");
                 }
             }
         }
@@ -333,10 +340,9 @@ fn written_and_read_back() {
         let sheet = sheet::read(&step.sheet).expect("the sheet is accepted");
         assert_eq!(sheet.bytes(), step.sheet);
         assert_eq!(Table::of(&sheet).sheet(sheet.t), sheet);
-        let planned = REFERENCE
-            .planned(&step.sheet, &step.old)
-            .expect("the step is accepted");
-        for plan in [&planned.plan, &step.old] {
+        let planned = ALL.map(|operations| operations.planned(&step.sheet, &step.old));
+        let plans = planned.map(|planned| planned.expect("the step is accepted").plan);
+        for plan in plans.iter().chain([&step.old]) {
             if !plan.is_empty() {
                 let read = plan::read(plan).expect("the plan is accepted");
                 assert_eq!(&read.bytes(), plan);

@@ -1,12 +1,17 @@
 // The C boundary: the archive libfirrozka.a, whose functions include/firrozka.h declares. Nothing checks what a foreign caller passes,
 // so no function here requires anything. A slice crosses as a pointer and a length.
+use force::PartAnswer;
 use moves::MovesAnswer;
 use plan::PlanAnswer;
 use sheet::SheetAnswer;
+use weigh::WeighAnswer;
 ghost use mathlib.Core.Path.{_≡_};
+ghost use lib.ListN.{length};
 ghost use Rattle.sheet.specs.Sheet.{readSheet};
 ghost use Rattle.plan.specs.Plan.{readPlan};
 ghost use Rattle.moves.specs.Moves.{readMoves};
+ghost use Rattle.weigh.specs.Weigh.{weighAnswer, weighBytes};
+ghost use Rattle.force.specs.Force.{inForce, partOf};
 
 // *Read sheet*.
 #[no_mangle]
@@ -30,4 +35,21 @@ pub extern "C" fn firrozka_read_moves(moves: &[u8]) -> MovesAnswer
     ensures { λ r. ⌜ r ≡ readMoves (now (moves .entry)) ⌝ }
 {
     moves::answer(moves::read_moves(moves))
+}
+
+// *Weigh*.
+#[no_mangle]
+pub extern "C" fn firrozka_weigh(sheet: &[u8], plan: &[u8], least: &mut [u8]) -> WeighAnswer
+    ensures answer { λ r. ⌜ r ≡ weighAnswer (now (sheet .entry)) (now (plan .entry)) (length (now (least .entry))) ⌝ }
+    ensures bytes { λ _. ⌜ now (least .exit) ≡ weighBytes (now (sheet .entry)) (now (plan .entry)) (now (least .entry)) ⌝ }
+{
+    weigh::answer(weigh::weigh(sheet, plan, least))
+}
+
+// *Tree in force*: the stretch by its place, since no reference can be handed back over the boundary.
+#[no_mangle]
+pub extern "C" fn firrozka_tree_in_force(old: &[u8], new: &[u8]) -> PartAnswer
+    ensures { λ r. ⌜ r ≡ partOf (inForce (now (old .entry)) (now (new .entry))) ⌝ }
+{
+    force::part_in_force(old, new)
 }

@@ -19,6 +19,19 @@ const LARGE: [u32; 6] = [
     u32::MAX,
 ];
 
+/// One damage or two, other sizes throughout, or other words throughout.
+pub fn muddle(record: &mut Record, random: &mut Random) {
+    match random.below(9) {
+        0..=4 => damage(record, random),
+        5 | 6 => {
+            damage(record, random);
+            damage(record, random);
+        }
+        7 => random_sizes(record, random),
+        _ => scribble(record, random),
+    }
+}
+
 /// One damage.
 pub fn damage(record: &mut Record, random: &mut Random) {
     let at = some_word(record, random);
@@ -56,7 +69,7 @@ pub fn some_bytes(length: usize, random: &mut Random) -> Vec<u8> {
 }
 
 /// Gives all sizes other values. The arrays stay.
-pub fn random_sizes(record: &mut Record, random: &mut Random) {
+fn random_sizes(record: &mut Record, random: &mut Random) {
     for at in 0..record.head {
         let (small, any) = (random.below(5), random.word());
         let edge = some_edge(random);
@@ -66,7 +79,7 @@ pub fn random_sizes(record: &mut Record, random: &mut Random) {
 
 /// Small sizes, arrays of the length they say, and words that could be
 /// entries: often wrong in one place only.
-pub fn scribble(record: &mut Record, random: &mut Random) {
+fn scribble(record: &mut Record, random: &mut Random) {
     for at in 0..record.head {
         record.words[at] = random.between(0, 4);
     }

@@ -36,12 +36,26 @@ impl Record {
         }
     }
 
+    /// The record that these bytes are: so many words of sizes, one of which
+    /// says how long the arrays are.
+    fn of(size: usize, head: usize, bytes: &[u8]) -> Record {
+        let words = to_words(bytes);
+        let (sizes, arrays) = words.split_at(head);
+        let (first, second) = arrays.split_at(arrays.len() / 2);
+        Record::new(size, sizes, first, second)
+    }
+
     /// The record as an operation gets it.
     pub fn bytes(&self) -> Vec<u8> {
         let mut bytes = to_bytes(&self.words);
         bytes.extend(&self.tail);
         bytes.truncate(self.cut.unwrap_or(bytes.len()));
         bytes
+    }
+
+    /// Whether the record is a plan, whose arrays have N entries.
+    pub fn is_plan(&self) -> bool {
+        self.size == 0
     }
 
     /// How many entries each array has, whatever the sizes say.

@@ -16,6 +16,11 @@ pub fn moves(n: u32, routes: &[u32], counts: &[u32]) -> Record {
     Record::new(1, &[n, routes.len() as u32], routes, counts)
 }
 
+/// Moves from the bytes of valid ones.
+pub fn of(bytes: &[u8]) -> Record {
+    Record::of(1, 2, bytes)
+}
+
 /// Some valid moves.
 pub fn build(random: &mut Random) -> Record {
     let n = nodes(random);
@@ -78,14 +83,10 @@ fn too_many_routes(record: &mut Record, random: &mut Random) {
 
 /// A route that does not rise, names no node, or leads back. Takes an entry.
 fn bad_route(record: &mut Record, random: &mut Random) {
-    if record.entries() == 0 {
+    let Some(at) = spoil::some_entry(record, random) else {
         return;
-    }
+    };
     let n = record.words[0];
-    let any = random.place(record.entries());
-    let last = record.entries() - 1;
-    // At the end a higher route still rises, so nothing else is wrong.
-    let at = random.one_of(&[any, last, last]);
     let old = record.first()[at];
     let (subdomain, sender, receiver) = (old / 4096, old / 64 % 64, old % 64);
     record.first()[at] = match random.below(6) {

@@ -9,6 +9,11 @@ pub fn plan(kind: u32, limit: u32, helpands: &[u32], shares: &[u32]) -> Record {
     Record::new(0, &[helpands.len() as u32, kind, limit], helpands, shares)
 }
 
+/// A plan from the bytes of a valid one.
+pub fn of(bytes: &[u8]) -> Record {
+    Record::of(0, 3, bytes)
+}
+
 /// Some valid plan.
 pub fn build(random: &mut Random) -> Record {
     let n = nodes(random);

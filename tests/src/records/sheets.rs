@@ -15,6 +15,11 @@ pub fn sheet(n: u32, t: u32, cells: &[u32], counts: &[u32]) -> Record {
     Record::new(2, &[n, t, cells.len() as u32], cells, counts)
 }
 
+/// A sheet from the bytes of a valid one.
+pub fn of(bytes: &[u8]) -> Record {
+    Record::of(2, 3, bytes)
+}
+
 /// Some valid sheet.
 pub fn build(random: &mut Random) -> Record {
     let n = nodes(random);
@@ -81,14 +86,10 @@ fn too_many_cells(record: &mut Record, random: &mut Random) {
 
 /// A cell that does not rise or names no node. Takes an entry.
 fn bad_cell(record: &mut Record, random: &mut Random) {
-    if record.entries() == 0 {
+    let Some(at) = spoil::some_entry(record, random) else {
         return;
-    }
+    };
     let n = record.words[0];
-    let any = random.place(record.entries());
-    let last = record.entries() - 1;
-    // At the end a higher cell still rises, so nothing else is wrong.
-    let at = random.one_of(&[any, last, last]);
     let (holder, subdomain) = (record.first()[at] / 64, record.first()[at] % 64);
     match random.below(4) {
         0 => spoil::stop_rising(record.first(), random),

@@ -42,6 +42,14 @@ pub fn change_the_length(record: &mut Record, random: &mut Random) {
     }
 }
 
+/// The place of an entry, if there is one. Often it is the last: there a higher
+/// one still rises, so that nothing else is wrong.
+pub fn some_entry(record: &Record, random: &mut Random) -> Option<usize> {
+    let last = record.entries().checked_sub(1)?;
+    let any = random.place(last + 1);
+    Some(random.one_of(&[any, last, last]))
+}
+
 /// Two neighbours in the wrong order, or equal. Takes two entries.
 pub fn stop_rising(entries: &mut [u32], random: &mut Random) {
     if entries.len() < 2 {

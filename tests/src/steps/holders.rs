@@ -39,7 +39,7 @@ fn holders(
             .chain([random.place(n), random.place(n)])
             .collect(),
         3 => vec![random.place(n)],
-        4 if size != Size::Wide => (0..n).collect(),
+        4 if !matches!(size, Size::Few(_)) => (0..n).collect(),
         _ => (0..random.between(1, 3)).map(|_| random.place(n)).collect(),
     }
 }

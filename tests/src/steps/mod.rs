@@ -44,13 +44,19 @@ pub enum Size {
     Any,
     /// N from 1 to 8.
     Small,
-    /// N is 64, with few cells for so many nodes.
-    Wide,
+    /// This N, which is 2 or more; cells from none to all.
+    Of(u32),
+    /// This N, which is 2 or more; few cells for so many nodes.
+    Few(u32),
 }
 
 /// The step at this index of the run with this seed.
 pub fn at(seed: u64, index: u64, size: Size) -> Step {
-    let random = &mut Random::at(seed, index);
+    some(size, &mut Random::at(seed, index))
+}
+
+/// Some step.
+pub fn some(size: Size, random: &mut Random) -> Step {
     match random.below(12) {
         0 | 1 => scattered(size, random),
         2 => level(size, random),

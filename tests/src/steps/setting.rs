@@ -21,7 +21,7 @@ impl Setting {
         let n = match size {
             Size::Any => nodes(random),
             Size::Small => random.between(1, 8),
-            Size::Wide => 64,
+            Size::Of(n) | Size::Few(n) => n,
         };
         let (low, high) = (*TOLERANCE.start(), *TOLERANCE.end());
         let any = random.between(low, high);

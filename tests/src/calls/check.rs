@@ -1,0 +1,90 @@
+//! One call, all answers: the second implementation against the faults, then
+//! the one under test against the second implementation, answer and buffers,
+//! with guard bytes round all that is lent and noise in the buffers.
+
+use super::{Call, Operation};
+use crate::guarded::Guarded;
+use crate::operations::{Operations, REFERENCE};
+use crate::random::Random;
+
+/// How often the one under test is called for each call.
+pub const TIMES: usize = 2;
+
+/// What a call came to.
+pub struct Checked {
+    pub faults: Vec<u32>,
+    pub answer: Vec<u32>,
+}
+
+/// What an operation answers and leaves in the buffers.
+struct Outcome {
+    answer: Vec<u32>,
+    buffers: [Vec<u8>; 2],
+}
+
+/// Compares all answers to one call. Gives what it came to, or what is wrong.
+pub fn check(operation: &Operation, tested: &Operations, call: &Call) -> Result<Checked, String> {
+    let noise = call.lengths.map(|length| noise(call, length));
+    let faults = (operation.faults)(call);
+    let expected = expected(operation, call, &noise);
+    let answer = &expected.answer;
+    if !(operation.agrees)(answer, &faults) {
+        return Err(format!(
+            "the reference answers {answer:?}, but the faults are {faults:?}"
+        ));
+    }
+    // "A refusal's [...] buffers are untouched."
+    if !faults.is_empty() && expected.buffers != noise {
+        return Err("the reference refuses and writes".into());
+    }
+    // Other guards each time: who reads beside the input may answer otherwise.
+    let places: [(usize, u8); TIMES] = [(1, 0x00), (2, 0xff)];
+    for (offset, guard) in places {
+        compare(operation, tested, call, &noise, &expected, (offset, guard))?;
+    }
+    let answer = expected.answer;
+    Ok(Checked { faults, answer })
+}
+
+/// Bytes that nobody writes by chance, others for other calls.
+fn noise(call: &Call, length: usize) -> Vec<u8> {
+    let [first, second] = &call.records;
+    let random = &mut Random::at(first.len() as u64, second.len() as u64);
+    let words = (0..length.div_ceil(8)).flat_map(|_| random.draw().to_le_bytes());
+    words.take(length).collect()
+}
+
+fn expected(operation: &Operation, call: &Call, noise: &[Vec<u8>; 2]) -> Outcome {
+    let mut buffers = noise.clone();
+    let [first, second] = &call.records;
+    let [a, b] = &mut buffers;
+    let answer = (operation.answer)(&REFERENCE, [first, second], [a, b]);
+    Outcome { answer, buffers }
+}
+
+fn compare(
+    operation: &Operation,
+    tested: &Operations,
+    call: &Call,
+    noise: &[Vec<u8>; 2],
+    expected: &Outcome,
+    (offset, guard): (usize, u8),
+) -> Result<(), String> {
+    let lend = |bytes: &Vec<u8>| Guarded::new(bytes, offset, guard);
+    let [first, second] = [&call.records[0], &call.records[1]].map(lend);
+    let [mut a, mut b] = [&noise[0], &noise[1]].map(lend);
+    let lent = [first.lent(), second.lent()];
+    let answer = (operation.answer)(tested, lent, [a.lent_mut(), b.lent_mut()]);
+    if answer != expected.answer {
+        return Err(format!("expected {:?}, got {answer:?}", expected.answer));
+    }
+    let inputs = [(&first, &call.records[0]), (&second, &call.records[1])];
+    let buffers = [(&a, &expected.buffers[0]), (&b, &expected.buffers[1])];
+    for (what, all) in [("record", inputs), ("buffer", buffers)] {
+        for (at, (memory, bytes)) in all.into_iter().enumerate() {
+            let place = |wrong| format!("{what} {}: {wrong}", at + 1);
+            memory.check(bytes).map_err(place)?;
+        }
+    }
+    Ok(())
+}

@@ -1,0 +1,316 @@
+//! Calls before they become bytes: whole ones for each operation, and each
+//! fault that they can have.
+
+use super::{Call, Operation};
+use crate::operations::REFERENCE;
+use crate::random::Random;
+use crate::records::damage::{damage, muddle};
+use crate::records::{moves, plans, sheets, Record};
+use crate::steps::{self, Size, Step};
+use std::collections::BTreeMap;
+
+/// Two records and the room in two buffers.
+pub struct Draft {
+    pub records: [Record; 2],
+    pub rooms: [Room; 2],
+}
+
+/// How long a buffer is beside what is needed.
+#[derive(Clone, Copy, Debug, PartialEq, Eq)]
+pub enum Room {
+    Empty,
+    OneShort,
+    Exact,
+    OneMore,
+    Long,
+}
+
+impl Room {
+    fn length(self, needed: usize) -> usize {
+        match self {
+            Room::Empty => 0,
+            Room::OneShort => needed - 1,
+            Room::Exact => needed,
+            Room::OneMore => needed + 1,
+            Room::Long => needed + 60,
+        }
+    }
+}
+
+/// All rooms in the first buffer, and with them some in the second.
+const ROOMS: [[Room; 2]; 5] = [
+    [Room::Exact, Room::Exact],
+    [Room::OneMore, Room::Exact],
+    [Room::Long, Room::OneMore],
+    [Room::OneShort, Room::Exact],
+    [Room::Empty, Room::Long],
+];
+
+/// The other ways to have a second buffer too short.
+const MORE_ROOMS: [[Room; 2]; 4] = [
+    [Room::Exact, Room::OneShort],
+    [Room::Long, Room::Empty],
+    [Room::OneShort, Room::OneShort],
+    [Room::Empty, Room::Empty],
+];
+
+impl Draft {
+    pub fn new(first: Record, second: Record) -> Draft {
+        Draft {
+            records: [first, second],
+            rooms: [Room::Exact; 2],
+        }
+    }
+
+    /// The call with the draft's rooms.
+    pub fn call(&self, operation: &Operation) -> Call {
+        self.calls(operation, &[self.rooms]).remove(0)
+    }
+
+    /// The calls with rooms of all sorts.
+    pub fn all_calls(&self, operation: &Operation) -> Vec<Call> {
+        match operation.buffers {
+            0 => self.calls(operation, &ROOMS[..1]),
+            1 => self.calls(operation, &ROOMS),
+            _ => self.calls(operation, &[&ROOMS[..], &MORE_ROOMS].concat()),
+        }
+    }
+
+    fn calls(&self, operation: &Operation, rooms: &[[Room; 2]]) -> Vec<Call> {
+        let records = [self.records[0].bytes(), self.records[1].bytes()];
+        let needed = (operation.needed)(&records[0], &records[1]);
+        let with = |rooms: &[Room; 2]| Call {
+            records: records.clone(),
+            lengths: lengths(rooms, needed),
+            needed,
+        };
+        rooms.iter().map(with).collect()
+    }
+
+    /// Damages a record or two, or brings some faults in, or does nothing.
+    pub fn muddle(&mut self, numbers: &[u32], random: &mut Random) {
+        let at = random.place(2);
+        match random.below(16) {
+            0..=7 => (),
+            8 | 9 => damage(&mut self.records[at], random),
+            10 | 11 => muddle(&mut self.records[at], random),
+            12 => {
+                damage(&mut self.records[0], random);
+                damage(&mut self.records[1], random);
+            }
+            13 | 14 => self.spoil(random.one_of(numbers), random),
+            _ => {
+                self.spoil(random.one_of(numbers), random);
+                self.spoil(random.one_of(numbers), random);
+            }
+        }
+    }
+
+    /// Brings a fault in, as far as the records allow it.
+    pub fn spoil(&mut self, fault: u32, random: &mut Random) {
+        let [first, second] = &mut self.records;
+        let short = random.one_of(&[Room::Empty, Room::OneShort]);
+        match fault {
+            1..=7 => sheets::spoil(first, fault, random),
+            // A plan is mostly the second record, beside a sheet.
+            11..=18 if first.is_plan() => plans::spoil(first, fault, random),
+            11..=18 => plans::spoil(second, fault, random),
+            111..=118 => plans::spoil(second, fault - 100, random),
+            31..=36 => moves::spoil(second, fault, random),
+            21 | 121 => *second = plans::build(random),
+            22 | 25 | 43 => self.rooms[0] = short,
+            23 => self.rooms[1] = short,
+            24 => *second = roots(second.words[0], random),
+            122 => {
+                *first = roots(first.words[0], random);
+                second.words[1] = 1;
+            }
+            123 => *second = tree_plan(1, second.words[0], random),
+            41 => *second = moves::build(random),
+            42 => send_too_much(first, second, random),
+            _ => panic!("{fault} is no fault of a call"),
+        }
+    }
+}
+
+/// A buffer that is not needed has no room.
+fn lengths(rooms: &[Room; 2], needed: [usize; 2]) -> [usize; 2] {
+    [0, 1].map(|at| match needed[at] {
+        0 => 0,
+        needed => rooms[at].length(needed),
+    })
+}
+
+/// Sheet and plan, mostly with a tree of as many nodes.
+pub fn weigh(random: &mut Random) -> Draft {
+    let step = some_step(random);
+    let sheet = sheets::of(&step.sheet);
+    let n = sheet.words[0];
+    let old = plan_or_none(&step.old);
+    let any = random.between(1, 2);
+    match random.below(8) {
+        0 => Draft::new(sheets::build(random), plans::build(random)),
+        _ if old.cut == Some(0) || old.words[1] == 0 => {
+            Draft::new(sheet, tree_plan(any, n, random))
+        }
+        _ => Draft::new(sheet, old),
+    }
+}
+
+/// Sheet and old plan or none, mostly of as many nodes.
+pub fn plan_step(random: &mut Random) -> Draft {
+    match random.below(12) {
+        0 => Draft::new(sheets::build(random), plans::build(random)),
+        1 => Draft::new(sheets::build(random), plan_or_none(&[])),
+        _ => {
+            let step = some_step(random);
+            Draft::new(sheets::of(&step.sheet), plan_or_none(&step.old))
+        }
+    }
+}
+
+/// Sheet and moves: those of a step, others that the sheet allows, or any.
+pub fn carry_out(random: &mut Random) -> Draft {
+    let step = some_step(random);
+    let mut sheet = sheets::of(&step.sheet);
+    match random.below(8) {
+        0 => Draft::new(sheet, moves::build(random)),
+        1..=3 => {
+            let sends = allowed(&mut sheet, random);
+            Draft::new(sheet, sends)
+        }
+        _ => {
+            let planned = REFERENCE.planned(&step.sheet, &step.old);
+            let planned = planned.expect("the step is accepted");
+            Draft::new(sheet, moves::of(&planned.moves))
+        }
+    }
+}
+
+/// Old and new plan: those of a step, or two with the same helpands, or with
+/// others.
+pub fn tree_in_force(random: &mut Random) -> Draft {
+    let old = plans::build(random);
+    let n = old.words[0];
+    let any = random.between(1, 2);
+    match random.below(8) {
+        0 => Draft::new(old, plans::build(random)),
+        1 => Draft::new(old, roots(n, random)),
+        2 => Draft::new(old, tree_plan(any, n, random)),
+        3 | 4 => {
+            let helpands = plans::tree(n, random);
+            let old = plans::over(if n > 1 { any } else { 0 }, &helpands, random);
+            let new = plans::over(u32::from(n > 1), &helpands, random);
+            Draft::new(old, new)
+        }
+        _ => {
+            let step = some_step(random);
+            let planned = REFERENCE.planned(&step.sheet, &step.old);
+            let planned = planned.expect("the step is accepted");
+            Draft::new(plan_or_none(&step.old), plans::of(&planned.plan))
+        }
+    }
+}
+
+/// Mostly a small step.
+fn some_step(random: &mut Random) -> Step {
+    let size = match random.below(24) {
+        0..=2 => Size::Any,
+        3 | 4 => Size::Few(64),
+        5 => Size::Of(64),
+        _ => Size::Small,
+    };
+    steps::some(size, random)
+}
+
+/// The old plan of a step. Where there is none, a small one cut to nothing.
+pub fn plan_or_none(old: &[u8]) -> Record {
+    if !old.is_empty() {
+        return plans::of(old);
+    }
+    let mut none = plans::plan(0, 0, &[0], &[0]);
+    none.cut = Some(0);
+    none
+}
+
+/// Some plan of kind 0.
+fn roots(n: u32, random: &mut Random) -> Record {
+    let roots: Vec<u32> = (0..n.clamp(1, 64)).collect();
+    plans::over(0, &roots, random)
+}
+
+/// Some plan with a tree, unless there is one node only.
+fn tree_plan(kind: u32, n: u32, random: &mut Random) -> Record {
+    match n {
+        2..=64 => plans::over(kind, &plans::tree(n, random), random),
+        _ => roots(n, random),
+    }
+}
+
+/// Moves that a sheet allows: cells send parts of what they have, or all of it,
+/// to one node or more.
+fn allowed(sheet: &mut Record, random: &mut Random) -> Record {
+    let n = sheet.words[0];
+    let mut sends = BTreeMap::new();
+    let (cells, counts) = (sheet.first().to_vec(), sheet.second().to_vec());
+    for (cell, count) in cells.into_iter().zip(counts) {
+        let mut left = count;
+        for _ in 0..random.one_of(&[0, 0, 1, 1, 3]) {
+            let (holder, receiver) = (cell / 64, random.below(n));
+            if receiver != holder && left > 0 {
+                let any = random.between(1, left);
+                let part = random.one_of(&[1, any, left]);
+                *sends
+                    .entry(moves::route(cell % 64, holder, receiver))
+                    .or_insert(0) += part;
+                left -= part;
+            }
+        }
+    }
+    listed(n, sends)
+}
+
+/// Has some cell send one particle more than it has, to one node or to several.
+/// Takes two nodes.
+fn send_too_much(sheet: &mut Record, record: &mut Record, random: &mut Random) {
+    let n = sheet.words[0];
+    if !(2..=64).contains(&n) {
+        return;
+    }
+    let held: BTreeMap<u32, u32> = pairs(sheet).collect();
+    let absent = sheets::cell(random.below(n), random.below(n));
+    let cells: Vec<u32> = held.keys().copied().chain([absent]).collect();
+    let cell = random.one_of(&cells);
+    let (holder, subdomain) = (cell / 64, cell % 64);
+    let is_other =
+        |&(route, _): &(u32, u32)| (route / 4096, route / 64 % 64) != (subdomain, holder);
+    let mut sends: BTreeMap<u32, u32> = pairs(record).filter(is_other).collect();
+    let others = (0..n).filter(|&node| node != holder);
+    let receivers = others.take(random.one_of(&[1, 2, 5])).enumerate();
+    let mut left = held.get(&cell).map_or(1, |count| count.saturating_add(1));
+    for (at, receiver) in receivers.collect::<Vec<_>>().into_iter().rev() {
+        // The first one gets what is left.
+        let part = if at == 0 {
+            left
+        } else {
+            random.between(0, left)
+        };
+        if part > 0 {
+            sends.insert(moves::route(subdomain, holder, receiver), part);
+        }
+        left -= part;
+    }
+    *record = listed(n, sends);
+}
+
+fn pairs(record: &mut Record) -> impl Iterator<Item = (u32, u32)> {
+    let (first, second) = (record.first().to_vec(), record.second().to_vec());
+    first.into_iter().zip(second)
+}
+
+/// The sends as moves, as many as moves can be.
+fn listed(n: u32, sends: BTreeMap<u32, u32>) -> Record {
+    let most = (n * (n - 1)) as usize;
+    let (routes, counts): (Vec<u32>, Vec<u32>) = sends.into_iter().take(most).unzip();
+    moves::moves(n, &routes, &counts)
+}

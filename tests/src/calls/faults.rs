@@ -1,0 +1,104 @@
+//! Every check of an operation looked at on its own, as `crate::faults` does
+//! for the readers. The refusal that document 01 asks for is the smallest
+//! number found, 0 if there is none.
+
+use super::Call;
+use crate::faults::{holding, moves, number, plan, sheet, stretch};
+use crate::records::to_words;
+use std::collections::BTreeMap;
+
+/// "Refused: the sheet's; the plan's; 21, their N differ; 24, kind 0; 25,
+/// buffer under 4N bytes."
+pub fn weigh(call: &Call) -> Vec<u32> {
+    let [first, second] = &call.records;
+    let rest = holding(&[
+        (21, differ(call)),
+        (24, kind(second) == Some(0)),
+        (25, is_short(call, 0)),
+    ]);
+    [sheet(first), plan(second), rest].concat()
+}
+
+/// "Refused: the sheet's; the plan's; 21; 22, plan buffer too short; 23, moves
+/// buffer too short." The old plan "may have length 0".
+pub fn plan_step(call: &Call) -> Vec<u32> {
+    let [first, second] = &call.records;
+    let old = match second.is_empty() {
+        true => Vec::new(),
+        false => plan(second),
+    };
+    let rest = holding(&[
+        (21, differ(call)),
+        (22, is_short(call, 0)),
+        (23, is_short(call, 1)),
+    ]);
+    [sheet(first), old, rest].concat()
+}
+
+/// "Refused: the sheet's; the moves'; 41, N differ; 42, some cell sends in all
+/// more than the old sheet gives it; 43, buffer too short."
+pub fn carry_out(call: &Call) -> Vec<u32> {
+    let [first, second] = &call.records;
+    let rest = holding(&[
+        (41, differ(call)),
+        (42, sends_too_much(first, second)),
+        (43, is_short(call, 0)),
+    ]);
+    [sheet(first), moves(second), rest].concat()
+}
+
+/// "when either is refused, the N differ, or the new kind is 1 and the old is
+/// kind 0 or has other helpands"
+pub fn tree_in_force(call: &Call) -> Vec<u32> {
+    let [old, new] = &call.records;
+    let kept = kind(new) == Some(1);
+    let of_new = plan(new).into_iter().map(|number| 100 + number).collect();
+    let rest = holding(&[
+        (121, differ(call)),
+        (122, kept && kind(old) == Some(0)),
+        (123, kept && helpands(old) != helpands(new)),
+    ]);
+    [plan(old), of_new, rest].concat()
+}
+
+/// Whether both records have N and these differ.
+fn differ(call: &Call) -> bool {
+    let [a, b] = [0, 1].map(|at| number(&to_words(&call.records[at]), 0));
+    a.zip(b).is_some_and(|(a, b)| a != b)
+}
+
+fn kind(plan: &[u8]) -> Option<u64> {
+    number(&to_words(plan), 1)
+}
+
+fn helpands(plan: &[u8]) -> Vec<u32> {
+    let words = to_words(plan);
+    stretch(&words, 3, number(&words, 0).unwrap_or(0)).to_vec()
+}
+
+fn is_short(call: &Call, buffer: usize) -> bool {
+    call.lengths[buffer] < call.needed[buffer]
+}
+
+/// Whether some cell sends more than it has, as far as the words are there.
+fn sends_too_much(sheet: &[u8], moves: &[u8]) -> bool {
+    let held: BTreeMap<u64, u64> = entries(sheet, 3).into_iter().collect();
+    let mut sent: BTreeMap<u64, u64> = BTreeMap::new();
+    for (route, count) in entries(moves, 2) {
+        let (subdomain, sender) = (route / 4096, route / 64 % 64);
+        *sent.entry(sender * 64 + subdomain).or_default() += count;
+    }
+    let has = |cell: u64| held.get(&cell).copied().unwrap_or(0);
+    sent.into_iter().any(|(cell, count)| count > has(cell))
+}
+
+/// The entries of both arrays side by side, behind so many sizes, the last of
+/// which says how many they are.
+fn entries(bytes: &[u8], head: u64) -> Vec<(u64, u64)> {
+    let words = to_words(bytes);
+    let count = number(&words, head as usize - 1).unwrap_or(0);
+    let first = stretch(&words, head, count);
+    let second = stretch(&words, head + count, count);
+    let wide = |(&a, &b): (&u32, &u32)| (u64::from(a), u64::from(b));
+    first.iter().zip(second).map(wide).collect()
+}

@@ -1,0 +1,207 @@
+//! The four operations on two records, seen alike: two records are read, up to
+//! two buffers are lent, and the answer is some words. Then one run serves all.
+//!
+//! | file | what it holds |
+//! |---|---|
+//! | `faults` | every check of an operation looked at on its own |
+//! | `drafts` | calls before they become bytes: whole ones, and ways to spoil them |
+//! | `check` | one call, all answers |
+//! | `run` | which calls stand at which index of a run, and the run |
+
+pub mod check;
+pub mod drafts;
+pub mod faults;
+pub mod run;
+
+use crate::bounds::NODES;
+use crate::faults::number;
+use crate::operations::{Operations, MOVES_BYTES, PLAN_BYTES, REFERENCE, SHEET_BYTES};
+use crate::random::Random;
+use crate::records::to_words;
+use drafts::Draft;
+
+/// What an operation is handed.
+#[derive(Clone, Debug)]
+pub struct Call {
+    /// Two records to read.
+    pub records: [Vec<u8>; 2],
+    /// How long its buffers are; 0 where it takes none.
+    pub lengths: [usize; 2],
+    /// How long they have to be. Where the records are refused, so long as the
+    /// shortest record that could be written.
+    pub needed: [usize; 2],
+}
+
+/// One operation and all that its tests need.
+pub struct Operation {
+    pub name: &'static str,
+    /// What can be wrong, by number, in the order of the checks.
+    pub numbers: &'static [u32],
+    /// Whether answers tell which of two faults comes first.
+    pub ordered: bool,
+    /// How many buffers it is lent.
+    pub buffers: usize,
+    /// The operation, done by someone: the words of the answer.
+    pub answer: Answering,
+    /// How long the buffers have to be.
+    pub needed: fn(&[u8], &[u8]) -> [usize; 2],
+    /// Every check on its own.
+    pub faults: fn(&Call) -> Vec<u32>,
+    /// Whether this answer goes with these faults.
+    pub agrees: fn(&[u32], &[u32]) -> bool,
+    /// Some call that is mostly accepted.
+    pub build: fn(&mut Random) -> Draft,
+    /// What a run has to meet among accepted calls: `EVERYWHERE`, and this.
+    pub corners: &'static [Corner],
+}
+
+/// Someone, the records, the buffers; what is not lent has length 0.
+pub type Answering = fn(&Operations, [&[u8]; 2], [&mut [u8]; 2]) -> Vec<u32>;
+
+/// Whether an accepted call and the answer to it are of some sort.
+pub type Corner = (&'static str, fn(&Call, &[u32]) -> bool);
+
+/// What every run has to meet.
+pub const EVERYWHERE: [Corner; 3] = [
+    ("N 2", |call, _| first_word(call) == 2),
+    ("N 63", |call, _| first_word(call) == 63),
+    ("N 64", |call, _| first_word(call) == 64),
+];
+
+pub const WEIGH: Operation = Operation {
+    name: "weigh",
+    numbers: &[
+        1, 2, 3, 4, 5, 6, 7, 11, 12, 13, 14, 15, 16, 17, 18, 21, 24, 25,
+    ],
+    ordered: true,
+    buffers: 1,
+    answer: |operations, [sheet, plan], [least, _]| {
+        let answer = (operations.weigh)(sheet, plan, least);
+        vec![answer.refusal, answer.holds]
+    },
+    needed: |sheet, _| [4 * nodes(sheet), 0],
+    faults: faults::weigh,
+    agrees: is_first,
+    build: drafts::weigh,
+    corners: &[
+        ("4,096 cells", has_all_cells),
+        ("a tree that holds", |_, answer| answer[1] == 1),
+        ("one that does not", |_, answer| answer[1] == 0),
+    ],
+};
+
+pub const PLAN_STEP: Operation = Operation {
+    name: "plan a step",
+    numbers: &[
+        1, 2, 3, 4, 5, 6, 7, 11, 12, 13, 14, 15, 16, 17, 18, 21, 22, 23,
+    ],
+    ordered: true,
+    buffers: 2,
+    answer: |operations, [sheet, old], [plan, moves]| {
+        let answer = (operations.plan_step)(sheet, old, plan, moves);
+        let lengths = [answer.plan_bytes, answer.moves_bytes];
+        [&[answer.refusal, answer.kind, answer.limit], &lengths[..]].concat()
+    },
+    needed: |sheet, old| {
+        let (plan, moves) = (&mut [0; PLAN_BYTES], &mut [0; MOVES_BYTES]);
+        let answer = (REFERENCE.plan_step)(sheet, old, plan, moves);
+        [
+            4 * (3 + 2 * nodes(sheet)),
+            answer.moves_bytes.max(8) as usize,
+        ]
+    },
+    faults: faults::plan_step,
+    agrees: is_first,
+    build: drafts::plan_step,
+    corners: &[
+        ("N 1", |call, _| first_word(call) == 1),
+        ("4,096 cells", has_all_cells),
+        ("no old plan", |call, _| call.records[1].is_empty()),
+        ("kind 0", |_, answer| answer[1] == 0),
+        ("kind 1", |_, answer| answer[1] == 1),
+        ("kind 2", |_, answer| answer[1] == 2),
+    ],
+};
+
+pub const CARRY_OUT: Operation = Operation {
+    name: "carry out",
+    numbers: &[1, 2, 3, 4, 5, 6, 7, 31, 32, 33, 34, 35, 36, 41, 42, 43],
+    ordered: true,
+    buffers: 1,
+    answer: |operations, [sheet, moves], [next, _]| {
+        let answer = (operations.carry_out)(sheet, moves, next);
+        vec![answer.refusal, answer.bytes]
+    },
+    needed: |sheet, moves| {
+        let answer = (REFERENCE.carry_out)(sheet, moves, &mut [0; SHEET_BYTES]);
+        [answer.bytes.max(12) as usize, 0]
+    },
+    faults: faults::carry_out,
+    agrees: is_first,
+    build: drafts::carry_out,
+    corners: &[
+        ("N 1", |call, _| first_word(call) == 1),
+        ("4,096 cells", has_all_cells),
+        ("no moves", |call, _| call.records[1].len() == 8),
+        ("hundreds of moves", |call, _| call.records[1].len() > 2_000),
+    ],
+};
+
+/// It has no refusals; what leads to the empty stretch has numbers here. Those
+/// of the old plan are *read plan*'s, those of the new plan 100 more, and the
+/// rest is 121, N differ, 122, kind 1 after kind 0, 123, kind 1 with other
+/// helpands.
+pub const TREE_IN_FORCE: Operation = Operation {
+    name: "tree in force",
+    numbers: &[
+        11, 12, 13, 14, 15, 16, 17, 18, 111, 112, 113, 114, 115, 116, 117, 118, 121, 122, 123,
+    ],
+    ordered: false,
+    buffers: 0,
+    answer: |operations, [old, new], _| {
+        let part = (operations.tree_in_force)(old, new);
+        vec![part.source, part.start, part.length]
+    },
+    needed: |_, _| [0, 0],
+    faults: faults::tree_in_force,
+    agrees: |answer, faults| (answer[2] == 0) != faults.is_empty(),
+    build: drafts::tree_in_force,
+    corners: &[
+        ("N 1", |call, _| first_word(call) == 1),
+        ("the old plan's", |_, answer| answer[0] == 1),
+        ("the new plan's", |_, answer| answer[0] == 2),
+    ],
+};
+
+/// All four.
+pub const OPERATIONS: [&Operation; 4] = [&WEIGH, &PLAN_STEP, &CARRY_OUT, &TREE_IN_FORCE];
+
+impl Operation {
+    /// All that a run has to meet among accepted calls.
+    pub fn corners(&self) -> impl Iterator<Item = &Corner> {
+        EVERYWHERE.iter().chain(self.corners)
+    }
+}
+
+/// "Checks run in the order written", so the first fault is the answer. "A
+/// refusal's other values are all 0".
+fn is_first(answer: &[u32], faults: &[u32]) -> bool {
+    let refusal = faults.first().copied().unwrap_or(0);
+    answer[0] == refusal && (refusal == 0 || answer[1..].iter().all(|&value| value == 0))
+}
+
+/// N of a sheet, or the smallest if it has none.
+fn nodes(sheet: &[u8]) -> usize {
+    let n = number(&to_words(sheet), 0);
+    n.filter(|&n| n <= u64::from(*NODES.end()))
+        .unwrap_or(0)
+        .max(1) as usize
+}
+
+fn first_word(call: &Call) -> u32 {
+    to_words(&call.records[0][..4])[0]
+}
+
+fn has_all_cells(call: &Call, _: &[u32]) -> bool {
+    call.records[0].len() == SHEET_BYTES
+}

@@ -1,0 +1,119 @@
+//! Which calls stand at which index of a run, and the run itself. First come
+//! those with wanted faults, so that a run of any length meets them all; then
+//! mixed ones.
+
+use super::check::{check, Checked, TIMES};
+use super::{Call, Operation};
+use crate::coverage::Coverage;
+use crate::faults::pairs;
+use crate::inputs::{first_with, wanted};
+use crate::operations::Operations;
+use crate::random::Random;
+use crate::records::shown;
+
+/// How many calls a run has for each fault and each pair of faults.
+const FOR_EACH: usize = 20;
+
+/// What a run has met.
+pub struct Met {
+    pub coverage: Coverage,
+    /// How often each corner was met by a call that was accepted.
+    pub corners: Vec<usize>,
+    /// How many calls the one under test has answered.
+    pub calls: usize,
+}
+
+impl Operation {
+    /// Compares the answers of the one under test to the calls of a run: all
+    /// wanted ones and `rounds` mixed ones. Gives what was met, or the first
+    /// thing that is wrong.
+    pub fn run(&self, tested: &Operations, seed: u64, rounds: usize) -> Result<Met, String> {
+        let wanted = wanted(self.numbers, &self.pairs());
+        let mut met = Met {
+            coverage: Coverage::default(),
+            corners: vec![0; self.corners().count()],
+            calls: 0,
+        };
+        for index in 0..FOR_EACH * wanted.len() + rounds {
+            let mut random = Random::at(seed, index as u64);
+            let calls = match wanted.get(index / FOR_EACH) {
+                Some(faults) => vec![self.with_faults(faults, &mut random)],
+                None => self.mixed(&mut random),
+            };
+            for call in calls {
+                let place = |wrong| self.place(tested, seed, index, &call, wrong);
+                let checked = check(self, tested, &call).map_err(place)?;
+                met.note(self, &call, &checked);
+            }
+        }
+        Ok(met)
+    }
+
+    /// The pairs of faults whose order can be seen.
+    fn pairs(&self) -> Vec<(u32, u32)> {
+        match self.ordered {
+            true => pairs(self.numbers),
+            false => Vec::new(),
+        }
+    }
+
+    fn with_faults(&self, faults: &[u32], random: &mut Random) -> Call {
+        let mut faults_in_turn = faults.to_vec();
+        first_with(faults, || {
+            let mut draft = (self.build)(random);
+            // Some spoil what others have replaced.
+            random.shuffle(&mut faults_in_turn);
+            for &fault in &faults_in_turn {
+                draft.spoil(fault, random);
+            }
+            let call = draft.call(self);
+            let found = (self.faults)(&call);
+            (call, found)
+        })
+    }
+
+    /// Calls with the same two records and buffers of all lengths.
+    fn mixed(&self, random: &mut Random) -> Vec<Call> {
+        let mut draft = (self.build)(random);
+        draft.muddle(self.numbers, random);
+        draft.all_calls(self)
+    }
+
+    fn place(
+        &self,
+        tested: &Operations,
+        seed: u64,
+        index: usize,
+        call: &Call,
+        wrong: String,
+    ) -> String {
+        let [first, second] = [0, 1].map(|at| shown(&call.records[at]));
+        let (name, lengths) = (self.name, call.lengths);
+        let who = tested.name;
+        format!(
+            "{who}, {name}, FIRROZKA_SEED={seed}, input {index}: {wrong}\n  {first}\n  {second}\n  \
+             buffers of {lengths:?} bytes"
+        )
+    }
+
+    /// What a run should have met and has not.
+    pub fn gaps(&self, met: &Met) -> Vec<String> {
+        let corners = self.corners().zip(&met.corners);
+        let unmet = corners.filter(|(_, &times)| times == 0);
+        let unmet = unmet.map(|((what, _), _)| format!("no call with {what}"));
+        let gaps = met.coverage.gaps(self.numbers, &self.pairs());
+        gaps.into_iter().chain(unmet).collect()
+    }
+}
+
+impl Met {
+    fn note(&mut self, operation: &Operation, call: &Call, checked: &Checked) {
+        self.calls += TIMES;
+        self.coverage.note(&checked.faults);
+        if checked.faults.is_empty() {
+            for ((_, is_met), times) in operation.corners().zip(&mut self.corners) {
+                *times += usize::from(is_met(call, &checked.answer));
+            }
+        }
+    }
+}

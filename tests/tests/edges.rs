@@ -1,0 +1,196 @@
+//! Calls at the edges, gone through one by one: every word of a record off,
+//! every length, 2^32 − 1 everywhere, and the largest records.
+
+use firrozka_tests::calls::check::check;
+use firrozka_tests::calls::drafts::{plan_or_none, Draft};
+use firrozka_tests::calls::{Operation, CARRY_OUT, OPERATIONS};
+use firrozka_tests::operations::{ARCHIVE, REFERENCE};
+use firrozka_tests::records::{moves, plans, sheets, shown, Record};
+use firrozka_tests::steps::Step;
+use firrozka_tests::worked;
+
+const MOST: u32 = 1_000_000_000;
+
+/// The archive answers as it should, whatever the buffers.
+fn expect(operation: &Operation, draft: &Draft) {
+    for call in draft.all_calls(operation) {
+        if let Err(wrong) = check(operation, &ARCHIVE, &call) {
+            let [first, second] = [0, 1].map(|at| shown(&call.records[at]));
+            panic!("{}: {wrong}\n  {first}\n  {second}", operation.name);
+        }
+    }
+}
+
+/// The records that an operation would be handed at a step.
+fn records_of(operation: &Operation, step: &Step) -> [Record; 2] {
+    let planned = REFERENCE.planned(&step.sheet, &step.old);
+    let planned = planned.expect("the step is accepted");
+    let sheet = sheets::of(&step.sheet);
+    let old = plan_or_none(&step.old);
+    match operation.name {
+        "weigh" | "plan a step" => [sheet, old],
+        "carry out" => [sheet, moves::of(&planned.moves)],
+        _ => [old, plans::of(&planned.plan)],
+    }
+}
+
+/// Small calls, most of them accepted.
+fn small(operation: &Operation) -> Vec<[Record; 2]> {
+    let steps = [
+        worked::a(),
+        worked::d(),
+        worked::e(),
+        worked::h(),
+        worked::i(),
+    ];
+    steps
+        .iter()
+        .map(|step| records_of(operation, step))
+        .collect()
+}
+
+/// Each small call with one of its two records changed in every such way.
+fn changed(change: impl Fn(&Operation, [Record; 2], usize)) {
+    for operation in OPERATIONS {
+        for which in [0, 1] {
+            for records in small(operation) {
+                change(operation, records, which);
+            }
+        }
+    }
+}
+
+#[test]
+fn every_word() {
+    changed(|operation, records, which| {
+        let [first, second] = records;
+        let mut draft = Draft::new(first, second);
+        for at in 0..draft.records[which].words.len() {
+            let word = draft.records[which].words[at];
+            let (less, more) = (word.wrapping_sub(1), word.wrapping_add(1));
+            let edges = [0, 1, 2, 3, 4, 63, 64, 65, 99, 100, 4_095, 4_096, 36, 37];
+            let high = [
+                MOST,
+                MOST + 1,
+                1_990_000_000,
+                1_990_000_001,
+                1 << 31,
+                u32::MAX,
+            ];
+            for value in edges.into_iter().chain(high).chain([less, more]) {
+                draft.records[which].words[at] = value;
+                expect(operation, &draft);
+            }
+            draft.records[which].words[at] = word;
+        }
+    });
+}
+
+#[test]
+fn every_length() {
+    changed(|operation, records, which| {
+        let [first, second] = records;
+        let mut draft = Draft::new(first, second);
+        draft.records[which].tail = vec![1; 9];
+        let longest = 4 * draft.records[which].words.len() + 9;
+        for length in 0..=longest {
+            draft.records[which].cut = Some(length);
+            expect(operation, &draft);
+        }
+    });
+}
+
+/// 2^32 − 1 in every word, of one record and of both.
+#[test]
+fn the_highest_word_everywhere() {
+    changed(|operation, records, which| {
+        let [first, second] = records;
+        let mut draft = Draft::new(first, second);
+        draft.records[which].words.fill(u32::MAX);
+        expect(operation, &draft);
+        // Sizes as they should be, entries not.
+        for sizes in 1..=3 {
+            let words = small(operation).remove(1)[which].words.clone();
+            let kept = sizes.min(words.len());
+            draft.records[which].words = words;
+            draft.records[which].words[kept..].fill(u32::MAX);
+            expect(operation, &draft);
+        }
+        draft.records[1 - which].words.fill(u32::MAX);
+        draft.records[which].words.fill(u32::MAX);
+        expect(operation, &draft);
+    });
+}
+
+/// Sheets with all cells for 1, 2, 3, 63 and 64 nodes and as many particles as
+/// there can be, and old trees as deep and as wide as they can be.
+#[test]
+fn the_largest_records() {
+    for n in [1, 2, 3, 63, 64] {
+        let cells: Vec<u32> = (0..n * n).map(|k| sheets::cell(k / n, k % n)).collect();
+        let each = MOST / (n * n);
+        let mut counts = vec![each; cells.len()];
+        // One cell has the rest, and then nearly all.
+        let last = counts.len() - 1;
+        counts[last] += MOST - each * n * n;
+        let even = sheets::sheet(n, 1, &cells, &counts).bytes();
+        counts.fill(1);
+        counts[last] = MOST - (n * n - 1);
+        let heap = sheets::sheet(n, 99, &cells, &counts).bytes();
+        for sheet in [even, heap] {
+            for helpands in [chain(n), vec![0; n as usize]] {
+                let old = match n {
+                    1 => Vec::new(),
+                    _ => worked::old(&helpands),
+                };
+                let sheet = sheet.clone();
+                let step = Step { sheet, old };
+                for operation in OPERATIONS {
+                    let [first, second] = records_of(operation, &step);
+                    expect(operation, &Draft::new(first, second));
+                }
+            }
+        }
+    }
+}
+
+/// Each node helps the one before it.
+fn chain(n: u32) -> Vec<u32> {
+    (0..n).map(|node| node.saturating_sub(1)).collect()
+}
+
+/// Every cell sends all it can, to one node or to all others, up to
+/// N × (N−1) moves; one particle more is refused.
+#[test]
+fn the_most_moves() {
+    for n in [2, 3, 63, 64] {
+        let others = n - 1;
+        let sheet = sheets::sheet(n, 1, &[0], &[others]);
+        let all: Vec<u32> = (1..n)
+            .map(|receiver| moves::route(0, 0, receiver))
+            .collect();
+        let mut counts = vec![1; all.len()];
+        expect(
+            &CARRY_OUT,
+            &Draft::new(sheet, moves::moves(n, &all, &counts)),
+        );
+        counts[0] = 2;
+        let sheet = sheets::sheet(n, 1, &[0], &[others]);
+        expect(
+            &CARRY_OUT,
+            &Draft::new(sheet, moves::moves(n, &all, &counts)),
+        );
+        // Every holder of subdomains 0 and up sends to its neighbour.
+        let cells: Vec<u32> = (0..n * n).map(|k| sheets::cell(k / n, k % n)).collect();
+        let route = |k: u32| {
+            let (subdomain, sender) = (k / n, k % n);
+            moves::route(subdomain, sender, (sender + 1) % n)
+        };
+        let routes: Vec<u32> = (0..n * (n - 1)).map(route).collect();
+        for count in [1, 2, 3] {
+            let sheet = sheets::sheet(n, 1, &cells, &vec![2; cells.len()]);
+            let sends = moves::moves(n, &routes, &vec![count; routes.len()]);
+            expect(&CARRY_OUT, &Draft::new(sheet, sends));
+        }
+    }
+}

@@ -1,0 +1,361 @@
+//! The tests can fail: whoever does an operation wrong, in ways that are
+//! plausible, is reported by the run, and a wrong planner by demand 3 as well.
+
+use firrozka_tests::answers::{PartAnswer, StepAnswer, WeighedAnswer, WrittenAnswer};
+use firrozka_tests::calls::{Operation, CARRY_OUT, OPERATIONS, PLAN_STEP, TREE_IN_FORCE, WEIGH};
+use firrozka_tests::demands::judge;
+use firrozka_tests::operations::{Operations, PlanStep, MOVES_BYTES, REFERENCE};
+use firrozka_tests::records::{to_bytes, to_words};
+use firrozka_tests::reference::{carry_out, plan, plan_step, read_sheet, tree_in_force, weigh};
+use firrozka_tests::steps::{self, Size};
+use firrozka_tests::worked;
+
+const SEED: u64 = 20_251_115;
+
+/// The run reports the one who does this operation wrong.
+fn is_reported(operation: &Operation, wrong: &Operations) {
+    let reported = operation.run(wrong, SEED, 2_000).is_err();
+    assert!(reported, "{}: {}", operation.name, wrong.name);
+}
+
+/// Demand 3 or a rule beside it is broken in some of a few steps.
+fn is_judged(wrong: &Operations) {
+    let steps = (0..500).map(|index| steps::at(SEED, index, Size::Small));
+    let broken = steps.filter(|step| judge(wrong, step).is_err()).count();
+    assert!(broken > 0, "{}", wrong.name);
+}
+
+fn wrong_planner(name: &'static str, plan_step: PlanStep) -> Operations {
+    Operations {
+        name,
+        plan_step,
+        ..REFERENCE
+    }
+}
+
+/// Nothing is wrong with the second implementation itself.
+#[test]
+fn nothing_wrong() {
+    for operation in OPERATIONS {
+        let met = operation.run(&REFERENCE, SEED, 200);
+        assert!(met.is_ok(), "{:?}", met.err());
+    }
+}
+
+// Planners.
+
+/// "a planner that rebuilds at every overload"
+#[test]
+fn rebuilds_always() {
+    fn wrong(sheet: &[u8], old: &[u8], plan: &mut [u8], moves: &mut [u8]) -> StepAnswer {
+        match plan_step(sheet, old, plan, moves) {
+            StepAnswer { kind: 1, .. } => plan_step(sheet, &[], plan, moves),
+            answer => answer,
+        }
+    }
+    let planner = wrong_planner("rebuilds at every overload", wrong);
+    is_reported(&PLAN_STEP, &planner);
+    is_judged(&planner);
+}
+
+/// "Comparing P with N × L: it keeps I." Here with all shares 0.
+#[test]
+fn keeps_always() {
+    fn wrong(sheet: &[u8], old: &[u8], plan: &mut [u8], moves: &mut [u8]) -> StepAnswer {
+        let answer = plan_step(sheet, old, plan, moves);
+        if (answer.refusal, answer.kind) != (0, 2) || old.is_empty() || to_words(old)[1] == 0 {
+            return answer;
+        }
+        let n = old.len() / 8 - 1;
+        plan[4..8].copy_from_slice(&to_bytes(&[1]));
+        plan[12..12 + 4 * n].copy_from_slice(&old[12..12 + 4 * n]);
+        plan[12 + 4 * n..12 + 8 * n].fill(0);
+        StepAnswer { kind: 1, ..answer }
+    }
+    let planner = wrong_planner("keeps every tree", wrong);
+    is_reported(&PLAN_STEP, &planner);
+    is_judged(&planner);
+}
+
+/// "one that places the first helper and hands the others share 0"
+#[test]
+fn places_the_first_helper_alone() {
+    fn wrong(sheet: &[u8], old: &[u8], plan: &mut [u8], moves: &mut [u8]) -> StepAnswer {
+        let answer = plan_step(sheet, old, plan, moves);
+        if answer.refusal == 0 {
+            let length = answer.plan_bytes as usize;
+            let mut words = to_words(&plan[..length]);
+            let shares = 3 + words[0] as usize;
+            let helper = words[shares..].iter().position(|&share| share > 0);
+            let others = shares + helper.map_or(words[0] as usize, |node| node + 1);
+            words[others..].fill(0);
+            plan[..length].copy_from_slice(&to_bytes(&words));
+        }
+        answer
+    }
+    let planner = wrong_planner("places the first helper alone", wrong);
+    is_reported(&PLAN_STEP, &planner);
+    is_judged(&planner);
+}
+
+/// "A limit only rounded down".
+#[test]
+fn rounds_the_limit_down() {
+    fn wrong(sheet: &[u8], old: &[u8], plan: &mut [u8], moves: &mut [u8]) -> StepAnswer {
+        let answer = plan_step(sheet, old, plan, moves);
+        if answer.refusal != 0 {
+            return answer;
+        }
+        let read = read_sheet(sheet);
+        let [p, n, t] = [read.p, read.n, read.t].map(u64::from);
+        let limit = (p * (100 + t) / (100 * n)) as u32;
+        plan[8..12].copy_from_slice(&limit.to_le_bytes());
+        StepAnswer { limit, ..answer }
+    }
+    let planner = wrong_planner("rounds the limit down", wrong);
+    is_reported(&PLAN_STEP, &planner);
+    is_judged(&planner);
+}
+
+#[test]
+fn leaves_a_move_out() {
+    fn wrong(sheet: &[u8], old: &[u8], plan: &mut [u8], moves: &mut [u8]) -> StepAnswer {
+        let answer = plan_step(sheet, old, plan, moves);
+        let length = answer.moves_bytes as usize;
+        if length < 16 {
+            return answer;
+        }
+        let mut words = to_words(&moves[..length]);
+        let e = words[1] as usize;
+        words[1] -= 1;
+        words.remove(1 + 2 * e);
+        words.remove(1 + e);
+        moves[..length - 8].copy_from_slice(&to_bytes(&words));
+        let moves_bytes = answer.moves_bytes - 8;
+        StepAnswer {
+            moves_bytes,
+            ..answer
+        }
+    }
+    let planner = wrong_planner("leaves a move out", wrong);
+    is_reported(&PLAN_STEP, &planner);
+    is_judged(&planner);
+}
+
+/// Buffers and the order of the last checks.
+#[test]
+fn short_buffers() {
+    fn moves_first(sheet: &[u8], old: &[u8], plan: &mut [u8], moves: &mut [u8]) -> StepAnswer {
+        let answer = plan_step(sheet, old, plan, moves);
+        let longer = plan_step(sheet, old, &mut [0; 524], moves);
+        match (answer.refusal, longer.refusal) {
+            (22, 23) => longer,
+            _ => answer,
+        }
+    }
+    is_reported(&PLAN_STEP, &wrong_planner("23 before 22", moves_first));
+
+    fn touches(sheet: &[u8], old: &[u8], plan: &mut [u8], moves: &mut [u8]) -> StepAnswer {
+        let answer = plan_step(sheet, old, plan, moves);
+        if answer.refusal == 23 {
+            plan_step(sheet, old, plan, &mut [0; MOVES_BYTES]);
+        }
+        answer
+    }
+    is_reported(
+        &PLAN_STEP,
+        &wrong_planner("writes the plan before 23", touches),
+    );
+
+    fn wants_more(sheet: &[u8], old: &[u8], plan: &mut [u8], moves: &mut [u8]) -> StepAnswer {
+        match moves.split_last_mut() {
+            Some((_, shorter)) => plan_step(sheet, old, plan, shorter),
+            None => plan_step(sheet, old, plan, moves),
+        }
+    }
+    is_reported(
+        &PLAN_STEP,
+        &wrong_planner("wants one byte more", wants_more),
+    );
+}
+
+#[test]
+fn writes_behind_the_record() {
+    fn wrong(sheet: &[u8], old: &[u8], plan: &mut [u8], moves: &mut [u8]) -> StepAnswer {
+        let answer = plan_step(sheet, old, plan, moves);
+        if let (0, Some(byte)) = (answer.refusal, plan.get_mut(answer.plan_bytes as usize)) {
+            *byte = 0;
+        }
+        answer
+    }
+    is_reported(
+        &PLAN_STEP,
+        &wrong_planner("writes a byte behind the plan", wrong),
+    );
+}
+
+#[test]
+fn answers_with_buffers_unwritten() {
+    fn wrong(sheet: &[u8], old: &[u8], plan: &mut [u8], moves: &mut [u8]) -> StepAnswer {
+        let [mut other_plan, mut other_moves] = [plan.to_vec(), moves.to_vec()];
+        plan_step(sheet, old, &mut other_plan, &mut other_moves)
+    }
+    let planner = wrong_planner("writes nothing", wrong);
+    is_reported(&PLAN_STEP, &planner);
+    is_judged(&planner);
+}
+
+/// "A refused sheet ends planning before the old plan is looked at."
+#[test]
+fn looks_at_the_old_plan_first() {
+    fn wrong(sheet: &[u8], old: &[u8], plan: &mut [u8], moves: &mut [u8]) -> StepAnswer {
+        let refusal = plan::read(old).err().unwrap_or(0);
+        match refusal {
+            0 => plan_step(sheet, old, plan, moves),
+            _ if old.is_empty() => plan_step(sheet, old, plan, moves),
+            _ => StepAnswer {
+                refusal,
+                ..StepAnswer::default()
+            },
+        }
+    }
+    is_reported(
+        &PLAN_STEP,
+        &wrong_planner("the old plan before the sheet", wrong),
+    );
+}
+
+// The others.
+
+#[test]
+fn weighs_wrong() {
+    fn by_plan_limit(sheet: &[u8], plan: &[u8], least: &mut [u8]) -> WeighedAnswer {
+        let answer = weigh(sheet, plan, least);
+        let limit = plan::read(plan).map(|plan| plan.limit);
+        match (answer.refusal, limit) {
+            (0, Ok(limit)) => {
+                let n = to_words(sheet)[0] as usize;
+                let leasts = to_words(&least[..4 * n]);
+                let holds = u32::from(leasts.iter().all(|&least| least <= limit));
+                WeighedAnswer { holds, ..answer }
+            }
+            _ => answer,
+        }
+    }
+    fn only_if_it_holds(sheet: &[u8], plan: &[u8], least: &mut [u8]) -> WeighedAnswer {
+        let mut other = least.to_vec();
+        let answer = weigh(sheet, plan, &mut other);
+        if answer.holds == 1 {
+            least.copy_from_slice(&other);
+        }
+        answer
+    }
+    fn kind_first(sheet: &[u8], plan: &[u8], least: &mut [u8]) -> WeighedAnswer {
+        let answer = weigh(sheet, plan, least);
+        match (answer.refusal, plan::read(plan)) {
+            (21, Ok(plan)) if plan.kind == 0 => WeighedAnswer {
+                refusal: 24,
+                holds: 0,
+            },
+            _ => answer,
+        }
+    }
+    for (name, weigh) in [
+        ("weighs by the plan's limit", by_plan_limit as _),
+        ("writes only what holds", only_if_it_holds as _),
+        ("24 before 21", kind_first as _),
+    ] {
+        let wrong = Operations {
+            name,
+            weigh,
+            ..REFERENCE
+        };
+        is_reported(&WEIGH, &wrong);
+    }
+}
+
+#[test]
+fn carries_out_wrong() {
+    /// "Testing a send against what arrived in the same step."
+    fn counts_arrivals(sheet: &[u8], moves: &[u8], next: &mut [u8]) -> WrittenAnswer {
+        let answer = carry_out(sheet, moves, next);
+        match answer.refusal {
+            42 if to_words(moves)[1] > 1 => WrittenAnswer {
+                refusal: 0,
+                bytes: sheet.len() as u32,
+            },
+            _ => answer,
+        }
+    }
+    fn keeps_empty_cells(sheet: &[u8], moves: &[u8], next: &mut [u8]) -> WrittenAnswer {
+        let mut long = vec![0; 40_000];
+        let answer = carry_out(sheet, moves, &mut long);
+        if answer.refusal != 0 || answer.bytes as usize >= sheet.len() || next.len() < sheet.len() {
+            return carry_out(sheet, moves, next);
+        }
+        next[..sheet.len()].copy_from_slice(sheet);
+        let bytes = sheet.len() as u32;
+        WrittenAnswer { refusal: 0, bytes }
+    }
+    fn other_tolerance(sheet: &[u8], moves: &[u8], next: &mut [u8]) -> WrittenAnswer {
+        let answer = carry_out(sheet, moves, next);
+        if answer.refusal == 0 {
+            next[4] ^= 1;
+        }
+        answer
+    }
+    for (name, carry_out) in [
+        ("counts what arrives", counts_arrivals as _),
+        ("keeps empty cells", keeps_empty_cells as _),
+        ("changes t", other_tolerance as _),
+    ] {
+        let wrong = Operations {
+            name,
+            carry_out,
+            ..REFERENCE
+        };
+        is_reported(&CARRY_OUT, &wrong);
+    }
+}
+
+#[test]
+fn tree_in_force_wrong() {
+    fn new_always(old: &[u8], new: &[u8]) -> PartAnswer {
+        let part = tree_in_force(old, new);
+        PartAnswer {
+            source: PartAnswer::NEW,
+            ..part
+        }
+    }
+    fn helpands_not_compared(old: &[u8], new: &[u8]) -> PartAnswer {
+        match (plan::read(old), plan::read(new)) {
+            (Ok(a), Ok(b)) if a.n == b.n && b.kind == 1 => {
+                PartAnswer::helpands(PartAnswer::OLD, a.n)
+            }
+            _ => tree_in_force(old, new),
+        }
+    }
+    for (name, tree_in_force) in [
+        ("the new plan always", new_always as _),
+        ("helpands not compared", helpands_not_compared as _),
+    ] {
+        let wrong = Operations {
+            name,
+            tree_in_force,
+            ..REFERENCE
+        };
+        is_reported(&TREE_IN_FORCE, &wrong);
+    }
+}
+
+/// What the judge says of a tree that would do and is built anew.
+#[test]
+fn a_needless_rebuild() {
+    fn wrong(sheet: &[u8], _: &[u8], plan: &mut [u8], moves: &mut [u8]) -> StepAnswer {
+        plan_step(sheet, &[], plan, moves)
+    }
+    let planner = wrong_planner("rebuilds", wrong);
+    let said = judge(&planner, &worked::h()).err();
+    assert_eq!(said.as_deref(), Some("kind 2 where 1 is right"));
+    assert!(judge(&REFERENCE, &worked::h()).is_ok());
+}
