@@ -1,4 +1,5 @@
 pub mod Ways
 pub mod Facts
 pub mod Records
+pub mod ReadBack
 pub mod WorkedSteps
