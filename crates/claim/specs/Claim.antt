@@ -1,0 +1,133 @@
+-- Demand 3, as document 01 says it in 'Divisions and the rival', about bytes: a sheet, an old plan, and what *plan a step* and then
+-- *carry out* leave in three lent buffers. Nothing here speaks of how a tree is weighed or a division found.
+use mathlib.Core.Path.{_≡_}
+use mathlib.Core.Logic.{_≢_, _⊎_, _↔_}
+use mathlib.Core.Bool.{cond}
+use mathlib.Core.List.{List}
+use Prim.Native.Nat.{ℕ, _≤_, _<_}
+use lib.Dec.{eqb}
+use lib.ListN.{length, take}
+use Rattle.sheet.specs.Sheet.{readSheet}
+use Rattle.sheet.specs.Table.{tableIn}
+use Rattle.plan.specs.Tree.{at, Tree}
+use Rattle.plan.specs.Plan.{readPlan, helpandsOf, sharesOf, accepted as planAccepted}
+use Rattle.tree.specs.Totals.{held}
+use Rattle.tree.specs.Division.{WithinLimit, OnTarget, ownOf}
+use Rattle.weigh.specs.Weigh.{totalsIn}
+use Rattle.rebuild.specs.Target.{targetOf}
+use Rattle.transfer.specs.Due.{dueOf}
+use Rattle.planner.specs.declared.StepAnswer.{StepAnswer}
+use Rattle.planner.specs.Step.{planIn, movesIn, planned, numberOf, stepAnswer}
+use Rattle.planner.specs.Step as step
+use Rattle.carry.specs.declared.CarryAnswer.{CarryAnswer}
+use Rattle.carry.specs.Carry.{nextSheet, carryAnswer, nextAfter}
+use Rattle.carry.specs.Carry as carry
+use Rattle.claim.specs.declared.Outcome.{Outcome}
+use Rattle.claim.specs.declared.Outcome.the-variants.{Planned, Refused}
+
+-- ---- what the demand is about
+
+-- "every accepted sheet with a subdomain above the limit"
+pub record Overloaded (s : List ℕ) : Type 0 where
+  pub accepted : readSheet s .refusal ≡ 0
+  pub above : (n : ℕ) × (n < readSheet s .n) × (readSheet s .limit < at (totalsIn s) n)
+
+-- "An accepted tree is the helpands of a plan that *read plan* accepts with kind 1 or 2", of as many nodes as the sheet. "That plan's
+-- shares and limit play no part".
+pub record AcceptedTree (s o : List ℕ) : Type 0 where
+  pub accepted : readPlan o .refusal ≡ 0
+  pub nodes : readPlan o .n ≡ readSheet s .n
+  pub kind : readPlan o .kind ≢ 0
+
+-- "An empty or kind 0 old plan has no old tree."
+pub record PrimaryPlan (s o : List ℕ) : Type 0 where
+  pub accepted : readPlan o .refusal ≡ 0
+  pub nodes : readPlan o .n ≡ readSheet s .n
+  pub kind : readPlan o .kind ≡ 0
+
+abbrev pub NoTree : List ℕ → List ℕ → Type 0
+NoTree s o = (length o ≡ 0) ⊎ PrimaryPlan s o
+
+-- a buffer long enough for a record
+abbrev pub Fits : List ℕ → List ℕ → Type 0
+Fits rec out = length rec ≤ length out
+
+-- ---- divisions
+
+-- "A rival's division is one along the old tree with every load at most L, however it was found", and "L is the sheet's"
+abbrev pub Rival : List ℕ → List ℕ → Type 0
+Rival s o =
+    (own : ℕ → ℕ) × (share : ℕ → ℕ)
+    × WithinLimit (readSheet s .n) (at (helpandsOf o (readSheet s .n))) (at (totalsIn s)) (readSheet s .limit) own share
+
+-- "A plan gives each helper its share"
+abbrev pub helpand : List ℕ → List ℕ → ℕ → ℕ
+helpand s plan = at (helpandsOf plan (readSheet s .n))
+
+abbrev pub share : List ℕ → List ℕ → ℕ → ℕ
+share s plan = at (sharesOf plan (readSheet s .n))
+
+-- "and each owner Pn less its helpers' shares"
+abbrev pub own : List ℕ → List ℕ → ℕ → ℕ
+own s plan = ownOf (readSheet s .n) (helpand s plan) (at (totalsIn s)) (share s plan)
+
+-- what node k is due of subdomain n: "due amounts are those of that plan"
+abbrev pub due : List ℕ → List ℕ → ℕ → ℕ → ℕ
+due s plan = dueOf (readSheet s .n) (helpand s plan) (at (totalsIn s)) (share s plan)
+
+-- ---- the demand, of the plan that was written and of the sheet that follows
+
+pub record Balanced (s o plan next : List ℕ) (kind : ℕ) : Type 0 where
+  -- the plan is accepted, and carries the sheet's N and limit
+  pub plan-read : readPlan plan ≡ planAccepted (readSheet s .n) kind (readSheet s .limit)
+  -- the tree is kept exactly when a rival's division exists, and rebuilt otherwise
+  pub kept : AcceptedTree s o → (kind ≡ 1) ↔ Rival s o
+  pub none : NoTree s o → kind ≡ 2
+  pub otherwise : (kind ≡ 1) ⊎ (kind ≡ 2)
+  -- "in kind 1, which has the old helpands, a rival's division"
+  pub kept-helpands : kind ≡ 1 → helpandsOf plan (readSheet s .n) ≡ helpandsOf o (readSheet s .n)
+  pub kept-division : kind ≡ 1
+      → WithinLimit (readSheet s .n) (helpand s plan) (at (totalsIn s)) (readSheet s .limit) (own s plan) (share s plan)
+  -- "in kind 2, one with every load equal to the node's target"
+  pub rebuilt-tree : kind ≡ 2 → (r : ℕ) × Tree (readSheet s .n) (helpand s plan) r
+  pub rebuilt-division : kind ≡ 2
+      → OnTarget (readSheet s .n) (helpand s plan) (at (totalsIn s)) (targetOf (readSheet s .n) (readSheet s .p)) (own s plan) (share s plan)
+  -- "in the sheet that it writes, each node's count of each subdomain is its due amount"
+  pub next-read : (readSheet next .refusal ≡ 0) × (readSheet next .n ≡ readSheet s .n)
+  pub amounts : (k n : ℕ) → k < readSheet s .n → n < readSheet s .n → held (tableIn next) k n ≡ due s plan n k
+
+-- the answers a and c of the two operations, with the three buffers as they are then; `size` is the length of the third
+pub record Claim (s o : List ℕ) (a : StepAnswer) (c : CarryAnswer) (plan moves next : List ℕ) (size : ℕ) : Type 0 where
+  pub planned : a .refusal ≡ 0
+  -- "*Carry out* is handed the same sheet, the moves just written and a buffer long enough", and is accepted
+  pub handed : c ≡ carryAnswer s (take (a .moves) moves) size
+  pub carried : c .refusal ≡ 0
+  pub balanced : Balanced s o (take (a .plan) plan) (take (c .bytes) next) (a .kind)
+
+-- DEMAND 3. For every accepted sheet with a subdomain above the limit and every accepted tree of as many nodes, or none, and buffers
+-- p, m and x long enough
+abbrev pub Demand3 : List ℕ → List ℕ → List ℕ → List ℕ → List ℕ → StepAnswer → CarryAnswer → List ℕ → List ℕ → List ℕ → Type 0
+Demand3 s o p m x a c plan moves next =
+    Overloaded s → AcceptedTree s o ⊎ NoTree s o
+    → Fits (planIn s o) p → Fits (movesIn s o) m → Fits (nextSheet s (movesIn s o)) x
+    → Claim s o a c plan moves next (length x)
+
+-- ---- planning a step and then carrying it out, for any inputs
+
+-- the answer of *plan a step*
+abbrev pub stepOf : Outcome → StepAnswer
+stepOf (Planned p c) = planned (p .kind) (p .limit) (p .plan) (p .moves)
+stepOf (Refused r) = step.refused (numberOf r)
+
+-- the answer of *carry out*; a step that is refused is refused here with the same number
+abbrev pub carryOf : Outcome → CarryAnswer
+carryOf (Planned p c) = carry.answerOf c
+carryOf (Refused r) = carry.refused (numberOf r)
+
+-- what *carry out* answers after a step with answer a
+abbrev pub carriedAnswer : List ℕ → List ℕ → StepAnswer → ℕ → CarryAnswer
+carriedAnswer s o a size = cond (eqb (a .refusal) 0) (carryAnswer s (movesIn s o) size) (carry.refused (a .refusal))
+
+-- and leaves in its buffer
+abbrev pub carriedNext : List ℕ → List ℕ → StepAnswer → List ℕ → List ℕ
+carriedNext s o a x = cond (eqb (a .refusal) 0) (nextAfter s (movesIn s o) x) x
