@@ -213,18 +213,18 @@ module _ (s o : List ℕ) (over : Overloaded s) (tree : Bool) (r : readOld o (re
         otherwise = ⊎-elim (λ e. inl (kept-way e .kind)) (λ e. inr (rebuilt-way e .kind)) (either (tree && holding));
         kept-helpands = λ k. ⊎-elim (λ e. kept-helpands e k) (λ e. absurd (true≢false (sym (is-kept k) ∙ none-rebuilt e))) t;
         kept-division = λ k.
-          within-agree n₀ (at (d .helpands)) (at (helpandsOf plan n₀)) helpands-same (at (totalsIn s)) (at (d .shares)) (at (sharesOf plan n₀)) shares-same (readSheet s .limit)
-          (kept-way (is-kept k) .within);
+            within-agree n₀ (at (d .helpands)) (at (helpandsOf plan n₀)) helpands-same (at (totalsIn s)) (at (d .shares)) (at (sharesOf plan n₀)) shares-same (readSheet s .limit)
+            (kept-way (is-kept k) .within);
         rebuilt-tree = λ k.
-          let f = rebuilt-way (is-rebuilt k) .tree in (f .0, tree-agree n₀ (at (d .helpands)) (at (helpandsOf plan n₀)) helpands-same (f .0) (f .1));
+            let f = rebuilt-way (is-rebuilt k) .tree in (f .0, tree-agree n₀ (at (d .helpands)) (at (helpandsOf plan n₀)) helpands-same (f .0) (f .1));
         rebuilt-division = λ k.
-          target-agree n₀ (at (d .helpands)) (at (helpandsOf plan n₀)) helpands-same (at (totalsIn s)) (at (d .shares)) (at (sharesOf plan n₀)) shares-same
-          (targetOf n₀ (readSheet s .p)) (rebuilt-way (is-rebuilt k) .on-target);
+            target-agree n₀ (at (d .helpands)) (at (helpandsOf plan n₀)) helpands-same (at (totalsIn s)) (at (d .shares)) (at (sharesOf plan n₀)) shares-same
+            (targetOf n₀ (readSheet s .p)) (rebuilt-way (is-rebuilt k) .on-target);
         next-read = (ap (λ (a : SheetAnswer). a .refusal) (b .read), ap (λ (a : SheetAnswer). a .n) (b .read));
         amounts = λ k n lk ln.
-          ap (λ (xs : List ℕ). held xs k n) (b .table ∙ next-table)
-          ∙ planned.carries s o (over .accepted) accepted-old .reached k n lk ln
-          ∙ due-agree n₀ (at (d .helpands)) (at (helpandsOf plan n₀)) helpands-same (at (totalsIn s)) (at (d .shares)) (at (sharesOf plan n₀)) shares-same n k lk;
+            ap (λ (xs : List ℕ). held xs k n) (b .table ∙ next-table)
+            ∙ planned.carries s o (over .accepted) accepted-old .reached k n lk ln
+            ∙ due-agree n₀ (at (d .helpands)) (at (helpandsOf plan n₀)) helpands-same (at (totalsIn s)) (at (d .shares)) (at (sharesOf plan n₀)) shares-same n k lk;
       }
 
   -- ---- of the answers and the buffers
