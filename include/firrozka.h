@@ -39,6 +39,23 @@ struct firrozka_weighed {
 struct firrozka_weighed firrozka_weigh(const uint8_t *sheet, size_t sheet_len, const uint8_t *plan, size_t plan_len,
                                        uint8_t *least, size_t least_len);
 
+/* Plan a step: writes the new plan and the moves to the front of the two buffers. An old plan of length 0 is none. Gives the kind, the
+ * limit and both lengths in bytes. 524 and 32,264 bytes are enough for every plan and every list of moves. Refused: the sheet's; the
+ * old plan's; 21; 22 and 23, the plan's or the moves' buffer too short. Both buffers are then untouched. */
+struct firrozka_step {
+    uint32_t refusal, kind, limit, plan_bytes, moves_bytes;
+};
+struct firrozka_step firrozka_plan_step(const uint8_t *sheet, size_t sheet_len, const uint8_t *old_plan, size_t old_len,
+                                        uint8_t *plan, size_t plan_len, uint8_t *moves, size_t moves_len);
+
+/* Carry out: writes the sheet that follows a sheet and any accepted moves to the front of the buffer, and gives its length in bytes.
+ * 32,780 bytes are enough for every sheet. Refused: the sheet's; the moves'; 41, 42, 43. The buffer is then untouched. */
+struct firrozka_written {
+    uint32_t refusal, bytes;
+};
+struct firrozka_written firrozka_carry_out(const uint8_t *sheet, size_t sheet_len, const uint8_t *moves, size_t moves_len,
+                                           uint8_t *next, size_t next_len);
+
 /* Tree in force: the stretch of helpands that holds after a step, so many bytes from start on. Source 1 is the old plan, 2 the new.
  * Nothing is copied. The length is 0 when there is none. */
 struct firrozka_part {

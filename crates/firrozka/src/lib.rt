@@ -1,8 +1,10 @@
 // The C boundary: the archive libfirrozka.a, whose functions include/firrozka.h declares. Nothing checks what a foreign caller passes,
 // so no function here requires anything. A slice crosses as a pointer and a length.
+use carry::CarryAnswer;
 use force::PartAnswer;
 use moves::MovesAnswer;
 use plan::PlanAnswer;
+use planner::StepAnswer;
 use sheet::SheetAnswer;
 use weigh::WeighAnswer;
 ghost use mathlib.Core.Path.{_≡_};
@@ -11,6 +13,8 @@ ghost use Rattle.sheet.specs.Sheet.{readSheet};
 ghost use Rattle.plan.specs.Plan.{readPlan};
 ghost use Rattle.moves.specs.Moves.{readMoves};
 ghost use Rattle.weigh.specs.Weigh.{weighAnswer, weighBytes};
+ghost use Rattle.planner.specs.Step.{stepAnswer, planAfter, movesAfter};
+ghost use Rattle.carry.specs.Carry.{carryAnswer, nextAfter};
 ghost use Rattle.force.specs.Force.{inForce, partOf};
 
 // *Read sheet*.
@@ -44,6 +48,30 @@ pub extern "C" fn firrozka_weigh(sheet: &[u8], plan: &[u8], least: &mut [u8]) ->
     ensures bytes { λ _. ⌜ now (least .exit) ≡ weighBytes (now (sheet .entry)) (now (plan .entry)) (now (least .entry)) ⌝ }
 {
     weigh::answer(weigh::weigh(sheet, plan, least))
+}
+
+// *Plan a step*.
+#[no_mangle]
+pub extern "C" fn firrozka_plan_step(
+    sheet: &[u8],
+    old: &[u8],
+    plan: &mut [u8],
+    moves: &mut [u8],
+) -> StepAnswer
+    ensures answer { λ r. ⌜ r ≡ stepAnswer (now (sheet .entry)) (now (old .entry)) (length (now (plan .entry))) (length (now (moves .entry))) ⌝ }
+    ensures plan { λ _. ⌜ now (plan .exit) ≡ planAfter (now (sheet .entry)) (now (old .entry)) (now (plan .entry)) (length (now (moves .entry))) ⌝ }
+    ensures moves { λ _. ⌜ now (moves .exit) ≡ movesAfter (now (sheet .entry)) (now (old .entry)) (now (moves .entry)) (length (now (plan .entry))) ⌝ }
+{
+    planner::answer(planner::plan_step(sheet, old, plan, moves))
+}
+
+// *Carry out*.
+#[no_mangle]
+pub extern "C" fn firrozka_carry_out(sheet: &[u8], moves: &[u8], next: &mut [u8]) -> CarryAnswer
+    ensures answer { λ r. ⌜ r ≡ carryAnswer (now (sheet .entry)) (now (moves .entry)) (length (now (next .entry))) ⌝ }
+    ensures bytes { λ _. ⌜ now (next .exit) ≡ nextAfter (now (sheet .entry)) (now (moves .entry)) (now (next .entry)) ⌝ }
+{
+    carry::answer(carry::carry_out(sheet, moves, next))
 }
 
 // *Tree in force*: the stretch by its place, since no reference can be handed back over the boundary.

@@ -134,6 +134,13 @@ stepAnswer s o planSize movesSize =
 abbrev pub after : StepAnswer → List ℕ → List ℕ → List ℕ
 after a rec out = cond (eqb (a .refusal) 0) (placed rec out) out
 
+-- the two buffers afterwards, each with the other's length
+abbrev pub planAfter : List ℕ → List ℕ → List ℕ → ℕ → List ℕ
+planAfter s o plan movesSize = after (stepAnswer s o (length plan) movesSize) (planIn s o) plan
+
+abbrev pub movesAfter : List ℕ → List ℕ → List ℕ → ℕ → List ℕ
+movesAfter s o moves planSize = after (stepAnswer s o planSize (length moves)) (movesIn s o) moves
+
 -- ---- what the inner functions ask
 
 -- the sheet was read as this, and the old plan has a tree or none

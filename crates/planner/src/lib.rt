@@ -13,7 +13,7 @@ ghost use lib.ListN.{length};
 ghost use Rattle.limit.specs.Limit.{maxNodes};
 ghost use Rattle.sheet.specs.Sheet.{answerOf as sheetAnswer};
 ghost use Rattle.moves.specs.Write.{movesBytes};
-ghost use Rattle.planner.specs.Step.{refused, numberOf, answerOf, oldOf, readOld, oldHelpands, planOf, planIn, movesIn, writtenAnswer, decidedAnswer, stepAnswer, after, Read};
+ghost use Rattle.planner.specs.Step.{refused, numberOf, answerOf, oldOf, readOld, oldHelpands, planOf, planIn, movesIn, writtenAnswer, decidedAnswer, stepAnswer, after, planAfter, movesAfter, Read};
 
 // Why planning is refused, in the order of the checks.
 pub enum StepRefusal {
@@ -173,8 +173,8 @@ fn plan_read(
 // *Plan a step*. "A refused sheet ends planning before the old plan is looked at."
 pub fn plan_step(sheet: &[u8], old: &[u8], plan: &mut [u8], moves: &mut [u8]) -> Step
     ensures answer { λ r. ⌜ answerOf r ≡ stepAnswer (now (sheet .entry)) (now (old .entry)) (length (now (plan .entry))) (length (now (moves .entry))) ⌝ }
-    ensures plan { λ _. ⌜ now (plan .exit) ≡ after (stepAnswer (now (sheet .entry)) (now (old .entry)) (length (now (plan .entry))) (length (now (moves .entry)))) (planIn (now (sheet .entry)) (now (old .entry))) (now (plan .entry)) ⌝ }
-    ensures moves { λ _. ⌜ now (moves .exit) ≡ after (stepAnswer (now (sheet .entry)) (now (old .entry)) (length (now (plan .entry))) (length (now (moves .entry)))) (movesIn (now (sheet .entry)) (now (old .entry))) (now (moves .entry)) ⌝ }
+    ensures plan { λ _. ⌜ now (plan .exit) ≡ planAfter (now (sheet .entry)) (now (old .entry)) (now (plan .entry)) (length (now (moves .entry))) ⌝ }
+    ensures moves { λ _. ⌜ now (moves .exit) ≡ movesAfter (now (sheet .entry)) (now (old .entry)) (now (moves .entry)) (length (now (plan .entry))) ⌝ }
 {
     let reading = sheet::read_sheet(sheet);
     let SheetReading::Accepted(s) = reading else {
