@@ -25,9 +25,7 @@ use Rattle.sheet.proofs.Tables.{table-within}
 use Rattle.sheet.proofs.Filled.{cells-le, length-sheet}
 use Rattle.moves.specs.declared.Moves.{Moves}
 use Rattle.moves.specs.declared.MovesAnswer.{MovesAnswer}
-use Rattle.moves.specs.declared.MovesRefusal.{MovesRefusal}
-use Rattle.moves.specs.declared.MovesRefusal.the-variants as MovesRefused
-use Rattle.moves.specs.Moves.{readMoves, routesOf, countsOf, accepted as movesAccepted, refusalNumber as movesNumber}
+use Rattle.moves.specs.Moves.{readMoves, routesOf, countsOf, accepted as movesAccepted}
 use Rattle.moves.proofs.Accepted.{Accepted as AcceptedMoves, moves-accepted, routes-are, counts-are}
 use Rattle.transfer.specs.Carry.{sendsWithin, carried, afterMoves, Acceptable}
 use Rattle.transfer.specs.declared.carry.AfterMoves.{AfterMoves}
@@ -180,14 +178,6 @@ pub refused-both : (next out : List ℕ) (a : CarryAnswer) (k : ℕ) → (k ≡ 
 refused-both next out a k d e = rw e (refl, rw (ne-eqb k 0 d))
 
 -- ---- one law for each way that the two readings can go
-
-pub moves-more : (r : MovesRefusal) → 1 ≤ movesNumber r
-moves-more MovesRefused.Short = omega arith
-moves-more MovesRefused.Nodes = omega arith
-moves-more MovesRefused.Entries = omega arith
-moves-more MovesRefused.Length = omega arith
-moves-more MovesRefused.Route = omega arith
-moves-more MovesRefused.Count = omega arith
 
 module _ (s m : List ℕ) (size : ℕ) where
   pub carry-sheet : (k : ℕ) → k ≡ readSheet s .refusal → (k ≡ 0 → ⊥) → carryAnswer s m size ≡ refused k

@@ -4,14 +4,13 @@ use mathlib.Core.Path.{_≡_, refl, sym, ap, _∙_}
 use mathlib.Core.Bool.{true, not}
 use mathlib.Core.List.{List}
 use Prim.Native.Nat.{ℕ, _≤_}
-use native.Mathlib.Decide.{ℕ-discrete}
 use native.Mathlib.Omega.{arith}
-use borrow.Author.Tests.{ltb-false, le-ltb, eqb-true, eq-eqb, ne-eqb, not-false}
+use borrow.Author.Tests.{ltb-false, le-ltb, eqb-true, eq-eqb, not-false}
 use lib.Dec.{ltb, eqb}
 use lib.ListN.{length, take, drop}
 use lib.Seq.{take-at}
 use Rattle.fold.specs.Sum.{sum}
-use Rattle.fold.proofs.Tests.{passed}
+use Rattle.fold.proofs.Tests.{passed, handed}
 use Rattle.limit.specs.Limit.{limitOf}
 use Rattle.plan.specs.Tree.{at}
 use Rattle.sheet.specs.declared.SheetAnswer.{SheetAnswer}
@@ -28,7 +27,7 @@ use Rattle.transfer.proofs.Applied.{within-at}
 use Rattle.transfer.proofs.Kept.{acceptable-fine, sum-kept, writable-kept}
 use Rattle.sheet.specs.Table.{tableIn}
 use Rattle.carry.specs.declared.CarryAnswer.{CarryAnswer}
-use Rattle.carry.specs.Carry.{refused, accepted, refuseIf, routesIn, countsIn, withinIn, nextTable, nextSheet, pairAnswer, carryAnswer, nextAfter}
+use Rattle.carry.specs.Carry.{refused, accepted, routesIn, countsIn, withinIn, nextTable, nextSheet, pairAnswer, carryAnswer, nextAfter}
 use Rattle.carry.proofs.Carried.{moves-acceptable}
 
 -- ---- accepted: every check passed, so each says its part
@@ -40,21 +39,14 @@ pub record Done (s m : List ℕ) (size : ℕ) : Type 0 where
   pub within : withinIn s m ≡ true
   pub fits : length (nextSheet s m) ≤ size
 
--- a refusal that is handed on
-handed : (k : ℕ) (rest : CarryAnswer) → refuseIf (not (eqb k 0)) k rest .refusal ≡ 0 → (k ≡ 0) × (rest .refusal ≡ 0)
-handed k rest q = elim (ℕ-discrete k 0) [
-  | yes e ↦ (e, rw (eq-eqb k 0 e) at q)
-  | no d ↦ absurd (d (rw (ne-eqb k 0 d) at q))
-]
-
 module _ (s m : List ℕ) (size : ℕ) where
   pub carried-out : carryAnswer s m size .refusal ≡ 0 → Done s m size
   unfolding carryAnswer pairAnswer
   carried-out q =
       let f : CarryAnswer → ℕ = λ a. a .refusal in
       let n = readSheet s .n in
-      let a₁ = handed (readSheet s .refusal) _ q in
-      let a₂ = handed (readMoves m .refusal) _ (a₁ .1) in
+      let a₁ = handed f refused (λ k. refl) (readSheet s .refusal) _ q in
+      let a₂ = handed f refused (λ k. refl) (readMoves m .refusal) _ (a₁ .1) in
       let a₃ = passed f (not (eqb n (readMoves m .n))) (refused 41) _ (λ z. omega arith) (a₂ .1) in
       let a₄ = passed f (not (withinIn s m)) (refused 42) _ (λ z. omega arith) (a₃ .1) in
       let a₅ = passed f (ltb size (length (nextSheet s m))) (refused 43) _ (λ z. omega arith) (a₄ .1) in

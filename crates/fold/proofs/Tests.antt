@@ -5,8 +5,11 @@ use mathlib.Core.Bool.{Bool, true, false, not, cond, _&&_, _||_, and-false, fals
 use mathlib.Core.List.{List, [], _∷_}
 use Prim.Native.Nat.{ℕ, zero, suc, _+_, _-_, _≤_, _<_}
 use native.Mathlib.Nat.{eq-or-lt-of-le}
+use native.Mathlib.Decide.{ℕ-discrete}
 use native.Mathlib.Numerals.{add-one}
 use native.Mathlib.Omega.{arith}
+use borrow.Author.Tests.{eq-eqb, ne-eqb}
+use lib.Dec.{eqb}
 use lib.ListN.{length, getD}
 use Rattle.fold.specs.Sum.{only}
 use Rattle.fold.specs.All.{all, every}
@@ -39,6 +42,14 @@ or-right false b e = e
 pub passed : {A : Type 0} (f : A → ℕ) (b : Bool) (x y : A) → (f x ≡ 0 → ⊥) → f (cond b x y) ≡ 0 → (b ≡ false) × (f y ≡ 0)
 passed f true x y d e = absurd (d e)
 passed f false x y d e = (refl, e)
+
+-- A check that would hand on the refusal k did not: k is 0, and what follows it was accepted. refused k is the answer that refuses with k.
+pub handed : {A : Type 0} (f : A → ℕ) (refused : ℕ → A) → ((k : ℕ) → f (refused k) ≡ k)
+    → (k : ℕ) (rest : A) → f (cond (not (eqb k 0)) (refused k) rest) ≡ 0 → (k ≡ 0) × (f rest ≡ 0)
+handed f refused g k rest q = elim (ℕ-discrete k 0) [
+  | yes e ↦ (e, rw (eq-eqb k 0 e) at q)
+  | no d ↦ absurd (d (sym (g k) ∙ rw (ne-eqb k 0 d) at q))
+]
 
 -- ---- only
 

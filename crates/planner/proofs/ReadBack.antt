@@ -1,16 +1,15 @@
 -- What was planned is read back as what was decided: the plan with its kind, limit, helpands and shares, and the moves with their routes
 -- and counts. Assumes nothing.
 use mathlib.Core.Path.{_≡_, refl, sym, ap, _∙_}
-use mathlib.Core.Bool.{Bool, true, not}
+use mathlib.Core.Bool.{Bool, true}
 use mathlib.Core.List.{List}
 use Prim.Native.Nat.{ℕ, _≤_}
-use native.Mathlib.Decide.{ℕ-discrete}
 use native.Mathlib.Omega.{arith}
-use borrow.Author.Tests.{ltb-false, le-ltb, eq-eqb, ne-eqb}
+use borrow.Author.Tests.{ltb-false, le-ltb, eq-eqb}
 use lib.Dec.{eqb, ltb}
 use lib.ListN.{length, take, drop}
 use lib.Seq.{take-at, take-all, take-length}
-use Rattle.fold.proofs.Tests.{passed}
+use Rattle.fold.proofs.Tests.{passed, handed}
 use Rattle.words.specs.Buffer.{placed}
 use Rattle.sheet.specs.declared.Sheet.{Sheet}
 use Rattle.sheet.specs.declared.SheetAnswer.{SheetAnswer}
@@ -26,7 +25,7 @@ use Rattle.transfer.proofs.Carrying.{Carries}
 use Rattle.weigh.specs.Weigh.{totalsIn}
 use Rattle.decide.proofs.Decided.{Fine}
 use Rattle.planner.specs.declared.StepAnswer.{StepAnswer}
-use Rattle.planner.specs.Step.{refused, planned, refuseIf, OldAnswer, readOld, decisionIn, planIn, dueIn, movesOf, movesIn, writtenAnswer, stepAnswer, after, Read}
+use Rattle.planner.specs.Step.{refused, planned, OldAnswer, readOld, decisionIn, planIn, dueIn, movesOf, movesIn, writtenAnswer, stepAnswer, after, Read}
 use Rattle.planner.proofs.Facts.{decision-fine}
 use Rattle.planner.proofs.Records.{carries-due}
 
@@ -38,20 +37,13 @@ pub record Done (s o : List ℕ) (planSize movesSize : ℕ) : Type 0 where
   pub plan-fits : length (planIn s o) ≤ planSize
   pub moves-fits : length (movesIn s o) ≤ movesSize
 
--- a refusal that is handed on
-handed : (k : ℕ) (rest : StepAnswer) → refuseIf (not (eqb k 0)) k rest .refusal ≡ 0 → (k ≡ 0) × (rest .refusal ≡ 0)
-handed k rest q = elim (ℕ-discrete k 0) [
-  | yes e ↦ (e, rw (eq-eqb k 0 e) at q)
-  | no d ↦ absurd (d (rw (ne-eqb k 0 d) at q))
-]
-
 module _ (s o : List ℕ) (planSize movesSize : ℕ) where
   pub step-done : stepAnswer s o planSize movesSize .refusal ≡ 0 → Done s o planSize movesSize
   unfolding stepAnswer writtenAnswer
   step-done q =
       let f : StepAnswer → ℕ = λ a. a .refusal in
-      let a₁ = handed (readSheet s .refusal) _ q in
-      let a₂ = handed (readOld o (readSheet s .n) .refusal) _ (a₁ .1) in
+      let a₁ = handed f refused (λ k. refl) (readSheet s .refusal) _ q in
+      let a₂ = handed f refused (λ k. refl) (readOld o (readSheet s .n) .refusal) _ (a₁ .1) in
       let a₃ = passed f (ltb planSize (length (planIn s o))) (refused 22) _ (λ z. omega arith) (a₂ .1) in
       let a₄ = passed f (ltb movesSize (length (movesIn s o))) (refused 23) _ (λ z. omega arith) (a₃ .1) in
       record {

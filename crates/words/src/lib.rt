@@ -29,20 +29,6 @@ pub fn word_number(s: &[u8], k: usize) -> u32
     join(s[i], s[i + 1], s[i + 2], s[i + 3])
 }
 
-// The k words of s from number first on, and zeros behind them.
-pub fn words_64(s: &[u8], first: usize, k: usize) -> [u32; 64]
-    requires { ⌜ (4 * (first + k) ≤ length (now s)) × (k ≤ 64) ⌝ }
-    ensures { λ r. ⌜ r ≡ padded (part first k (words (now (s .entry)))) ⌝ }
-{
-    let mut out = [0u32; 64];
-    let mut i = 0;
-    while i < k {
-        out[i] = word_number(s, first + i);
-        i += 1;
-    }
-    out
-}
-
 // Reads the k words of s from number first on to the front of out.
 pub fn get_words(s: &[u8], first: usize, k: usize, out: &mut [u32])
     requires { ⌜ (4 * (first + k) ≤ length (now s)) × (k ≤ length (now out)) ⌝ }
@@ -53,6 +39,16 @@ pub fn get_words(s: &[u8], first: usize, k: usize, out: &mut [u32])
         out[i] = word_number(s, first + i);
         i += 1;
     }
+}
+
+// The k words of s from number first on, and zeros behind them.
+pub fn words_64(s: &[u8], first: usize, k: usize) -> [u32; 64]
+    requires { ⌜ (4 * (first + k) ≤ length (now s)) × (k ≤ 64) ⌝ }
+    ensures { λ r. ⌜ r ≡ padded (part first k (words (now (s .entry)))) ⌝ }
+{
+    let mut out = [0u32; 64];
+    get_words(s, first, k, &mut out);
+    out
 }
 
 // Writes w as word number k of out.

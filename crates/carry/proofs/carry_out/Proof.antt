@@ -7,11 +7,12 @@ use denote.Ref.{now}
 use Rattle.sheet.specs.declared.SheetAnswer.{SheetAnswer}
 use Rattle.moves.specs.declared.MovesAnswer.{MovesAnswer}
 use Rattle.sheet.proofs.Answers.{number-more as sheet-more}
+use Rattle.moves.proofs.Answers.{number-more as moves-more}
 use Rattle.sheet.specs.declared.SheetReading.the-variants as Sheet
 use Rattle.sheet.specs.Sheet.{readSheet, answerOf as sheetAnswer, refusalNumber as sheetNumber}
 use Rattle.moves.specs.Moves.{answerOf as movesAnswer, refusalNumber as movesNumber}
 use Rattle.carry.specs.Carry.{nextSheet, carryAnswer}
-use Rattle.carry.proofs.Carried.{moves-more, refused-both, carry-sheet, carry-moves, carry-pair}
+use Rattle.carry.proofs.Carried.{refused-both, carry-sheet, carry-moves, carry-pair}
 use Rattle.carry.proofs.carry_out.Statement.{statement}
 use Rattle.carry.proofs.carry_out.Tie as tie
 
