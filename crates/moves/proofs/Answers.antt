@@ -12,7 +12,7 @@ use Rattle.moves.specs.declared.MovesAnswer.{MovesAnswer}
 use Rattle.moves.specs.Moves.{refusalNumber, answerOf}
 
 -- the refusal of a number
-abbrev refusalOf : ℕ → MovesRefusal
+abbrev pub refusalOf : ℕ → MovesRefusal
 refusalOf k =
     cond (eqb k 31) Short (cond (eqb k 32) Nodes (cond (eqb k 33) Entries (cond (eqb k 34) Length (cond (eqb k 35) Route Count))))
 

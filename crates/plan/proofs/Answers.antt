@@ -14,8 +14,8 @@ use Rattle.plan.specs.declared.PlanReading.the-variants.{Accepted, Refus
 use Rattle.plan.specs.Plan.{refusalNumber, answerOf, readPlan}
 
 -- the refusal of a number
-named : ℕ → PlanRefusal
-named k =
+abbrev pub refusalOf : ℕ → PlanRefusal
+refusalOf k =
     cond (eqb k 11) Short
     (cond (eqb k 12) Nodes
     (cond (eqb k 13) Kind
@@ -24,16 +24,15 @@ named k =
     (cond (eqb k 16) Helpand
     (cond (eqb k 17) Shape Share))))))
 
-named-number : (r : PlanRefusal) → named (refusalNumber r) ≡ r
-unfolding named
-named-number Short = refl
-named-number Nodes = refl
-named-number Kind = refl
-named-number Limit = refl
-named-number Length = refl
-named-number Helpand = refl
-named-number Shape = refl
-named-number Share = refl
+back : (r : PlanRefusal) → refusalOf (refusalNumber r) ≡ r
+back Short = refl
+back Nodes = refl
+back Kind = refl
+back Limit = refl
+back Length = refl
+back Helpand = refl
+back Shape = refl
+back Share = refl
 
 pub number-more : (r : PlanRefusal) → 0 < refusalNumber r
 number-more Short = omega arith
@@ -51,7 +50,7 @@ answer-determines (Accepted p) (Accepted q) e = ap (λ (x : PlanAnswer). Accepte
 answer-determines (Accepted p) (Refused r) e = absurd (omega (arith, number-more r, ap (λ (x : PlanAnswer). x .refusal) e))
 answer-determines (Refused r) (Accepted p) e = absurd (omega (arith, number-more r, ap (λ (x : PlanAnswer). x .refusal) e))
 answer-determines (Refused r) (Refused t) e =
-    ap Refused (sym (named-number r) ∙ ap (λ (x : PlanAnswer). named (x .refusal)) e ∙ named-number t)
+    ap Refused (sym (back r) ∙ ap (λ (x : PlanAnswer). refusalOf (x .refusal)) e ∙ back t)
 
 -- so the contract of `read_plan` determines its answer
 pub reading-determined : (s : List ℕ) (a b : PlanReading) → answerOf a ≡ readPlan s → answerOf b ≡ readPlan s → a ≡ b

@@ -3,3 +3,4 @@ pub mod Facts
 pub mod Records
 pub mod ReadBack
 pub mod WorkedSteps
+pub mod Answers

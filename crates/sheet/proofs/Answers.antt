@@ -13,7 +13,7 @@ use Rattle.sheet.specs.declared.SheetAnswer.{SheetAnswer}
 use Rattle.sheet.specs.Sheet.{refusalNumber, answerOf}
 
 -- the refusal of a number
-abbrev refusalOf : ℕ → SheetRefusal
+abbrev pub refusalOf : ℕ → SheetRefusal
 refusalOf k =
     cond (eqb k 1) Short (cond (eqb k 2) Nodes (cond (eqb k 3) Tolerance (cond (eqb k 4) Entries (cond (eqb k 5) Length (cond (eqb k 6) Cell Count)))))
 
