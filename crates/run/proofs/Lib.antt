@@ -1,2 +1,3 @@
+pub mod Front
 pub mod Lines
 pub mod Planned

@@ -10,11 +10,10 @@ use native.Mathlib.Nat.{mul-le-mul}
 use native.Mathlib.Omega.{arith}
 use borrow.Author.Tests.{eq-eqb, ne-eqb, le-ltb}
 use lib.Dec.{eqb}
-use lib.ListN.{length, take, drop, length-append}
-use lib.Seq.{take-all, take-length, take-at, getD-take}
+use lib.ListN.{length, take}
+use lib.Seq.{take-all, take-length, getD-take}
 use Rattle.fold.specs.Sum.{only}
 use Rattle.fold.proofs.Sums.{sum-eq}
-use Rattle.words.specs.Buffer.{placed}
 use Rattle.sheet.specs.declared.Sheet.{Sheet}
 use Rattle.sheet.specs.Sheet.{readSheet}
 use Rattle.sheet.specs.Table.{tableIn}
@@ -45,6 +44,7 @@ use Rattle.planner.proofs.Records.{carries-due}
 use Rattle.planner.proofs.Ways.{step-decided, number-more}
 use Rattle.text.specs.Text.{refusedText}
 use Rattle.run.specs.Run.{recordsText, answerIn, textIn, planSize, movesSize, Printable}
+use Rattle.run.proofs.Front.{Front, front-of}
 use Rattle.run.proofs.Lines.{moves-few}
 
 -- ---- the two texts
@@ -186,20 +186,8 @@ answer-planned s o q =
     sym (step-decided s o planSize movesSize n (sym (p .sheet)) refl (readOld o n .tree) (ap (λ (k : ℕ). record { refusal = k; tree = readOld o n .tree }) (sym (p .old))))
     ∙ decided-planned s o (p .sheet) (p .old) planSize movesSize (omega arith) (omega arith)
 
--- ---- records at the front of buffers
+-- ---- both records of a step, at the front of their buffers
 
-pub record Front (rec buffer : List ℕ) (size : ℕ) : Type 0 where
-  pub within : size ≤ length buffer
-  pub front : take size buffer ≡ rec
-
-front-of : (rec old buffer : List ℕ) (size : ℕ) → size ≡ length rec → buffer ≡ placed rec old → Front rec buffer size
-front-of rec old buffer size e f =
-    record {
-      within = omega (arith, ap length f, length-append rec (drop (length rec) old));
-      front = rw f (take-at rec (drop (length rec) old) size (sym e));
-    }
-
--- both records of a step
 pub record Fronts (s o : List ℕ) (x : PlannedStep) (plan moves : List ℕ) : Type 0 where
   pub answer : answerIn s o .refusal ≡ 0
   pub plan-front : Front (planIn s o) plan (x .plan)
