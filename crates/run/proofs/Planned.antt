@@ -186,6 +186,18 @@ answer-planned s o q =
     sym (step-decided s o planSize movesSize n (sym (p .sheet)) refl (readOld o n .tree) (ap (λ (k : ℕ). record { refusal = k; tree = readOld o n .tree }) (sym (p .old))))
     ∙ decided-planned s o (p .sheet) (p .old) planSize movesSize (omega arith) (omega arith)
 
+-- THEOREM. Longer buffers give the same answer: the program's are long enough, and never refused with 22 or 23.
+pub long-enough : (s o : List ℕ) (a b : ℕ) → planSize ≤ a → movesSize ≤ b → stepAnswer s o a b ≡ answerIn s o
+unfolding stepAnswer
+long-enough s o a b l m =
+    elim (ℕ-discrete (readSheet s .refusal) 0) [
+      | no d ↦ rw (ne-eqb (readSheet s .refusal) 0 d)
+      | yes z ↦ rw (eq-eqb (readSheet s .refusal) 0 z) (elim (ℕ-discrete (readOld o (readSheet s .n) .refusal) 0) [
+        | no d ↦ rw (ne-eqb (readOld o (readSheet s .n) .refusal) 0 d)
+        | yes y ↦ rw (eq-eqb (readOld o (readSheet s .n) .refusal) 0 y) (decided-planned s o z y a b l m ∙ sym (decided-planned s o z y planSize movesSize (omega arith) (omega arith)))
+      ])
+    ]
+
 -- ---- both records of a step, at the front of their buffers
 
 pub record Fronts (s o : List ℕ) (x : PlannedStep) (plan moves : List ℕ) : Type 0 where
