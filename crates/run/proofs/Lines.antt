@@ -1,8 +1,8 @@
 -- The text of arrays that were read from two records is the text of these records: an array of 64 has zeros behind its words, and no
 -- line looks behind the first e routes and counts. Assumes nothing.
-use mathlib.Core.Path.{_≡_, refl, sym, ap, _∙_}
+use mathlib.Core.Path.{_≡_, ap, _∙_}
 use mathlib.Core.List.{List, _++_}
-use Prim.Native.Nat.{ℕ, _+_, _-_, _*_, _≤_, _<_}
+use Prim.Native.Nat.{ℕ, _+_, _-_, _≤_}
 use native.Mathlib.Nat.{mul-le-mul}
 use native.Mathlib.Omega.{arith}
 use lib.ListN.{length, getD, drop, List·getD-append}
@@ -12,7 +12,6 @@ use Rattle.words.specs.Words.{words, part, padded}
 use Rattle.words.specs.Buffer.{placed}
 use Rattle.plan.specs.Tree.{at}
 use Rattle.plan.specs.Plan.{readPlan, helpandsOf, sharesOf}
-use Rattle.plan.proofs.Accepted.{plan-accepted}
 use Rattle.plan.proofs.Checks.{padded-same}
 use Rattle.moves.specs.Moves.{readMoves, routesOf, countsOf}
 use Rattle.moves.proofs.Accepted.{moves-accepted, routes-are, counts-are}
@@ -54,7 +53,10 @@ module _ (s p m : List ℕ) (g : Printable s p m) where
         let x : length (routesOf m e) ≡ e = rw e-is (routes-are m (readMoves m) k) in
         let y : length (countsOf m e) ≡ e = rw e-is (counts-are m (readMoves m) k) in
         rw (routes-is, counts-is)
-        (rw (List·getD-append (routesOf m e) (drop (length (routesOf m e)) a) 0 i (omega arith), List·getD-append (countsOf m e) (drop (length (countsOf m e)) b) 0 i (omega arith)))
+        (rw (
+          List·getD-append (routesOf m e) (drop (length (routesOf m e)) a) 0 i (omega arith),
+          List·getD-append (countsOf m e) (drop (length (countsOf m e)) b) 0 i (omega arith),
+        ))
 
     helpands-at : at helpands ≡ at (helpandsOf p n)
     helpands-at = ap at helpands-is ∙ padded-same (helpandsOf p n)

@@ -1,12 +1,11 @@
 -- What a planned step gives: both records are accepted when they are read again, with the sheet's N, and no owner's helpers are given
 -- more than there is. So they can be printed, and the two buffers are never too short. Assumes nothing.
 use mathlib.Core.Path.{_≡_, refl, sym, ap, _∙_}
-use mathlib.Core.Logic.{_≢_, _⊎_, inl, inr}
-use mathlib.Core.Bool.{Bool, true, false, cond, not}
+use mathlib.Core.Logic.{_≢_}
+use mathlib.Core.Bool.{Bool, cond, not}
 use mathlib.Core.List.{List}
-use Prim.Native.Nat.{ℕ, _+_, _-_, _*_, _≤_, _<_}
+use Prim.Native.Nat.{ℕ, _≤_, _<_}
 use native.Mathlib.Decide.{ℕ-discrete}
-use native.Mathlib.Nat.{mul-le-mul}
 use native.Mathlib.Omega.{arith}
 use borrow.Author.Tests.{eq-eqb, ne-eqb, le-ltb}
 use lib.Dec.{eqb}
@@ -40,10 +39,11 @@ use Rattle.planner.specs.declared.Step as step
 use Rattle.planner.specs.declared.Step.the-variants as step-way
 use Rattle.planner.specs.Step.{refused, planned, numberOf, readOld, decisionIn, planIn, dueIn, movesIn, movesOf, decidedAnswer, writtenAnswer, stepAnswer, answerOf, after, Read}
 use Rattle.planner.proofs.Facts.{decision-fine}
-use Rattle.planner.proofs.Records.{carries-due}
+use Rattle.planner.proofs.Records.{allotted, carries-due}
 use Rattle.planner.proofs.Ways.{step-decided, number-more}
 use Rattle.text.specs.Text.{refusedText}
-use Rattle.run.specs.Run.{recordsText, answerIn, textIn, planSize, movesSize, Printable}
+use Rattle.text.proofs.Lengths.{refused-le, step-fits}
+use Rattle.run.specs.Run.{recordsText, answerIn, textIn, planSize, movesSize, textSize, Printable}
 use Rattle.run.proofs.Front.{Front, front-of}
 use Rattle.run.proofs.Lines.{moves-few}
 
@@ -60,15 +60,15 @@ module _ (s o : List ℕ) where
 
 -- ---- the front of helpands and shares is enough
 
-allotted-front : (n : ℕ) (h share : List ℕ) (total : ℕ → ℕ) → ((k : ℕ) → k < n → at h k < n) → ((m : ℕ) → m < n → overHelpers n (at h) m (at share) ≤ total m)
-    → Allotted n (at (take n h)) total (at (take n share))
-allotted-front n h share total inside enough =
-    record { inside = λ k l. omega (arith, getD-take n h k 0 l, inside k l); enough = λ m l. omega (arith, same m, enough m l) }
+allotted-front : (n : ℕ) (h share : List ℕ) (total : ℕ → ℕ) → Allotted n (at h) total (at share) → Allotted n (at (take n h)) total (at (take n share))
+allotted-front n h share total a =
+    record { inside = λ k l. omega (arith, getD-take n h k 0 l, a .inside k l); enough = λ m l. omega (arith, same m, a .enough m l) }
   where
     same : (m : ℕ) → overHelpers n (at (take n h)) m (at (take n share)) ≡ overHelpers n (at h) m (at share)
     same m =
         sum-eq n (λ k. only (helps (at (take n h)) m k) (at (take n share) k)) (λ k. only (helps (at h) m k) (at share k)) λ k l.
-        ap (λ (x : ℕ). only (helps (λ j. x) m k) (at (take n share) k)) (getD-take n h k 0 l) ∙ ap (only (helps (at h) m k)) (getD-take n share k 0 l)
+        ap (λ (x : ℕ). only (helps (λ j. x) m k) (at (take n share) k)) (getD-take n h k 0 l)
+        ∙ ap (only (helps (at h) m k)) (getD-take n share k 0 l)
 
 -- ---- a sheet and an old plan that are accepted
 
@@ -140,7 +140,7 @@ module _ (s o : List ℕ) (z : readSheet s .refusal ≡ 0) (y : readOld o (readS
         plan = ap (λ (a : PlanAnswer). a .refusal) plan-back;
         moves = ap (λ (a : MovesAnswer). a .refusal) moves-back;
         nodes = plan-nodes;
-        allotted = rw (plan-nodes, helpands-back, shares-back) (allotted-front n₀ (d₀ .helpands) (d₀ .shares) (at (totalsIn s)) (fine .inside) (fine .enough));
+        allotted = rw (plan-nodes, helpands-back, shares-back) (allotted-front n₀ (d₀ .helpands) (d₀ .shares) (at (totalsIn s)) (allotted s o h₀ tree₀ both));
       }
 
   -- both records fit
@@ -196,6 +196,21 @@ long-enough s o a b l m =
         | no d ↦ rw (ne-eqb (readOld o (readSheet s .n) .refusal) 0 d)
         | yes y ↦ rw (eq-eqb (readOld o (readSheet s .n) .refusal) 0 y) (decided-planned s o z y a b l m ∙ sym (decided-planned s o z y planSize movesSize (omega arith) (omega arith)))
       ])
+    ]
+
+-- ---- the length of the text
+
+records-fit : (s p m : List ℕ) → Printable s p m → length (recordsText s p m) ≤ textSize
+unfolding recordsText
+records-fit s p m g =
+    step-fits (readPlan p .kind) (readPlan p .limit) (readPlan p .n) _ _ _ (readMoves m .e) _ _ (plan-accepted p (g .plan) .n-high) (moves-few s p m g)
+
+-- THEOREM. No step prints more than 262,208 bytes.
+pub text-fits : (s o : List ℕ) → length (textIn s o) ≤ textSize
+text-fits s o =
+    elim (ℕ-discrete (answerIn s o .refusal) 0) [
+      | yes z ↦ let p = passed s o z in rw (text-planned s o z) (records-fit s (planIn s o) (movesIn s o) (printable s o (p .sheet) (p .old)))
+      | no d ↦ rw (text-refused s o (answerIn s o .refusal) refl d) (omega (arith, refused-le (answerIn s o .refusal)))
     ]
 
 -- ---- both records of a step, at the front of their buffers

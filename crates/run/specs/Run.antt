@@ -2,10 +2,9 @@
 use mathlib.Core.Path.{_≡_}
 use mathlib.Core.Bool.{cond}
 use mathlib.Core.List.{List}
-use Prim.Native.Nat.{ℕ, _+_, _*_}
+use Prim.Native.Nat.{ℕ}
 use lib.Dec.{eqb}
 use lib.ListN.{take, drop}
-use Rattle.limit.specs.Limit.{maxNodes}
 use Rattle.sheet.specs.Sheet.{readSheet}
 use Rattle.plan.specs.Tree.{at}
 use Rattle.plan.specs.Plan.{readPlan, helpandsOf, sharesOf}

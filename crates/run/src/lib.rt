@@ -3,12 +3,10 @@
 use planner::Step;
 ghost use mathlib.Core.Path.{_≡_};
 ghost use Prim.Native.Nat.{_≤_};
-ghost use lib.ListN.{length, take};
+ghost use lib.ListN.{length};
 ghost use Rattle.words.specs.Buffer.{placed};
-ghost use Rattle.words.specs.Words.{padded};
 ghost use Rattle.sheet.specs.Sheet.{readSheet};
 ghost use Rattle.plan.specs.Tree.{at};
-ghost use Rattle.plan.specs.Plan.{readPlan};
 ghost use Rattle.weigh.specs.Weigh.{totalsIn};
 ghost use Rattle.transfer.specs.Due.{Allotted};
 ghost use Rattle.run.specs.Run.{ownIn, recordsText, textIn, runText, textSize, Printable};

@@ -1,8 +1,6 @@
 -- `cases::print` is safe: the text is a part of the buffer that it was written to. Assumes nothing.
 use borrow.Author.Needs.{needs}
 use mathlib.Core.Path.{sym}
-use mathlib.Core.List.{List}
-use Prim.Native.Nat.{ℕ}
 use lib.Seq.{length-take-le}
 use denote.Ref.{now}
 use Rattle.run.specs.Run.{runText}

@@ -1,6 +1,6 @@
 -- `run::own_of` meets its contract: the sheet was accepted, so its table can be unpacked and no total wraps. Assumes nothing.
 use borrow.Author.Needs.{needs}
-use mathlib.Core.Path.{_≡_, refl, sym, ap, _∙_}
+use mathlib.Core.Path.{_≡_, sym, ap, _∙_}
 use mathlib.Core.List.{List}
 use Prim.Native.Nat.{ℕ, _≤_}
 use native.Mathlib.Omega.{arith}
@@ -54,7 +54,11 @@ totals-requires c κs =
 own-amounts-requires : tie.Need-own-amounts-requires
 own-amounts-requires c κs =
     let b = c .before .before .before .before .before in
-    (nodes-few b, rw (totals-is c) (b .pre .2), λ k l. ap (λ (xs : List ℕ). at xs k) (c .totals .ensures) ∙ tabulate-behind (b .args .nodes) (totalOf (b .args .nodes) (c .before .before .unpack .result)) k l)
+    let n = b .args .nodes in (
+      nodes-few b,
+      rw (totals-is c) (b .pre .2),
+      λ k l. ap (λ (xs : List ℕ). at xs k) (c .totals .ensures) ∙ tabulate-behind n (totalOf n (c .before .before .unpack .result)) k l,
+    )
 
 returns : tie.Need-returns
 returns c =

@@ -1,11 +1,11 @@
 -- `run::write_records` meets its contract: both records were accepted, so they are as long as their heads say, and the arrays read from
 -- them give the same text. Assumes nothing.
 use borrow.Author.Needs.{needs}
-use mathlib.Core.Path.{_≡_, refl, sym, ap, _∙_}
-use mathlib.Core.List.{List, _++_}
-use Prim.Native.Nat.{ℕ, _+_, _*_, _≤_}
+use mathlib.Core.Path.{_≡_, sym, ap, _∙_}
+use mathlib.Core.List.{List}
+use Prim.Native.Nat.{ℕ, _+_, _≤_}
 use native.Mathlib.Omega.{arith}
-use lib.ListN.{length, getD, drop, length-append}
+use lib.ListN.{length, drop, length-append}
 use denote.Ref.{now}
 use Rattle.words.specs.Words.{words, part, padded}
 use Rattle.words.specs.Buffer.{placed}
@@ -18,8 +18,6 @@ use Rattle.moves.specs.Moves.{readMoves}
 use Rattle.moves.proofs.Accepted as moves
 use Rattle.transfer.specs.Due.{Allotted}
 use Rattle.weigh.specs.Weigh.{totalsIn}
-use Rattle.text.specs.Text.{stepText}
-use Rattle.run.specs.Run.{recordsText, Printable}
 use Rattle.run.proofs.Lines.{moves-few, text-same}
 use Rattle.run.proofs.write_records.Statement.{statement}
 use Rattle.run.proofs.write_records.Tie as tie
