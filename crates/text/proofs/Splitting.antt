@@ -103,7 +103,7 @@ past-head false false true a h = absurd (true≢false h)
 past-head false false false a h = refl
 
 -- a header's words, whatever follows the sheet
-word-front : (s p : List ℕ) (i : ℕ) → 4 * i + 4 ≤ length s → getD (words (s ++ p)) i 0 ≡ getD (words s) i 0
+pub word-front : (s p : List ℕ) (i : ℕ) → 4 * i + 4 ≤ length s → getD (words (s ++ p)) i 0 ≡ getD (words s) i 0
 word-front s p i h =
     let l : 4 * i + 4 ≤ length (s ++ p) = simp length-append (omega arith) in
     let h₀ : 4 * i < length s = omega arith in
@@ -114,7 +114,7 @@ word-front s p i h =
     ∙ rw (List·getD-append s p 0 (4 * i) h₀, List·getD-append s p 0 (4 * i + 1) h₁, List·getD-append s p 0 (4 * i + 2) h₂, List·getD-append s p 0 (4 * i + 3) h₃)
     (sym (words-at s i h))
 
-refused-front : (s p : List ℕ) → 12 ≤ length s → headerRefused (s ++ p) ≡ headerRefused s
+pub refused-front : (s p : List ℕ) → 12 ≤ length s → headerRefused (s ++ p) ≡ headerRefused s
 refused-front s p h =
     let l : 12 ≤ length (s ++ p) = simp length-append (omega arith) in
     refused-long (s ++ p) l
