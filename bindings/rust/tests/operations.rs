@@ -4,6 +4,7 @@ use firrozka::{
     carry_out, plan_step, read_moves, read_plan, read_sheet, to_bytes, tree_in_force, weigh, Cell,
     Kind, Move, Refusal, Step, Words, LEAST_BYTES, MOVES_BYTES, NO_PLAN, PLAN_BYTES, SHEET_BYTES,
 };
+use std::thread;
 
 /// Step D: "sheet words", "plan words", "moves words".
 const SHEET: [u32; 9] = [3, 10, 3, 0, 65, 130, 90, 6, 4];
@@ -155,4 +156,51 @@ fn refusals_leave_the_buffers_untouched() {
         carry_out(&sheet, &too_many, &mut []),
         Err(Refusal::MovesSends)
     );
+}
+
+/// The stack that docs/USING.md asks for.
+const STACK: usize = 512 * 1024;
+
+/// A sheet of 4,096 cells, and a chain of 64 nodes that it keeps: of the calls
+/// that were measured, this one takes the most stack.
+fn long_chain() -> (Vec<u8>, Vec<u8>) {
+    let helpands = (0u32..64).map(|node| node.saturating_sub(1));
+    let plan: Vec<u32> = [64, 2, 0]
+        .into_iter()
+        .chain(helpands)
+        .chain([0; 64])
+        .collect();
+    let counts = (0..4096).map(|cell| if cell % 64 == 0 { 112 } else { 100 });
+    let sheet: Vec<u32> = [64, 10, 4096]
+        .into_iter()
+        .chain(0..4096)
+        .chain(counts)
+        .collect();
+    (to_bytes(&sheet), to_bytes(&plan))
+}
+
+#[test]
+fn calls_from_several_threads_do_not_meet() {
+    let (sheet, old) = long_chain();
+    let planned = || {
+        let mut buffers = Box::new(Buffers::new());
+        let step = buffers
+            .plan_step(&sheet, &old)
+            .expect("the step is planned");
+        assert_eq!(step.kind, Kind::Kept);
+        (step.plan.to_vec(), step.moves.to_vec())
+    };
+    let alone = planned();
+    thread::scope(|scope| {
+        let thread = |_| {
+            thread::Builder::new()
+                .stack_size(STACK)
+                .spawn_scoped(scope, planned)
+        };
+        let threads: Vec<_> = (0..8).map(thread).collect();
+        for thread in threads {
+            let together = thread.expect("the thread starts").join();
+            assert_eq!(together.expect("the thread ends"), alone);
+        }
+    });
 }
