@@ -4,7 +4,7 @@
  *
  * A record is a stretch of bytes: words of 4 bytes, unsigned, low byte first, whatever the machine. It need not be aligned.
  * The library keeps no state, takes no memory but the stack, and every function returns. A record to read may be any bytes of any
- * length; with length 0 its pointer may be NULL. A buffer to write to lies apart from the records to read and from other buffers.
+ * length; with length 0 a pointer may be NULL. A buffer to write to lies apart from the records to read and from other buffers.
  * What is written stands at the front of the buffer; the bytes behind it stay as they were.
  *
  * An answer carries 0 or a refusal number, and the values named. In a refusal these are all 0, and buffers are untouched. */

@@ -4,11 +4,11 @@ use std::error::Error;
 use std::fmt;
 
 macro_rules! refusals {
-    ($($name:ident = $number:literal, $of:literal, $reason:literal;)*) => {
+    ($($name:ident = $number:literal, $subject:literal, $reason:literal;)*) => {
         /// A refusal: document 01's number, and its reason in words.
         #[derive(Clone, Copy, Debug, PartialEq, Eq, PartialOrd, Ord, Hash)]
         pub enum Refusal {
-            $(#[doc = concat!($of, ": ", $reason)] $name = $number,)*
+            $(#[doc = concat!($subject, ": ", $reason)] $name = $number,)*
         }
 
         impl Refusal {
@@ -16,9 +16,9 @@ macro_rules! refusals {
             pub const ALL: &'static [Refusal] = &[$(Refusal::$name),*];
 
             /// The record or operation that it belongs to.
-            pub fn of(self) -> &'static str {
+            pub fn subject(self) -> &'static str {
                 match self {
-                    $(Refusal::$name => $of,)*
+                    $(Refusal::$name => $subject,)*
                 }
             }
 
@@ -81,8 +81,8 @@ impl Refusal {
 
 impl fmt::Display for Refusal {
     fn fmt(&self, f: &mut fmt::Formatter) -> fmt::Result {
-        let (number, of, reason) = (self.number(), self.of(), self.reason());
-        write!(f, "refused {number}: {of}: {reason}")
+        let (number, subject, reason) = (self.number(), self.subject(), self.reason());
+        write!(f, "refused {number}: {subject}: {reason}")
     }
 }
 

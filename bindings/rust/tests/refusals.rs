@@ -25,7 +25,7 @@ fn has_all(text: &str, mark: &str, line: fn(Refusal) -> String) {
 fn the_formats_page_has_the_refusals() {
     let text = part("docs/FORMATS.md", "| number | of | reason |", "\n\n");
     has_all(&text, "| |", |refusal| {
-        let (number, of, reason) = (refusal.number(), refusal.of(), refusal.reason());
+        let (number, of, reason) = (refusal.number(), refusal.subject(), refusal.reason());
         format!("| {number} | {of} | {reason} |")
     });
 }
@@ -54,7 +54,7 @@ fn the_header_has_the_refusals() {
 fn the_python_module_has_the_refusals() {
     let text = part("bindings/python/firrozka.py", "REFUSALS = {", "}");
     has_all(&text, ": (", |refusal| {
-        let (number, of, reason) = (refusal.number(), refusal.of(), refusal.reason());
+        let (number, of, reason) = (refusal.number(), refusal.subject(), refusal.reason());
         format!("{number}: (\"{of}\", \"{reason}\"),")
     });
 }
