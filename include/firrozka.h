@@ -1,8 +1,13 @@
 /* Firrozka: the load balance of a particle simulation, decided with machine-checked proof.
  *
- * The library keeps no state and takes no memory of its own. Every function takes any bytes of any length and returns. A buffer to
- * write to lies apart from the records to read.
- * An answer carries 0 or a refusal number (docs/FORMATS.md lists them), and the values named; in a refusal these are all 0. */
+ * C11 and C++. Link with libfirrozka.a; docs/USING.md says how, docs/FORMATS.md describes the records.
+ *
+ * A record is a stretch of bytes: words of 4 bytes, unsigned, low byte first, whatever the machine. It need not be aligned.
+ * The library keeps no state, takes no memory but the stack, and every function returns. A record to read may be any bytes of any
+ * length; with length 0 a pointer may be NULL. A buffer to write to lies apart from the records to read and from other buffers.
+ * What is written stands at the front of the buffer; the bytes behind it stay as they were.
+ *
+ * An answer carries 0 or a refusal number, and the values named. In a refusal these are all 0, and buffers are untouched. */
 #ifndef FIRROZKA_H
 #define FIRROZKA_H
 
@@ -13,43 +18,97 @@
 extern "C" {
 #endif
 
-/* N, t, E, P and the limit L of a sheet. Refusals 1 to 7. */
+/* Buffers of so many bytes are long enough for every call. */
+enum {
+    FIRROZKA_SHEET_BYTES = 32780, /* 4 × (3 + 2 × 4,096) */
+    FIRROZKA_PLAN_BYTES = 524,    /* 4 × (3 + 2 × 64) */
+    FIRROZKA_MOVES_BYTES = 32264, /* 4 × (2 + 2 × 4,032) */
+    FIRROZKA_LEAST_BYTES = 256    /* 4 × 64 */
+};
+
+/* The kind of a plan. */
+enum firrozka_kind {
+    FIRROZKA_PRIMARY = 0, /* no node helps */
+    FIRROZKA_KEPT = 1,    /* the old tree */
+    FIRROZKA_REBUILT = 2  /* a new tree */
+};
+
+/* Why an operation refuses. Its checks run in the order of its numbers, those of the sheet and of the other record first. */
+enum firrozka_refusal {
+    FIRROZKA_ACCEPTED = 0,
+    /* sheet */
+    FIRROZKA_SHEET_SHORT = 1,     /* under 12 bytes */
+    FIRROZKA_SHEET_NODES = 2,     /* N is not 1 to 64 */
+    FIRROZKA_SHEET_TOLERANCE = 3, /* t is not 1 to 99 */
+    FIRROZKA_SHEET_ENTRIES = 4,   /* E is above N × N */
+    FIRROZKA_SHEET_LENGTH = 5,    /* the length is not 4 × (3 + 2E) bytes */
+    FIRROZKA_SHEET_CELL = 6,      /* a cell does not rise, or names a node not below N */
+    FIRROZKA_SHEET_COUNT = 7,     /* a count is 0, or the running sum is above 1,000,000,000 */
+    /* plan */
+    FIRROZKA_PLAN_SHORT = 11,   /* under 12 bytes */
+    FIRROZKA_PLAN_NODES = 12,   /* N is not 1 to 64 */
+    FIRROZKA_PLAN_KIND = 13,    /* the kind is above 2, or not 0 with one node */
+    FIRROZKA_PLAN_LIMIT = 14,   /* the limit is above 1,990,000,000 */
+    FIRROZKA_PLAN_LENGTH = 15,  /* the length is not 4 × (3 + 2N) bytes */
+    FIRROZKA_PLAN_HELPAND = 16, /* a helpand is not below N */
+    FIRROZKA_PLAN_SHAPE = 17,   /* the wrong shape: kind 0 has only roots; kinds 1 and 2 have one root, which every chain of helpands
+                                   reaches */
+    FIRROZKA_PLAN_SHARE = 18,   /* a share is above the limit, or not 0 at a root */
+    /* weigh, plan a step */
+    FIRROZKA_PLAN_NODES_DIFFER = 21, /* the N of sheet and plan differ */
+    FIRROZKA_PLAN_BUFFER = 22,       /* the plan's buffer is too short */
+    FIRROZKA_MOVES_BUFFER = 23,      /* the moves' buffer is too short */
+    FIRROZKA_PLAN_PRIMARY = 24,      /* the plan is kind 0 and has no tree */
+    FIRROZKA_LEAST_BUFFER = 25,      /* the buffer is under 4N bytes */
+    /* moves */
+    FIRROZKA_MOVES_SHORT = 31,   /* under 8 bytes */
+    FIRROZKA_MOVES_NODES = 32,   /* N is not 1 to 64 */
+    FIRROZKA_MOVES_ENTRIES = 33, /* E is above N × (N−1) */
+    FIRROZKA_MOVES_LENGTH = 34,  /* the length is not 4 × (2 + 2E) bytes */
+    FIRROZKA_MOVES_ROUTE = 35,   /* a route does not rise, names a node not below N, or has one node as sender and receiver */
+    FIRROZKA_MOVES_COUNT = 36,   /* a count is 0 or above 1,000,000,000 */
+    /* carry out */
+    FIRROZKA_MOVES_NODES_DIFFER = 41, /* the N of sheet and moves differ */
+    FIRROZKA_MOVES_SENDS = 42,        /* some cell sends in all more than the old sheet gives it */
+    FIRROZKA_SHEET_BUFFER = 43        /* the buffer is too short */
+};
+
+/* Read sheet: N, the tolerance t, the number of cells E, the total P and the limit L. Refused: 1 to 7. */
 struct firrozka_sheet {
     uint32_t refusal, n, t, e, p, limit;
 };
 struct firrozka_sheet firrozka_read_sheet(const uint8_t *sheet, size_t sheet_len);
 
-/* N, kind (0 primary, 1 kept, 2 rebuilt) and the limit of a plan. Refusals 11 to 18. */
+/* Read plan: N, the kind and the limit. Refused: 11 to 18. */
 struct firrozka_plan {
     uint32_t refusal, n, kind, limit;
 };
 struct firrozka_plan firrozka_read_plan(const uint8_t *plan, size_t plan_len);
 
-/* N and E of a list of moves. Refusals 31 to 36. */
+/* Read moves: N and the number of moves E. Refused: 31 to 36. */
 struct firrozka_moves {
     uint32_t refusal, n, e;
 };
 struct firrozka_moves firrozka_read_moves(const uint8_t *moves, size_t moves_len);
 
-/* Weigh: writes N words, the least of each node in the plan's tree under the sheet's limit, to the first 4N bytes of the buffer, and
- * says whether the tree holds, 1 or 0. Refused: the sheet's; the plan's; 21, 24, 25. The buffer is then untouched. */
+/* Weigh: writes N words, the least of each node in the plan's tree under the sheet's limit, and says whether the tree holds, 1 or 0.
+ * The leasts are written either way. Refused: the sheet's; the plan's; 21, 24, 25. */
 struct firrozka_weighed {
     uint32_t refusal, holds;
 };
 struct firrozka_weighed firrozka_weigh(const uint8_t *sheet, size_t sheet_len, const uint8_t *plan, size_t plan_len,
                                        uint8_t *least, size_t least_len);
 
-/* Plan a step: writes the new plan and the moves to the front of the two buffers. An old plan of length 0 is none. Gives the kind, the
- * limit and both lengths in bytes. 524 and 32,264 bytes are enough for every plan and every list of moves. Refused: the sheet's; the
- * old plan's; 21; 22 and 23, the plan's or the moves' buffer too short. Both buffers are then untouched. */
+/* Plan a step: writes the new plan and the moves, and gives the kind, the limit and both lengths in bytes. An old plan of length 0 is
+ * none. Refused: the sheet's; the old plan's; 21, 22, 23. Both buffers are then untouched. */
 struct firrozka_step {
     uint32_t refusal, kind, limit, plan_bytes, moves_bytes;
 };
 struct firrozka_step firrozka_plan_step(const uint8_t *sheet, size_t sheet_len, const uint8_t *old_plan, size_t old_len,
                                         uint8_t *plan, size_t plan_len, uint8_t *moves, size_t moves_len);
 
-/* Carry out: writes the sheet that follows a sheet and any accepted moves to the front of the buffer, and gives its length in bytes.
- * 32,780 bytes are enough for every sheet. Refused: the sheet's; the moves'; 41, 42, 43. The buffer is then untouched. */
+/* Carry out: writes the sheet that follows a sheet and any accepted moves, and gives its length in bytes.
+ * Refused: the sheet's; the moves'; 41, 42, 43. */
 struct firrozka_written {
     uint32_t refusal, bytes;
 };
@@ -57,7 +116,7 @@ struct firrozka_written firrozka_carry_out(const uint8_t *sheet, size_t sheet_le
                                            uint8_t *next, size_t next_len);
 
 /* Tree in force: the stretch of helpands that holds after a step, so many bytes from start on. Source 1 is the old plan, 2 the new.
- * Nothing is copied. The length is 0 when there is none. */
+ * Nothing is copied. Nothing is refused: the length is 0 when there is no such tree. */
 struct firrozka_part {
     uint32_t source, start, length;
 };

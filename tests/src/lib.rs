@@ -7,7 +7,7 @@
 //! | `answers` | what the operations answer |
 //! | `reference` | the second implementation |
 //! | `faults` | every check of document 01 looked at on its own |
-//! | `boundary` | the archive under test |
+//! | `boundary` | the archive under test, as the Rust wrapper declares it |
 //! | `random` | the seeded generator |
 //! | `settings` | numbers from the environment |
 //! | `records` | valid records, and ways to spoil them |
@@ -29,7 +29,6 @@
 
 pub mod answers;
 pub mod bench_text;
-pub mod boundary;
 pub mod bounds;
 pub mod calls;
 pub mod cases;
@@ -50,3 +49,5 @@ pub mod rival;
 pub mod settings;
 pub mod steps;
 pub mod worked;
+
+pub use firrozka::ffi as boundary;

@@ -2,7 +2,9 @@
 //! the order written, with buffers untouched; lengths at and one past each
 //! bound; and nothing written behind the record.
 
-use firrozka_tests::answers::{PartAnswer, StepAnswer, WeighedAnswer, WrittenAnswer};
+use firrozka_tests::answers::{
+    helpands, PartAnswer, StepAnswer, WeighedAnswer, WrittenAnswer, NOTHING,
+};
 use firrozka_tests::operations::ALL;
 use firrozka_tests::records::moves::{moves, route};
 use firrozka_tests::records::plans::plan;
@@ -348,9 +350,8 @@ fn tree_in_force() {
     let alone = of(0, &[0]);
     // Limits and shares are not compared.
     let kept = plan(1, 50, &star, &[0, 50, 1]).bytes();
-    let helpands = PartAnswer::helpands;
     let (from_old, from_new) = (helpands(PartAnswer::OLD, 3), helpands(PartAnswer::NEW, 3));
-    let nothing = PartAnswer::NOTHING;
+    let nothing = NOTHING;
     let bad = plan(2, 1, &star, &[0, 27, 29]).bytes();
     let cases = [
         // "If the new kind is 1, it hands back the helpand stretch of the old plan"
@@ -399,7 +400,7 @@ fn tree_in_force_after_a_step() {
             let part = (operations.tree_in_force)(&step.old, &planned.plan);
             let n = to_words(&step.sheet)[0];
             if step.old.is_empty() {
-                assert_eq!(part, PartAnswer::NOTHING);
+                assert_eq!(part, NOTHING);
                 continue;
             }
             let kept = to_words(&planned.plan)[1] == 1;
@@ -408,7 +409,7 @@ fn tree_in_force_after_a_step() {
             } else {
                 PartAnswer::NEW
             };
-            assert_eq!(part, PartAnswer::helpands(source, n));
+            assert_eq!(part, helpands(source, n));
             let record = if kept { &step.old } else { &planned.plan };
             let stretch = part.start as usize..(part.start + part.length) as usize;
             assert_eq!(record[stretch.clone()], planned.plan[stretch]);

@@ -1,7 +1,7 @@
 //! The tests can fail: whoever does an operation wrong, in ways that are
 //! plausible, is reported by the run, and a wrong planner by demand 3 as well.
 
-use firrozka_tests::answers::{PartAnswer, StepAnswer, WeighedAnswer, WrittenAnswer};
+use firrozka_tests::answers::{self, PartAnswer, StepAnswer, WeighedAnswer, WrittenAnswer};
 use firrozka_tests::calls::{Operation, CARRY_OUT, OPERATIONS, PLAN_STEP, TREE_IN_FORCE, WEIGH};
 use firrozka_tests::demands::judge;
 use firrozka_tests::operations::{Operations, PlanStep, MOVES_BYTES, REFERENCE};
@@ -329,9 +329,7 @@ fn tree_in_force_wrong() {
     }
     fn helpands_not_compared(old: &[u8], new: &[u8]) -> PartAnswer {
         match (plan::read(old), plan::read(new)) {
-            (Ok(a), Ok(b)) if a.n == b.n && b.kind == 1 => {
-                PartAnswer::helpands(PartAnswer::OLD, a.n)
-            }
+            (Ok(a), Ok(b)) if a.n == b.n && b.kind == 1 => answers::helpands(PartAnswer::OLD, a.n),
             _ => tree_in_force(old, new),
         }
     }

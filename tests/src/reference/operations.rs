@@ -10,7 +10,7 @@ use super::tree::old_tree;
 use super::weighing::Weighing;
 use super::words::{to_bytes, to_word};
 use super::{deciding, transfer};
-use crate::answers::{PartAnswer, StepAnswer, WeighedAnswer, WrittenAnswer};
+use crate::answers::{self, PartAnswer, StepAnswer, WeighedAnswer, WrittenAnswer};
 
 /// *Weigh* "takes sheet and plan, writes N words of least under the sheet's
 /// limit, and says whether the tree holds."
@@ -150,20 +150,20 @@ fn try_carry_out(sheet: &[u8], moves: &[u8], next: &mut [u8]) -> Result<usize, u
 pub fn tree_in_force(old: &[u8], new: &[u8]) -> PartAnswer {
     // "It hands back an empty stretch of the new plan when either is refused"
     let (Ok(old), Ok(new)) = (plan::read(old), plan::read(new)) else {
-        return PartAnswer::NOTHING;
+        return answers::NOTHING;
     };
     // "the N differ"
     if old.n != new.n {
-        return PartAnswer::NOTHING;
+        return answers::NOTHING;
     }
     if new.kind != 1 {
-        return PartAnswer::helpands(PartAnswer::NEW, new.n);
+        return answers::helpands(PartAnswer::NEW, new.n);
     }
     // "the new kind is 1 and the old is kind 0 or has other helpands"
     if old.kind == 0 || old.helpands != new.helpands {
-        return PartAnswer::NOTHING;
+        return answers::NOTHING;
     }
-    PartAnswer::helpands(PartAnswer::OLD, old.n)
+    answers::helpands(PartAnswer::OLD, old.n)
 }
 
 /// Writes the record at the beginning of a buffer that has room for it, and

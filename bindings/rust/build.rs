@@ -1,5 +1,5 @@
-//! Says where the archive under test lies: in FIRROZKA_LIB_DIR if that is set
-//! (seen from this crate's folder), else where `rt staticlib firrozka` puts it.
+//! Says where the archive lies: in FIRROZKA_LIB_DIR if that is set (seen from
+//! this crate's folder), else where `rt staticlib firrozka` puts it.
 
 use std::env;
 use std::path::PathBuf;
@@ -8,7 +8,7 @@ fn main() {
     let here = PathBuf::from(env::var_os("CARGO_MANIFEST_DIR").expect("cargo sets it"));
     let folder = match env::var_os("FIRROZKA_LIB_DIR") {
         Some(folder) => here.join(folder),
-        None => here.join("../target/staticlib"),
+        None => here.join("../../target/staticlib"),
     };
     let archive = folder.join("libfirrozka.a");
     println!("cargo:rerun-if-env-changed=FIRROZKA_LIB_DIR");

@@ -1,0 +1,67 @@
+/* Calls each function once as C or as C++, also with null pointers, and stops at the first answer that is not document 01's. */
+#include <stdio.h>
+#include <stdlib.h>
+#include "firrozka.h"
+
+/* Step D's three records, and the old plan with helpands 0, 0, 1 of step H. */
+static const uint8_t sheet[] = {3, 0, 0, 0, 10,  0, 0, 0, 3,  0, 0, 0, 0, 0, 0, 0, 65, 0, 0, 0,
+                                130, 0, 0, 0, 90, 0, 0, 0, 6, 0, 0, 0, 4, 0, 0, 0};
+static const uint8_t chain[] = {3, 0, 0, 0, 2, 0, 0, 0, 36, 0, 0, 0, 0, 0, 0, 0, 0, 0, 0, 0, 1, 0, 0, 0,
+                                0, 0, 0, 0, 0, 0, 0, 0, 0,  0, 0, 0};
+static const uint8_t sheet_h[] = {3, 0, 0, 0, 10, 0, 0, 0, 2, 0, 0, 0, 0, 0, 0, 0, 65, 0, 0, 0, 28, 0, 0, 0, 72, 0, 0, 0};
+
+static uint8_t plan[FIRROZKA_PLAN_BYTES], moves[FIRROZKA_MOVES_BYTES], next[FIRROZKA_SHEET_BYTES], least[FIRROZKA_LEAST_BYTES];
+
+static void check(int line, int good)
+{
+    if (!good) {
+        fprintf(stderr, "bindings/c/check.c:%d: another answer\n", line);
+        exit(1);
+    }
+}
+#define CHECK(good) check(__LINE__, (good))
+
+static void check_readers(void)
+{
+    struct firrozka_sheet s = firrozka_read_sheet(sheet, sizeof sheet);
+    CHECK(!s.refusal && s.n == 3 && s.t == 10 && s.e == 3 && s.p == 100 && s.limit == 36);
+    struct firrozka_plan p = firrozka_read_plan(chain, sizeof chain);
+    CHECK(!p.refusal && p.n == 3 && p.kind == FIRROZKA_REBUILT && p.limit == 36);
+    s = firrozka_read_sheet(sheet, sizeof sheet - 1);
+    CHECK(s.refusal == FIRROZKA_SHEET_LENGTH && !s.n && !s.t && !s.e && !s.p && !s.limit);
+}
+
+static void check_operations(void)
+{
+    struct firrozka_weighed w = firrozka_weigh(sheet_h, sizeof sheet_h, chain, sizeof chain, least, sizeof least);
+    CHECK(!w.refusal && w.holds == 1 && least[0] == 28 && least[4] == 36 && least[8] == 0);
+    struct firrozka_step d = firrozka_plan_step(sheet, sizeof sheet, NULL, 0, plan, sizeof plan, moves, sizeof moves);
+    CHECK(!d.refusal && d.kind == FIRROZKA_REBUILT && d.limit == 36 && d.plan_bytes == 36 && d.moves_bytes == 24);
+    struct firrozka_moves m = firrozka_read_moves(moves, d.moves_bytes);
+    CHECK(!m.refusal && m.n == 3 && m.e == 2);
+    struct firrozka_written c = firrozka_carry_out(sheet, sizeof sheet, moves, d.moves_bytes, next, sizeof next);
+    CHECK(!c.refusal && c.bytes == 52 && next[8] == 5);
+    struct firrozka_part f = firrozka_tree_in_force(chain, sizeof chain, plan, d.plan_bytes);
+    CHECK(f.source == 2 && f.start == 12 && f.length == 12);
+}
+
+/* With length 0 a pointer may be null, a buffer's too. */
+static void check_null(void)
+{
+    CHECK(firrozka_read_sheet(NULL, 0).refusal == FIRROZKA_SHEET_SHORT);
+    CHECK(firrozka_read_plan(NULL, 0).refusal == FIRROZKA_PLAN_SHORT);
+    CHECK(firrozka_read_moves(NULL, 0).refusal == FIRROZKA_MOVES_SHORT);
+    CHECK(firrozka_weigh(sheet, sizeof sheet, chain, sizeof chain, NULL, 0).refusal == FIRROZKA_LEAST_BUFFER);
+    CHECK(firrozka_plan_step(sheet, sizeof sheet, NULL, 0, NULL, 0, NULL, 0).refusal == FIRROZKA_PLAN_BUFFER);
+    CHECK(firrozka_plan_step(sheet, sizeof sheet, NULL, 0, plan, sizeof plan, NULL, 0).refusal == FIRROZKA_MOVES_BUFFER);
+    CHECK(firrozka_carry_out(sheet, sizeof sheet, moves, 24, NULL, 0).refusal == FIRROZKA_SHEET_BUFFER);
+    CHECK(firrozka_tree_in_force(NULL, 0, NULL, 0).length == 0);
+}
+
+int main(void)
+{
+    check_readers();
+    check_operations();
+    check_null();
+    return 0;
+}

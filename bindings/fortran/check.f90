@@ -1,0 +1,67 @@
+! Calls each function once through the module and stops at the first answer that is not document 01's.
+program check
+    use, intrinsic :: iso_c_binding, only: c_int8_t, c_int32_t, c_size_t
+    use firrozka
+    implicit none
+
+    ! Step D's sheet; an old plan with helpands 0, 0, 1, and step H's sheet, which keeps it.
+    integer(c_int8_t), parameter :: none(1) = [0_c_int8_t]
+    integer(c_int8_t) :: d(36), chain(36), h(28)
+    integer(c_int8_t) :: plan(firrozka_plan_bytes), moves(firrozka_moves_bytes)
+    integer(c_int8_t) :: next(firrozka_sheet_bytes), least(firrozka_least_bytes)
+    type(firrozka_sheet) :: sheet
+    type(firrozka_plan) :: read
+    type(firrozka_moves) :: list
+    type(firrozka_weighed) :: weighed
+    type(firrozka_step) :: step
+    type(firrozka_written) :: written
+    type(firrozka_part) :: part
+
+    d = words_to_bytes([3, 10, 3, 0, 65, 130, 90, 6, 4])
+    chain = words_to_bytes([3, 2, 36, 0, 0, 1, 0, 0, 0])
+    h = words_to_bytes([3, 10, 2, 0, 65, 28, 72])
+
+    sheet = firrozka_read_sheet(d, size(d, kind=c_size_t))
+    call same([sheet%refusal, sheet%n, sheet%t, sheet%e, sheet%p, sheet%limit], [0, 3, 10, 3, 100, 36])
+    sheet = firrozka_read_sheet(d, 35_c_size_t)
+    call same([sheet%refusal, sheet%n, sheet%t, sheet%e, sheet%p, sheet%limit], [5, 0, 0, 0, 0, 0])
+
+    read = firrozka_read_plan(chain, size(chain, kind=c_size_t))
+    call same([read%refusal, read%n, read%kind, read%limit], [0, 3, firrozka_rebuilt, 36])
+
+    weighed = firrozka_weigh(h, size(h, kind=c_size_t), chain, size(chain, kind=c_size_t), least, firrozka_least_bytes)
+    call same([weighed%refusal, weighed%holds], [0, 1])
+    call same([word_at(least, 0), word_at(least, 1), word_at(least, 2)], [28, 36, 0])
+
+    step = firrozka_plan_step(d, size(d, kind=c_size_t), none, 0_c_size_t, plan, firrozka_plan_bytes, moves, firrozka_moves_bytes)
+    call same([step%refusal, step%kind, step%limit, step%plan_bytes, step%moves_bytes], [0, firrozka_rebuilt, 36, 36, 24])
+
+    list = firrozka_read_moves(moves, int(step%moves_bytes, c_size_t))
+    call same([list%refusal, list%n, list%e], [0, 3, 2])
+
+    written = firrozka_carry_out(d, size(d, kind=c_size_t), moves, int(step%moves_bytes, c_size_t), next, firrozka_sheet_bytes)
+    call same([written%refusal, written%bytes, word_at(next, 2)], [0, 52, 5])
+
+    step = firrozka_plan_step(h, size(h, kind=c_size_t), chain, size(chain, kind=c_size_t), &
+                              plan, firrozka_plan_bytes, moves, firrozka_moves_bytes)
+    call same([step%refusal, step%kind, step%limit, step%plan_bytes, step%moves_bytes], [0, firrozka_kept, 36, 36, 16])
+    part = firrozka_tree_in_force(chain, size(chain, kind=c_size_t), plan, int(step%plan_bytes, c_size_t))
+    call same([part%source, part%start, part%length], [1, 12, 12])
+
+    ! Words of all four bytes, both ways.
+    call same([word_at(words_to_bytes([2147483647, 305419896, -2]), 1)], [305419896])
+    call same([word_at(words_to_bytes([2147483647, 305419896, -2]), 2)], [-2])
+
+contains
+
+    subroutine same(given, expected)
+        integer(c_int32_t), intent(in) :: given(:), expected(:)
+
+        if (size(given) == size(expected)) then
+            if (all(given == expected)) return
+        end if
+        print '("given", *(1x, i0))', given
+        print '("expected", *(1x, i0))', expected
+        error stop 1
+    end subroutine
+end program

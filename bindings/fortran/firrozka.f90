@@ -1,0 +1,144 @@
+! Firrozka for Fortran 2008: interfaces of the functions in include/firrozka.h, which says what each does.
+!
+! A record is an array of bytes, integer(c_int8_t), and its length in bytes. Its words are low byte first; words_to_bytes and word_at
+! go both ways on any machine. Fortran has no unsigned integers: in an accepted record every word is below 2**31, so none is negative.
+! Buffers and records do not overlap.
+module firrozka
+    use, intrinsic :: iso_c_binding, only: c_int8_t, c_int32_t, c_size_t
+    implicit none
+    private
+
+    public :: firrozka_read_sheet, firrozka_read_plan, firrozka_read_moves
+    public :: firrozka_weigh, firrozka_plan_step, firrozka_carry_out, firrozka_tree_in_force
+    public :: words_to_bytes, word_at
+
+    ! Buffers of so many bytes are long enough for every call.
+    integer(c_size_t), parameter, public :: &
+        firrozka_sheet_bytes = 32780, firrozka_plan_bytes = 524, firrozka_moves_bytes = 32264, firrozka_least_bytes = 256
+
+    ! The kind of a plan.
+    integer(c_int32_t), parameter, public :: firrozka_primary = 0, firrozka_kept = 1, firrozka_rebuilt = 2
+
+    ! The answers: 0 or a refusal number (docs/FORMATS.md lists them), and the values named, all 0 in a refusal.
+    type, bind(c), public :: firrozka_sheet
+        integer(c_int32_t) :: refusal, n, t, e, p, limit
+    end type
+
+    type, bind(c), public :: firrozka_plan
+        integer(c_int32_t) :: refusal, n, kind, limit
+    end type
+
+    type, bind(c), public :: firrozka_moves
+        integer(c_int32_t) :: refusal, n, e
+    end type
+
+    type, bind(c), public :: firrozka_weighed
+        integer(c_int32_t) :: refusal, holds
+    end type
+
+    type, bind(c), public :: firrozka_step
+        integer(c_int32_t) :: refusal, kind, limit, plan_bytes, moves_bytes
+    end type
+
+    type, bind(c), public :: firrozka_written
+        integer(c_int32_t) :: refusal, bytes
+    end type
+
+    ! Source 1 is the old plan, 2 the new. The part begins start bytes behind the first, so at index start + 1.
+    type, bind(c), public :: firrozka_part
+        integer(c_int32_t) :: source, start, length
+    end type
+
+    interface
+        function firrozka_read_sheet(sheet, sheet_len) bind(c) result(answer)
+            import :: c_int8_t, c_size_t, firrozka_sheet
+            integer(c_int8_t), intent(in) :: sheet(*)
+            integer(c_size_t), value :: sheet_len
+            type(firrozka_sheet) :: answer
+        end function
+
+        function firrozka_read_plan(plan, plan_len) bind(c) result(answer)
+            import :: c_int8_t, c_size_t, firrozka_plan
+            integer(c_int8_t), intent(in) :: plan(*)
+            integer(c_size_t), value :: plan_len
+            type(firrozka_plan) :: answer
+        end function
+
+        function firrozka_read_moves(moves, moves_len) bind(c) result(answer)
+            import :: c_int8_t, c_size_t, firrozka_moves
+            integer(c_int8_t), intent(in) :: moves(*)
+            integer(c_size_t), value :: moves_len
+            type(firrozka_moves) :: answer
+        end function
+
+        ! holds is 1 or 0.
+        function firrozka_weigh(sheet, sheet_len, plan, plan_len, least, least_len) bind(c) result(answer)
+            import :: c_int8_t, c_size_t, firrozka_weighed
+            integer(c_int8_t), intent(in) :: sheet(*), plan(*)
+            integer(c_int8_t), intent(inout) :: least(*)
+            integer(c_size_t), value :: sheet_len, plan_len, least_len
+            type(firrozka_weighed) :: answer
+        end function
+
+        ! An old plan of length 0 is none: pass any array, and old_len = 0.
+        function firrozka_plan_step(sheet, sheet_len, old_plan, old_len, plan, plan_len, moves, moves_len) bind(c) result(answer)
+            import :: c_int8_t, c_size_t, firrozka_step
+            integer(c_int8_t), intent(in) :: sheet(*), old_plan(*)
+            integer(c_int8_t), intent(inout) :: plan(*), moves(*)
+            integer(c_size_t), value :: sheet_len, old_len, plan_len, moves_len
+            type(firrozka_step) :: answer
+        end function
+
+        function firrozka_carry_out(sheet, sheet_len, moves, moves_len, next, next_len) bind(c) result(answer)
+            import :: c_int8_t, c_size_t, firrozka_written
+            integer(c_int8_t), intent(in) :: sheet(*), moves(*)
+            integer(c_int8_t), intent(inout) :: next(*)
+            integer(c_size_t), value :: sheet_len, moves_len, next_len
+            type(firrozka_written) :: answer
+        end function
+
+        function firrozka_tree_in_force(old_plan, old_len, new_plan, new_len) bind(c) result(answer)
+            import :: c_int8_t, c_size_t, firrozka_part
+            integer(c_int8_t), intent(in) :: old_plan(*), new_plan(*)
+            integer(c_size_t), value :: old_len, new_len
+            type(firrozka_part) :: answer
+        end function
+    end interface
+
+contains
+
+    ! The bytes of these words, low byte first.
+    pure function words_to_bytes(words) result(bytes)
+        integer(c_int32_t), intent(in) :: words(:)
+        integer(c_int8_t) :: bytes(4 * size(words))
+        integer :: k
+
+        do k = 1, size(bytes)
+            bytes(k) = byte_of(words((k + 3) / 4), mod(k - 1, 4))
+        end do
+    end function
+
+    ! Byte 0 to 3 of a word; 128 to 255 are the negative bytes.
+    pure function byte_of(word, place) result(byte)
+        integer(c_int32_t), intent(in) :: word
+        integer, intent(in) :: place
+        integer(c_int8_t) :: byte
+        integer(c_int32_t) :: bits
+
+        bits = ibits(word, 8 * place, 8)
+        byte = int(merge(bits - 256, bits, bits > 127), c_int8_t)
+    end function
+
+    ! The word at a place; places are counted from 0, as in docs/FORMATS.md.
+    pure function word_at(bytes, place) result(word)
+        integer(c_int8_t), intent(in) :: bytes(:)
+        integer, intent(in) :: place
+        integer(c_int32_t) :: word
+        integer :: k
+
+        word = 0
+        do k = 3, 0, -1
+            word = ior(ishft(word, 8), iand(int(bytes(4 * place + k + 1), c_int32_t), 255_c_int32_t))
+        end do
+    end function
+end module

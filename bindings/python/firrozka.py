@@ -1,0 +1,223 @@
+"""Firrozka for Python: the operations, and records taken apart for looking at.
+
+A record is a bytes object; docs/FORMATS.md describes the three. Names are document 01's.
+
+ctypes needs a shared object: bindings/python/build makes target/libfirrozka.so from the archive. It is looked for there, or in the file
+that FIRROZKA_SO names. The proof covers the archive, not this module.
+"""
+
+import ctypes
+import os
+import struct
+from pathlib import Path
+from typing import NamedTuple
+
+# Buffers of so many bytes are long enough for every call.
+SHEET_BYTES = 32780
+PLAN_BYTES = 524
+MOVES_BYTES = 32264
+LEAST_BYTES = 256
+
+# The kind of a plan, by its number.
+KINDS = ("primary", "kept", "rebuilt")
+
+# Of what, and why.
+REFUSALS = {
+    1: ("sheet", "under 12 bytes"),
+    2: ("sheet", "N is not 1 to 64"),
+    3: ("sheet", "t is not 1 to 99"),
+    4: ("sheet", "E is above N × N"),
+    5: ("sheet", "the length is not 4 × (3 + 2E) bytes"),
+    6: ("sheet", "a cell does not rise, or names a node not below N"),
+    7: ("sheet", "a count is 0, or the running sum is above 1,000,000,000"),
+    11: ("plan", "under 12 bytes"),
+    12: ("plan", "N is not 1 to 64"),
+    13: ("plan", "the kind is above 2, or not 0 with one node"),
+    14: ("plan", "the limit is above 1,990,000,000"),
+    15: ("plan", "the length is not 4 × (3 + 2N) bytes"),
+    16: ("plan", "a helpand is not below N"),
+    17: ("plan", "the wrong shape: kind 0 has only roots; kinds 1 and 2 have one root, which every chain of helpands reaches"),
+    18: ("plan", "a share is above the limit, or not 0 at a root"),
+    21: ("weigh, plan a step", "the N of sheet and plan differ"),
+    22: ("plan a step", "the plan's buffer is too short"),
+    23: ("plan a step", "the moves' buffer is too short"),
+    24: ("weigh", "the plan is kind 0 and has no tree"),
+    25: ("weigh", "the buffer is under 4N bytes"),
+    31: ("moves", "under 8 bytes"),
+    32: ("moves", "N is not 1 to 64"),
+    33: ("moves", "E is above N × (N−1)"),
+    34: ("moves", "the length is not 4 × (2 + 2E) bytes"),
+    35: ("moves", "a route does not rise, names a node not below N, or has one node as sender and receiver"),
+    36: ("moves", "a count is 0 or above 1,000,000,000"),
+    41: ("carry out", "the N of sheet and moves differ"),
+    42: ("carry out", "some cell sends in all more than the old sheet gives it"),
+    43: ("carry out", "the buffer is too short"),
+}
+
+
+class Refused(Exception):
+    """An operation refuses: its number, and the reason in words."""
+
+    def __init__(self, number):
+        of, reason = REFUSALS[number]
+        super().__init__(f"refused {number}: {of}: {reason}")
+        self.number = number
+
+
+class Cell(NamedTuple):
+    holder: int
+    subdomain: int
+    count: int
+
+
+class Sheet(NamedTuple):
+    n: int
+    t: int
+    e: int
+    p: int
+    limit: int
+    cells: list
+
+
+class Plan(NamedTuple):
+    n: int
+    kind: int
+    limit: int
+    helpands: list
+    shares: list
+
+
+class Move(NamedTuple):
+    subdomain: int
+    sender: int
+    receiver: int
+    count: int
+
+
+class Moves(NamedTuple):
+    n: int
+    e: int
+    moves: list
+
+
+class Weighed(NamedTuple):
+    holds: bool
+    leasts: list
+
+
+class Step(NamedTuple):
+    """What plan a step gives: kind and limit, and the two records as bytes."""
+
+    kind: int
+    limit: int
+    plan: bytes
+    moves: bytes
+
+
+def to_bytes(words):
+    """Words in bytes: 4 bytes each, unsigned, low byte first."""
+    return struct.pack(f"<{len(words)}I", *words)
+
+
+def to_words(record):
+    """The whole words in the bytes; what is over is left out."""
+    count = len(record) // 4
+    return list(struct.unpack_from(f"<{count}I", record))
+
+
+def _answer(*values):
+    """An answer laid out as include/firrozka.h has it."""
+    fields = [(value, ctypes.c_uint32) for value in values]
+    return type("Answer", (ctypes.Structure,), {"_fields_": fields})
+
+
+# Each function: how many records and buffers it takes, and what it answers.
+_FUNCTIONS = {
+    "read_sheet": (1, _answer("refusal", "n", "t", "e", "p", "limit")),
+    "read_plan": (1, _answer("refusal", "n", "kind", "limit")),
+    "read_moves": (1, _answer("refusal", "n", "e")),
+    "weigh": (3, _answer("refusal", "holds")),
+    "plan_step": (4, _answer("refusal", "kind", "limit", "plan_bytes", "moves_bytes")),
+    "carry_out": (3, _answer("refusal", "bytes")),
+    "tree_in_force": (2, _answer("source", "start", "length")),
+}
+
+
+def _load():
+    built = Path(__file__).resolve().parents[2] / "target" / "libfirrozka.so"
+    try:
+        library = ctypes.CDLL(os.environ.get("FIRROZKA_SO", str(built)))
+    except OSError as error:
+        raise ImportError(f"{error} (run bindings/python/build, or set FIRROZKA_SO)") from error
+    for name, (slices, answer) in _FUNCTIONS.items():
+        function = getattr(library, "firrozka_" + name)
+        function.argtypes = [ctypes.c_char_p, ctypes.c_size_t] * slices
+        function.restype = answer
+    return library
+
+
+_LIBRARY = _load()
+
+
+def _call(name, *slices):
+    """The answer for these records (bytes) and buffers; raises Refused."""
+    arguments = [part for record in slices for part in (record, len(record))]
+    answer = getattr(_LIBRARY, "firrozka_" + name)(*arguments)
+    if getattr(answer, "refusal", 0):
+        raise Refused(answer.refusal)
+    return answer
+
+
+def read_sheet(sheet):
+    """Read sheet, with its cells."""
+    answer = _call("read_sheet", sheet)
+    words = to_words(sheet)
+    pairs = zip(words[3 : 3 + answer.e], words[3 + answer.e :])
+    cells = [Cell(cell // 64, cell % 64, count) for cell, count in pairs]
+    return Sheet(answer.n, answer.t, answer.e, answer.p, answer.limit, cells)
+
+
+def read_plan(plan):
+    """Read plan, with its helpands and shares."""
+    answer = _call("read_plan", plan)
+    words = to_words(plan)
+    return Plan(answer.n, answer.kind, answer.limit, words[3 : 3 + answer.n], words[3 + answer.n :])
+
+
+def read_moves(moves):
+    """Read moves, with its moves."""
+    answer = _call("read_moves", moves)
+    words = to_words(moves)
+    pairs = zip(words[2 : 2 + answer.e], words[2 + answer.e :])
+    entries = [Move(route // 4096, route // 64 % 64, route % 64, count) for route, count in pairs]
+    return Moves(answer.n, answer.e, entries)
+
+
+def weigh(sheet, plan):
+    """Weigh: whether the plan's tree holds under the sheet's limit, and the leasts."""
+    least = ctypes.create_string_buffer(LEAST_BYTES)
+    answer = _call("weigh", sheet, plan, least)
+    n = read_plan(plan).n
+    return Weighed(bool(answer.holds), to_words(least.raw)[:n])
+
+
+def plan_step(sheet, old_plan=b""):
+    """Plan a step. An empty old plan is none."""
+    plan = ctypes.create_string_buffer(PLAN_BYTES)
+    moves = ctypes.create_string_buffer(MOVES_BYTES)
+    answer = _call("plan_step", sheet, old_plan, plan, moves)
+    return Step(answer.kind, answer.limit, plan.raw[: answer.plan_bytes], moves.raw[: answer.moves_bytes])
+
+
+def carry_out(sheet, moves):
+    """Carry out: the sheet that follows, as bytes."""
+    following = ctypes.create_string_buffer(SHEET_BYTES)
+    answer = _call("carry_out", sheet, moves, following)
+    return following.raw[: answer.bytes]
+
+
+def tree_in_force(old_plan, new_plan):
+    """Tree in force: the helpands, or an empty list."""
+    part = _call("tree_in_force", old_plan, new_plan)
+    source = old_plan if part.source == 1 else new_plan
+    return to_words(source[part.start : part.start + part.length])

@@ -1,0 +1,31 @@
+//! Firrozka's operations over byte slices: the load balance of a particle
+//! simulation, decided by a library that carries machine-checked proof.
+//!
+//! The proof covers the library, not this wrapper. Records are described in
+//! docs/FORMATS.md; names are document 01's.
+//!
+//! ```
+//! // Step D: 3 nodes, tolerance 10, cells 0, 65 and 130 with 90, 6 and 4.
+//! let sheet = firrozka::to_bytes(&[3, 10, 3, 0, 65, 130, 90, 6, 4]);
+//! let mut plan = [0; firrozka::PLAN_BYTES];
+//! let mut moves = [0; firrozka::MOVES_BYTES];
+//! let step = firrozka::plan_step(&sheet, firrozka::NO_PLAN, &mut plan, &mut moves)?;
+//! assert_eq!(step.kind, firrozka::Kind::Rebuilt);
+//! let shares = firrozka::read_plan(step.plan)?.shares;
+//! assert_eq!(shares.iter().collect::<Vec<u32>>(), [0, 27, 29]);
+//! # Ok::<(), firrozka::Refusal>(())
+//! ```
+
+pub mod ffi;
+mod operations;
+mod records;
+mod refusal;
+mod words;
+
+pub use operations::{
+    carry_out, plan_step, read_moves, read_plan, read_sheet, tree_in_force, weigh, Step, Weighed,
+    LEAST_BYTES, MOVES_BYTES, NO_PLAN, PLAN_BYTES, SHEET_BYTES,
+};
+pub use records::{Cell, Kind, Move, Moves, Node, Plan, Sheet};
+pub use refusal::Refusal;
+pub use words::{to_bytes, Words};

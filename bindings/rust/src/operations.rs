@@ -1,0 +1,154 @@
+//! The operations. Where one writes, the part of the buffer that it wrote is
+//! handed back; where it refuses, the buffers are untouched.
+
+use crate::ffi::{self, PartAnswer};
+use crate::records::{Kind, Moves, Plan, Sheet};
+use crate::refusal::Refusal;
+use crate::words::Words;
+
+/// Enough for every sheet.
+pub const SHEET_BYTES: usize = 4 * (3 + 2 * 64 * 64);
+
+/// Enough for every plan.
+pub const PLAN_BYTES: usize = 4 * (3 + 2 * 64);
+
+/// Enough for every list of moves.
+pub const MOVES_BYTES: usize = 4 * (2 + 2 * 64 * 63);
+
+/// Enough for all leasts.
+pub const LEAST_BYTES: usize = 4 * 64;
+
+/// No old plan.
+pub const NO_PLAN: &[u8] = &[];
+
+/// *Read sheet*.
+pub fn read_sheet(sheet: &[u8]) -> Result<Sheet<'_>, Refusal> {
+    let answer = ffi::read_sheet(sheet);
+    accepted(answer.refusal)?;
+    let [cells, counts] = arrays(sheet, 3, answer.e);
+    Ok(Sheet {
+        n: answer.n,
+        t: answer.t,
+        e: answer.e,
+        p: answer.p,
+        limit: answer.limit,
+        cells,
+        counts,
+    })
+}
+
+/// *Read plan*.
+pub fn read_plan(plan: &[u8]) -> Result<Plan<'_>, Refusal> {
+    let answer = ffi::read_plan(plan);
+    accepted(answer.refusal)?;
+    let [helpands, shares] = arrays(plan, 3, answer.n);
+    Ok(Plan {
+        n: answer.n,
+        kind: kind(answer.kind),
+        limit: answer.limit,
+        helpands,
+        shares,
+    })
+}
+
+/// *Read moves*.
+pub fn read_moves(moves: &[u8]) -> Result<Moves<'_>, Refusal> {
+    let answer = ffi::read_moves(moves);
+    accepted(answer.refusal)?;
+    let [routes, counts] = arrays(moves, 2, answer.e);
+    Ok(Moves {
+        n: answer.n,
+        e: answer.e,
+        routes,
+        counts,
+    })
+}
+
+/// What *weigh* gives.
+#[derive(Clone, Copy, Debug, PartialEq, Eq)]
+pub struct Weighed<'a> {
+    /// Whether the tree holds.
+    pub holds: bool,
+    /// The N leasts, also where it does not hold.
+    pub leasts: Words<'a>,
+}
+
+/// *Weigh*: writes the leasts to the front of the buffer.
+pub fn weigh<'a>(sheet: &[u8], plan: &[u8], least: &'a mut [u8]) -> Result<Weighed<'a>, Refusal> {
+    let answer = ffi::weigh(sheet, plan, least);
+    accepted(answer.refusal)?;
+    let n = read_plan(plan)?.n as usize;
+    Ok(Weighed {
+        holds: answer.holds != 0,
+        leasts: Words::of(least).part(0, n),
+    })
+}
+
+/// What *plan a step* gives.
+#[derive(Clone, Copy, Debug, PartialEq, Eq)]
+pub struct Step<'a> {
+    /// The kind of the new plan.
+    pub kind: Kind,
+    /// L, the limit.
+    pub limit: u32,
+    /// The new plan.
+    pub plan: &'a [u8],
+    /// The moves.
+    pub moves: &'a [u8],
+}
+
+/// *Plan a step*: writes the new plan and the moves to the front of the buffers.
+/// An old plan of length 0 is none (`NO_PLAN`).
+pub fn plan_step<'a>(
+    sheet: &[u8],
+    old: &[u8],
+    plan: &'a mut [u8],
+    moves: &'a mut [u8],
+) -> Result<Step<'a>, Refusal> {
+    let answer = ffi::plan_step(sheet, old, plan, moves);
+    accepted(answer.refusal)?;
+    Ok(Step {
+        kind: kind(answer.kind),
+        limit: answer.limit,
+        plan: &plan[..answer.plan_bytes as usize],
+        moves: &moves[..answer.moves_bytes as usize],
+    })
+}
+
+/// *Carry out*: writes the sheet that follows to the front of the buffer.
+pub fn carry_out<'a>(sheet: &[u8], moves: &[u8], next: &'a mut [u8]) -> Result<&'a [u8], Refusal> {
+    let answer = ffi::carry_out(sheet, moves, next);
+    accepted(answer.refusal)?;
+    Ok(&next[..answer.bytes as usize])
+}
+
+/// *Tree in force*: the helpands, a part of one of the two plans, or an empty
+/// part of the new plan.
+pub fn tree_in_force<'a>(old: &'a [u8], new: &'a [u8]) -> &'a [u8] {
+    let part = ffi::tree_in_force(old, new);
+    let source = match part.source {
+        PartAnswer::OLD => old,
+        _ => new,
+    };
+    &source[part.start as usize..][..part.length as usize]
+}
+
+fn accepted(refusal: u32) -> Result<(), Refusal> {
+    match refusal {
+        0 => Ok(()),
+        number => Err(Refusal::from_number(number).expect("a number of document 01")),
+    }
+}
+
+fn kind(number: u32) -> Kind {
+    Kind::from_number(number).expect("a kind of document 01")
+}
+
+/// "Sizes stand first, then two parallel arrays", of an accepted record.
+fn arrays(record: &[u8], sizes: usize, entries: u32) -> [Words<'_>; 2] {
+    let (words, entries) = (Words::of(record), entries as usize);
+    [
+        words.part(sizes, entries),
+        words.part(sizes + entries, entries),
+    ]
+}

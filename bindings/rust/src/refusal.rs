@@ -1,0 +1,89 @@
+//! Why an operation refuses.
+
+use std::error::Error;
+use std::fmt;
+
+macro_rules! refusals {
+    ($($name:ident = $number:literal, $subject:literal, $reason:literal;)*) => {
+        /// A refusal: document 01's number, and its reason in words.
+        #[derive(Clone, Copy, Debug, PartialEq, Eq, PartialOrd, Ord, Hash)]
+        pub enum Refusal {
+            $(#[doc = concat!($subject, ": ", $reason)] $name = $number,)*
+        }
+
+        impl Refusal {
+            /// All of them, by rising number.
+            pub const ALL: &'static [Refusal] = &[$(Refusal::$name),*];
+
+            /// The record or operation that it belongs to.
+            pub fn subject(self) -> &'static str {
+                match self {
+                    $(Refusal::$name => $subject,)*
+                }
+            }
+
+            /// The reason in words.
+            pub fn reason(self) -> &'static str {
+                match self {
+                    $(Refusal::$name => $reason,)*
+                }
+            }
+        }
+    };
+}
+
+refusals! {
+    SheetShort = 1, "sheet", "under 12 bytes";
+    SheetNodes = 2, "sheet", "N is not 1 to 64";
+    SheetTolerance = 3, "sheet", "t is not 1 to 99";
+    SheetEntries = 4, "sheet", "E is above N × N";
+    SheetLength = 5, "sheet", "the length is not 4 × (3 + 2E) bytes";
+    SheetCell = 6, "sheet", "a cell does not rise, or names a node not below N";
+    SheetCount = 7, "sheet", "a count is 0, or the running sum is above 1,000,000,000";
+    PlanShort = 11, "plan", "under 12 bytes";
+    PlanNodes = 12, "plan", "N is not 1 to 64";
+    PlanKind = 13, "plan", "the kind is above 2, or not 0 with one node";
+    PlanLimit = 14, "plan", "the limit is above 1,990,000,000";
+    PlanLength = 15, "plan", "the length is not 4 × (3 + 2N) bytes";
+    PlanHelpand = 16, "plan", "a helpand is not below N";
+    PlanShape = 17, "plan", "the wrong shape: kind 0 has only roots; \
+        kinds 1 and 2 have one root, which every chain of helpands reaches";
+    PlanShare = 18, "plan", "a share is above the limit, or not 0 at a root";
+    PlanNodesDiffer = 21, "weigh, plan a step", "the N of sheet and plan differ";
+    PlanBuffer = 22, "plan a step", "the plan's buffer is too short";
+    MovesBuffer = 23, "plan a step", "the moves' buffer is too short";
+    PlanPrimary = 24, "weigh", "the plan is kind 0 and has no tree";
+    LeastBuffer = 25, "weigh", "the buffer is under 4N bytes";
+    MovesShort = 31, "moves", "under 8 bytes";
+    MovesNodes = 32, "moves", "N is not 1 to 64";
+    MovesEntries = 33, "moves", "E is above N × (N−1)";
+    MovesLength = 34, "moves", "the length is not 4 × (2 + 2E) bytes";
+    MovesRoute = 35, "moves", "a route does not rise, names a node not below N, \
+        or has one node as sender and receiver";
+    MovesCount = 36, "moves", "a count is 0 or above 1,000,000,000";
+    MovesNodesDiffer = 41, "carry out", "the N of sheet and moves differ";
+    MovesSends = 42, "carry out", "some cell sends in all more than the old sheet gives it";
+    SheetBuffer = 43, "carry out", "the buffer is too short";
+}
+
+impl Refusal {
+    /// The refusal with this number.
+    pub fn from_number(number: u32) -> Option<Refusal> {
+        let all = Refusal::ALL.iter().copied();
+        all.into_iter().find(|refusal| refusal.number() == number)
+    }
+
+    /// Document 01's number.
+    pub fn number(self) -> u32 {
+        self as u32
+    }
+}
+
+impl fmt::Display for Refusal {
+    fn fmt(&self, f: &mut fmt::Formatter) -> fmt::Result {
+        let (number, subject, reason) = (self.number(), self.subject(), self.reason());
+        write!(f, "refused {number}: {subject}: {reason}")
+    }
+}
+
+impl Error for Refusal {}

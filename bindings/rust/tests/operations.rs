@@ -1,0 +1,206 @@
+//! The wrapper over the archive: document 01's steps, refusals and parts.
+
+use firrozka::{
+    carry_out, plan_step, read_moves, read_plan, read_sheet, to_bytes, tree_in_force, weigh, Cell,
+    Kind, Move, Refusal, Step, Words, LEAST_BYTES, MOVES_BYTES, NO_PLAN, PLAN_BYTES, SHEET_BYTES,
+};
+use std::thread;
+
+/// Step D: "sheet words", "plan words", "moves words".
+const SHEET: [u32; 9] = [3, 10, 3, 0, 65, 130, 90, 6, 4];
+const PLAN: [u32; 9] = [3, 2, 36, 0, 0, 0, 0, 27, 29];
+const MOVES: [u32; 6] = [3, 2, 1, 2, 27, 29];
+
+struct Buffers {
+    plan: [u8; PLAN_BYTES],
+    moves: [u8; MOVES_BYTES],
+}
+
+impl Buffers {
+    fn new() -> Buffers {
+        Buffers {
+            plan: [0xa5; PLAN_BYTES],
+            moves: [0xa5; MOVES_BYTES],
+        }
+    }
+
+    fn plan_step(&mut self, sheet: &[u8], old: &[u8]) -> Result<Step<'_>, Refusal> {
+        plan_step(sheet, old, &mut self.plan, &mut self.moves)
+    }
+}
+
+fn numbers(words: Words) -> Vec<u32> {
+    words.iter().collect()
+}
+
+#[test]
+fn step_d_is_planned_and_carried_out() -> Result<(), Refusal> {
+    let sheet = to_bytes(&SHEET);
+    let mut buffers = Buffers::new();
+    let step = buffers.plan_step(&sheet, NO_PLAN)?;
+    assert_eq!((step.kind, step.limit), (Kind::Rebuilt, 36));
+    assert_eq!(numbers(Words::of(step.plan)), PLAN);
+    assert_eq!(numbers(Words::of(step.moves)), MOVES);
+    let mut next = [0; SHEET_BYTES];
+    let next = read_sheet(carry_out(&sheet, step.moves, &mut next)?)?;
+    assert_eq!(numbers(next.cells), [0, 64, 65, 128, 130]);
+    assert_eq!(numbers(next.counts), [34, 27, 6, 29, 4]);
+    assert_eq!((next.t, next.p), (10, 100));
+    Ok(())
+}
+
+#[test]
+fn records_are_taken_apart() -> Result<(), Refusal> {
+    let bytes = to_bytes(&SHEET);
+    let sheet = read_sheet(&bytes)?;
+    assert_eq!(
+        [sheet.n, sheet.t, sheet.e, sheet.p, sheet.limit],
+        [3, 10, 3, 100, 36]
+    );
+    let last = sheet.entries().last();
+    let (holder, subdomain, count) = (2, 2, 4);
+    assert_eq!(
+        last,
+        Some(Cell {
+            holder,
+            subdomain,
+            count
+        })
+    );
+    let bytes = to_bytes(&PLAN);
+    let plan = read_plan(&bytes)?;
+    assert_eq!((plan.n, plan.kind, plan.limit), (3, Kind::Rebuilt, 36));
+    let roots: Vec<bool> = plan.nodes().map(|node| node.is_root()).collect();
+    assert_eq!(roots, [true, false, false]);
+    // Subdomain 2 from 0 to 1.
+    let bytes = to_bytes(&[3, 1, 2 * 4096 + 1, 7]);
+    let moves = read_moves(&bytes)?;
+    assert_eq!((moves.n, moves.e), (3, 1));
+    let only = Move {
+        subdomain: 2,
+        sender: 0,
+        receiver: 1,
+        count: 7,
+    };
+    assert_eq!(moves.entries().collect::<Vec<Move>>(), [only]);
+    Ok(())
+}
+
+#[test]
+fn the_tree_of_step_h_holds_and_that_of_step_i_does_not() -> Result<(), Refusal> {
+    let old = to_bytes(&[3, 2, 36, 0, 0, 1, 0, 0, 0]);
+    let mut least = [0xa5; LEAST_BYTES];
+    let h = to_bytes(&[3, 10, 2, 0, 65, 28, 72]);
+    let weighed = weigh(&h, &old, &mut least)?;
+    assert!(weighed.holds);
+    assert_eq!(numbers(weighed.leasts), [28, 36, 0]);
+    let i = to_bytes(&[3, 10, 2, 0, 65, 27, 73]);
+    let weighed = weigh(&i, &old, &mut least)?;
+    assert!(!weighed.holds);
+    assert_eq!(numbers(weighed.leasts), [27, 37, 0]);
+    assert_eq!(least[12..], [0xa5; LEAST_BYTES - 12]);
+    Ok(())
+}
+
+#[test]
+fn the_tree_in_force_is_a_part_of_a_plan() -> Result<(), Refusal> {
+    let old = to_bytes(&[3, 2, 36, 0, 0, 1, 0, 0, 0]);
+    let h = to_bytes(&[3, 10, 2, 0, 65, 28, 72]);
+    let mut buffers = Buffers::new();
+    let kept = buffers.plan_step(&h, &old)?;
+    assert_eq!(kept.kind, Kind::Kept);
+    let helpands = tree_in_force(&old, kept.plan);
+    assert_eq!(helpands.as_ptr_range(), old[12..24].as_ptr_range());
+    let rebuilt = to_bytes(&PLAN);
+    let helpands = tree_in_force(&old, &rebuilt);
+    assert_eq!(helpands.as_ptr_range(), rebuilt[12..24].as_ptr_range());
+    // The old plan has other helpands.
+    assert!(tree_in_force(&rebuilt, kept.plan).is_empty());
+    assert!(tree_in_force(NO_PLAN, &rebuilt).is_empty());
+    Ok(())
+}
+
+#[test]
+fn refusals_leave_the_buffers_untouched() {
+    let (sheet, old) = (to_bytes(&SHEET), to_bytes(&PLAN));
+    let mut buffers = Buffers::new();
+    let cut = &sheet[..sheet.len() - 1];
+    assert_eq!(buffers.plan_step(cut, &old), Err(Refusal::SheetLength));
+    assert_eq!(
+        buffers.plan_step(&sheet, &old[..11]),
+        Err(Refusal::PlanShort)
+    );
+    let two = to_bytes(&[2, 0, 0, 0, 1, 0, 0]);
+    assert_eq!(
+        buffers.plan_step(&sheet, &two),
+        Err(Refusal::PlanNodesDiffer)
+    );
+    assert_eq!(buffers.plan, [0xa5; PLAN_BYTES]);
+    assert_eq!(buffers.moves, [0xa5; MOVES_BYTES]);
+    let Buffers { plan, moves } = &mut buffers;
+    let step = plan_step(&sheet, NO_PLAN, &mut plan[..35], moves);
+    assert_eq!(step, Err(Refusal::PlanBuffer));
+    let step = plan_step(&sheet, NO_PLAN, plan, &mut moves[..23]);
+    assert_eq!(step, Err(Refusal::MovesBuffer));
+    assert_eq!(weigh(&sheet, &old, &mut []), Err(Refusal::LeastBuffer));
+    let roots = to_bytes(&[3, 0, 36, 0, 1, 2, 0, 0, 0]);
+    assert_eq!(weigh(&sheet, &roots, &mut []), Err(Refusal::PlanPrimary));
+    let moves = to_bytes(&MOVES);
+    assert_eq!(
+        carry_out(&sheet, &moves, &mut []),
+        Err(Refusal::SheetBuffer)
+    );
+    // Node 2 has 4 of subdomain 2.
+    let too_many = to_bytes(&[3, 1, 2 * 4096 + 2 * 64, 5]);
+    assert_eq!(
+        carry_out(&sheet, &too_many, &mut []),
+        Err(Refusal::MovesSends)
+    );
+}
+
+/// The stack that docs/USING.md asks for.
+const STACK: usize = 512 * 1024;
+
+/// A sheet of 4,096 cells, and a chain of 64 nodes that it keeps: of the calls
+/// that were measured, this one takes the most stack.
+fn long_chain() -> (Vec<u8>, Vec<u8>) {
+    let helpands = (0u32..64).map(|node| node.saturating_sub(1));
+    let plan: Vec<u32> = [64, 2, 0]
+        .into_iter()
+        .chain(helpands)
+        .chain([0; 64])
+        .collect();
+    let counts = (0..4096).map(|cell| if cell % 64 == 0 { 112 } else { 100 });
+    let sheet: Vec<u32> = [64, 10, 4096]
+        .into_iter()
+        .chain(0..4096)
+        .chain(counts)
+        .collect();
+    (to_bytes(&sheet), to_bytes(&plan))
+}
+
+#[test]
+fn calls_from_several_threads_do_not_meet() {
+    let (sheet, old) = long_chain();
+    let planned = || {
+        let mut buffers = Box::new(Buffers::new());
+        let step = buffers
+            .plan_step(&sheet, &old)
+            .expect("the step is planned");
+        assert_eq!(step.kind, Kind::Kept);
+        (step.plan.to_vec(), step.moves.to_vec())
+    };
+    let alone = planned();
+    thread::scope(|scope| {
+        let thread = |_| {
+            thread::Builder::new()
+                .stack_size(STACK)
+                .spawn_scoped(scope, planned)
+        };
+        let threads: Vec<_> = (0..8).map(thread).collect();
+        for thread in threads {
+            let together = thread.expect("the thread starts").join();
+            assert_eq!(together.expect("the thread ends"), alone);
+        }
+    });
+}

@@ -1,0 +1,95 @@
+//! Numbers and words that several files have: all say the same.
+
+use firrozka::{Refusal, LEAST_BYTES, MOVES_BYTES, PLAN_BYTES, SHEET_BYTES};
+use std::fs;
+
+/// A part of a file of this repository, from its opening to its end, each
+/// stretch of white space as one blank.
+fn part(name: &str, opening: &str, end: &str) -> String {
+    let path = format!("{}/../../{name}", env!("CARGO_MANIFEST_DIR"));
+    let text = fs::read_to_string(&path).unwrap_or_else(|error| panic!("{path}: {error}"));
+    let (_, rest) = text.split_once(opening).expect("the file has the part");
+    let part = rest.split_once(end).map_or(rest, |(part, _)| part);
+    part.split_whitespace().collect::<Vec<&str>>().join(" ")
+}
+
+/// The text has these lines, one for each refusal, and no other that has the mark.
+fn has_all(text: &str, mark: &str, line: fn(Refusal) -> String) {
+    for line in Refusal::ALL.iter().copied().map(line) {
+        assert!(text.contains(&line), "missing: {line}");
+    }
+    assert_eq!(text.matches(mark).count(), Refusal::ALL.len());
+}
+
+#[test]
+fn the_formats_page_has_the_refusals() {
+    let text = part("docs/FORMATS.md", "| number | of | reason |", "\n\n");
+    has_all(&text, "| |", |refusal| {
+        let (number, of, reason) = (refusal.number(), refusal.subject(), refusal.reason());
+        format!("| {number} | {of} | {reason} |")
+    });
+}
+
+/// `SheetShort` as C writes it: `SHEET_SHORT`.
+fn c_name(refusal: Refusal) -> String {
+    let upper = |letter: char| if letter.is_uppercase() { "_" } else { "" };
+    let name = format!("{refusal:?}");
+    let letters = name
+        .chars()
+        .map(|letter| format!("{}{letter}", upper(letter)));
+    letters.collect::<String>().to_uppercase()
+}
+
+#[test]
+fn the_header_has_the_refusals() {
+    let text = part("include/firrozka.h", "FIRROZKA_ACCEPTED = 0,", "};");
+    // The last has no comma.
+    has_all(&text.replace(", /*", " /*"), " = ", |refusal| {
+        let (number, reason) = (refusal.number(), refusal.reason());
+        format!("FIRROZKA{} = {number} /* {reason} */", c_name(refusal))
+    });
+}
+
+#[test]
+fn the_python_module_has_the_refusals() {
+    let text = part("bindings/python/firrozka.py", "REFUSALS = {", "}");
+    has_all(&text, ": (", |refusal| {
+        let (number, of, reason) = (refusal.number(), refusal.subject(), refusal.reason());
+        format!("{number}: (\"{of}\", \"{reason}\"),")
+    });
+}
+
+#[test]
+fn all_have_the_sizes_of_buffers() {
+    let sizes = [
+        ("sheet", SHEET_BYTES),
+        ("plan", PLAN_BYTES),
+        ("moves", MOVES_BYTES),
+        ("least", LEAST_BYTES),
+    ];
+    let c = part("include/firrozka.h", "enum {", "};");
+    let fortran = part("bindings/fortran/firrozka.f90", "parameter", "interface");
+    let python = part("bindings/python/firrozka.py", "import", "class");
+    for (of, bytes) in sizes {
+        let upper = format!("{}_BYTES = {bytes}", of.to_uppercase());
+        assert!(c.contains(&format!("FIRROZKA_{upper}")), "{upper}");
+        assert!(python.contains(&upper), "{upper}");
+        let lower = format!("firrozka_{of}_bytes = {bytes}");
+        assert!(fortran.contains(&lower), "{lower}");
+    }
+}
+
+#[test]
+fn numbers_lead_to_refusals_and_back() {
+    for &refusal in Refusal::ALL {
+        assert_eq!(Refusal::from_number(refusal.number()), Some(refusal));
+    }
+    assert!(Refusal::ALL.windows(2).all(|pair| pair[0] < pair[1]));
+    assert_eq!(Refusal::from_number(0), None);
+    assert_eq!(Refusal::from_number(8), None);
+    let text = Refusal::SheetLength.to_string();
+    assert_eq!(
+        text,
+        "refused 5: sheet: the length is not 4 × (3 + 2E) bytes"
+    );
+}

@@ -1,0 +1,55 @@
+/* Plans step D and prints it as the bench program does. */
+#include <inttypes.h>
+#include <stdio.h>
+#include "firrozka.h"
+
+static uint8_t plan[FIRROZKA_PLAN_BYTES], moves[FIRROZKA_MOVES_BYTES];
+
+/* The word at a place: 4 bytes, low byte first. */
+static uint32_t word(const uint8_t *record, size_t place)
+{
+    const uint8_t *b = record + 4 * place;
+    return b[0] | (uint32_t)b[1] << 8 | (uint32_t)b[2] << 16 | (uint32_t)b[3] << 24;
+}
+
+/* A node's amount of its own subdomain: Pn less the shares of its helpers. A root's share is 0. */
+static uint32_t own(const uint8_t *sheet, uint32_t node)
+{
+    uint32_t n = word(plan, 0), e = word(sheet, 2), amount = 0;
+    for (uint32_t i = 0; i < e; i++)
+        if (word(sheet, 3 + i) % 64 == node)
+            amount += word(sheet, 3 + e + i);
+    for (uint32_t k = 0; k < n; k++)
+        if (word(plan, 3 + k) == node)
+            amount -= word(plan, 3 + n + k);
+    return amount;
+}
+
+static void print_step(const uint8_t *sheet, struct firrozka_step step)
+{
+    uint32_t n = word(plan, 0), e = word(moves, 1);
+    printf("kind %" PRIu32 " limit %" PRIu32 "\n", step.kind, step.limit);
+    for (uint32_t k = 0; k < n; k++)
+        printf("node %" PRIu32 " helps %" PRIu32 " share %" PRIu32 " own %" PRIu32 "\n", k, word(plan, 3 + k),
+               word(plan, 3 + n + k), own(sheet, k));
+    for (uint32_t i = 0; i < e; i++) {
+        uint32_t route = word(moves, 2 + i);
+        printf("move %" PRIu32 " from %" PRIu32 " to %" PRIu32 " count %" PRIu32 "\n", route / 4096, route / 64 % 64,
+               route % 64, word(moves, 2 + e + i));
+    }
+}
+
+int main(void)
+{
+    /* The words 3 10 3 0 65 130 90 6 4. */
+    static const uint8_t sheet[] = {3,  0, 0, 0, 10,  0, 0, 0, 3,  0, 0, 0, 0, 0, 0, 0, 65, 0,
+                                    0,  0, 130, 0, 0, 0, 90, 0, 0, 0, 6, 0, 0, 0, 4, 0, 0,  0};
+    struct firrozka_step step =
+        firrozka_plan_step(sheet, sizeof sheet, NULL, 0, plan, sizeof plan, moves, sizeof moves);
+    if (step.refusal) {
+        printf("refused %" PRIu32 "\n", step.refusal);
+        return 1;
+    }
+    print_step(sheet, step);
+    return 0;
+}

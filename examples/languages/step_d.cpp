@@ -1,0 +1,69 @@
+// Plans step D and prints it as the bench program does.
+#include <array>
+#include <cstdint>
+#include <initializer_list>
+#include <iostream>
+#include <vector>
+
+#include "firrozka.h"
+
+using Bytes = std::vector<std::uint8_t>;
+
+// "A word is 4 bytes, unsigned, low byte first."
+Bytes to_bytes(std::initializer_list<std::uint32_t> words) {
+    Bytes bytes;
+    for (auto word : words)
+        for (int shift = 0; shift < 32; shift += 8) bytes.push_back(static_cast<std::uint8_t>(word >> shift));
+    return bytes;
+}
+
+std::vector<std::uint32_t> to_words(const Bytes &bytes) {
+    std::vector<std::uint32_t> words(bytes.size() / 4);
+    for (std::size_t i = 0; i < 4 * words.size(); ++i) words[i / 4] |= std::uint32_t{bytes[i]} << (8 * (i % 4));
+    return words;
+}
+
+// What plan a step answers and writes.
+struct Step {
+    firrozka_step answer;
+    Bytes plan, moves;
+};
+
+Step plan_step(const Bytes &sheet, const Bytes &old_plan) {
+    Step step{{}, Bytes(FIRROZKA_PLAN_BYTES), Bytes(FIRROZKA_MOVES_BYTES)};
+    step.answer = firrozka_plan_step(sheet.data(), sheet.size(), old_plan.data(), old_plan.size(), step.plan.data(),
+                                     step.plan.size(), step.moves.data(), step.moves.size());
+    step.plan.resize(step.answer.plan_bytes);
+    step.moves.resize(step.answer.moves_bytes);
+    return step;
+}
+
+// Each node's amount of its own subdomain: Pn less the shares of its helpers. A root's share is 0.
+std::array<std::uint32_t, 64> own_amounts(const std::vector<std::uint32_t> &sheet, const std::vector<std::uint32_t> &plan) {
+    std::array<std::uint32_t, 64> own{};
+    const auto e = sheet[2], n = plan[0];
+    for (std::uint32_t i = 0; i < e; ++i) own[sheet[3 + i] % 64] += sheet[3 + e + i];
+    for (std::uint32_t k = 0; k < n; ++k) own[plan[3 + k]] -= plan[3 + n + k];
+    return own;
+}
+
+int main() {
+    const Bytes sheet = to_bytes({3, 10, 3, 0, 65, 130, 90, 6, 4});
+    const Step step = plan_step(sheet, {});
+    if (step.answer.refusal != FIRROZKA_ACCEPTED) {
+        std::cout << "refused " << step.answer.refusal << '\n';
+        return 1;
+    }
+    const auto plan = to_words(step.plan), moves = to_words(step.moves);
+    const auto own = own_amounts(to_words(sheet), plan);
+    const auto n = plan[0], e = moves[1];
+
+    std::cout << "kind " << step.answer.kind << " limit " << step.answer.limit << '\n';
+    for (std::uint32_t k = 0; k < n; ++k)
+        std::cout << "node " << k << " helps " << plan[3 + k] << " share " << plan[3 + n + k] << " own " << own[k] << '\n';
+    for (std::uint32_t i = 0; i < e; ++i) {
+        const auto route = moves[2 + i];
+        std::cout << "move " << route / 4096 << " from " << route / 64 % 64 << " to " << route % 64 << " count "
+                  << moves[2 + e + i] << '\n';
+    }
+}

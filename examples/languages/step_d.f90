@@ -1,0 +1,63 @@
+! Plans step D and prints it as the bench program does.
+program step_d
+    use, intrinsic :: iso_c_binding, only: c_int8_t, c_int32_t, c_size_t
+    use firrozka
+    implicit none
+
+    integer(c_int32_t), parameter :: words(9) = [3, 10, 3, 0, 65, 130, 90, 6, 4]
+    integer(c_int8_t) :: sheet(4 * size(words)), no_plan(1), plan(firrozka_plan_bytes), moves(firrozka_moves_bytes)
+    type(firrozka_step) :: step
+    integer :: n, k
+
+    sheet = words_to_bytes(words)
+    no_plan = 0
+    step = firrozka_plan_step(sheet, size(sheet, kind=c_size_t), no_plan, 0_c_size_t, &
+                              plan, size(plan, kind=c_size_t), moves, size(moves, kind=c_size_t))
+    if (step%refusal /= 0) then
+        print '("refused ", i0)', step%refusal
+        stop 1
+    end if
+
+    n = word_at(plan, 0)
+    print '("kind ", i0, " limit ", i0)', step%kind, step%limit
+    do k = 0, n - 1
+        print '("node ", i0, " helps ", i0, " share ", i0, " own ", i0)', k, helpand(k), share(k), own(k)
+    end do
+    do k = 0, word_at(moves, 1) - 1
+        call print_move(word_at(moves, 2 + k), word_at(moves, 2 + word_at(moves, 1) + k))
+    end do
+
+contains
+
+    integer function helpand(node)
+        integer, intent(in) :: node
+        helpand = word_at(plan, 3 + node)
+    end function
+
+    integer function share(node)
+        integer, intent(in) :: node
+        share = word_at(plan, 3 + n + node)
+    end function
+
+    ! A node's amount of its own subdomain: Pn less the shares of its helpers. A root's share is 0.
+    integer function own(node)
+        integer, intent(in) :: node
+        integer :: e, i
+
+        own = 0
+        e = word_at(sheet, 2)
+        do i = 0, e - 1
+            if (mod(word_at(sheet, 3 + i), 64) == node) own = own + word_at(sheet, 3 + e + i)
+        end do
+        do i = 0, n - 1
+            if (helpand(i) == node) own = own - share(i)
+        end do
+    end function
+
+    ! A route is subdomain x 4,096 + sender x 64 + receiver.
+    subroutine print_move(route, count)
+        integer(c_int32_t), intent(in) :: route, count
+        print '("move ", i0, " from ", i0, " to ", i0, " count ", i0)', &
+            route / 4096, mod(route / 64, 64), mod(route, 64), count
+    end subroutine
+end program

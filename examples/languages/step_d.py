@@ -1,0 +1,20 @@
+"""Plans step D and prints it as the bench program does."""
+
+import firrozka
+
+sheet = firrozka.to_bytes([3, 10, 3, 0, 65, 130, 90, 6, 4])
+step = firrozka.plan_step(sheet)
+plan = firrozka.read_plan(step.plan)
+
+# Each node's amount of its own subdomain: Pn less the shares of its helpers. A root's share is 0.
+own = [0] * plan.n
+for cell in firrozka.read_sheet(sheet).cells:
+    own[cell.subdomain] += cell.count
+for helpand, share in zip(plan.helpands, plan.shares):
+    own[helpand] -= share
+
+print(f"kind {step.kind} limit {step.limit}")
+for node in range(plan.n):
+    print(f"node {node} helps {plan.helpands[node]} share {plan.shares[node]} own {own[node]}")
+for move in firrozka.read_moves(step.moves).moves:
+    print(f"move {move.subdomain} from {move.sender} to {move.receiver} count {move.count}")

@@ -1,0 +1,36 @@
+//! Plans step D and prints it as the bench program does.
+
+use firrozka::{
+    plan_step, read_moves, read_plan, read_sheet, to_bytes, Refusal, MOVES_BYTES, NO_PLAN,
+    PLAN_BYTES,
+};
+
+/// Each node's amount of its own subdomain: Pn less the shares of its helpers.
+fn own(sheet: &[u8], plan: &[u8]) -> Result<Vec<u32>, Refusal> {
+    let (sheet, plan) = (read_sheet(sheet)?, read_plan(plan)?);
+    let mut own = vec![0; sheet.n as usize];
+    for cell in sheet.entries() {
+        own[cell.subdomain as usize] += cell.count;
+    }
+    for node in plan.nodes() {
+        own[node.helpand as usize] -= node.share;
+    }
+    Ok(own)
+}
+
+fn main() -> Result<(), Refusal> {
+    let sheet = to_bytes(&[3, 10, 3, 0, 65, 130, 90, 6, 4]);
+    let (mut plan, mut moves) = ([0; PLAN_BYTES], [0; MOVES_BYTES]);
+    let step = plan_step(&sheet, NO_PLAN, &mut plan, &mut moves)?;
+
+    println!("kind {} limit {}", step.kind.number(), step.limit);
+    for (node, own) in read_plan(step.plan)?.nodes().zip(own(&sheet, step.plan)?) {
+        let (number, helpand, share) = (node.node, node.helpand, node.share);
+        println!("node {number} helps {helpand} share {share} own {own}");
+    }
+    for entry in read_moves(step.moves)?.entries() {
+        let (subdomain, from, to) = (entry.subdomain, entry.sender, entry.receiver);
+        println!("move {subdomain} from {from} to {to} count {}", entry.count);
+    }
+    Ok(())
+}

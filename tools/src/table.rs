@@ -1,0 +1,67 @@
+//! A table of counts: a line for each, `holder,subdomain,count`, in any order.
+//! The first line may be these three words.
+
+use crate::text::{Fault, Piece};
+use std::collections::btree_map::{BTreeMap, Entry};
+
+const COLUMNS: [&str; 3] = ["holder", "subdomain", "count"];
+
+/// The words of the sheet of N and t with these counts. Counts of 0 are left
+/// out: "Cells absent from the sheet count as 0." N is at most 64.
+pub fn sheet(n: u32, t: u32, text: &str) -> Result<Vec<u32>, Fault> {
+    let mut counts = counts(n, text)?;
+    counts.retain(|_, count| *count > 0);
+    let entries = counts.len() as u32;
+    let sizes = [n, t, entries];
+    Ok(sizes
+        .into_iter()
+        .chain(counts.keys().copied())
+        .chain(counts.values().copied())
+        .collect())
+}
+
+/// The counts by cell: "A cell is holder × 64 + subdomain."
+fn counts(n: u32, text: &str) -> Result<BTreeMap<u32, u32>, Fault> {
+    let mut counts = BTreeMap::new();
+    for fields in rows(text) {
+        let [holder, subdomain, count] = three(&fields)?;
+        let cell = node(holder, n)? * 64 + node(subdomain, n)?;
+        match counts.entry(cell) {
+            Entry::Vacant(place) => place.insert(count.number()?),
+            Entry::Occupied(_) => {
+                return Err(holder.fault("this holder and subdomain stand above already"));
+            }
+        };
+    }
+    Ok(counts)
+}
+
+/// The fields of each line that has any text, without the names of the columns.
+fn rows(text: &str) -> impl Iterator<Item = Vec<Piece<'_>>> {
+    let lines = Piece::lines(text).filter(|line| !line.text.trim().is_empty());
+    let rows = lines.map(|line| line.split(|c| c == ',').collect::<Vec<Piece>>());
+    let named = |(place, row): &(usize, Vec<Piece>)| *place > 0 || !is_header(row);
+    rows.enumerate().filter(named).map(|(_, row)| row)
+}
+
+fn is_header(fields: &[Piece]) -> bool {
+    let names = fields.iter().map(|field| field.text.to_lowercase());
+    names.eq(COLUMNS)
+}
+
+fn three<'a>(fields: &[Piece<'a>]) -> Result<[Piece<'a>; 3], Fault> {
+    let what = "a line is holder,subdomain,count";
+    match *fields {
+        [holder, subdomain, count] => Ok([holder, subdomain, count]),
+        [_, _, _, over, ..] => Err(over.fault(what)),
+        [.., last] => Err(last.fault_behind(last.text.chars().count(), what)),
+        [] => unreachable!("a line has a field"),
+    }
+}
+
+fn node(piece: Piece, n: u32) -> Result<u32, Fault> {
+    match piece.number()? {
+        node if node < n => Ok(node),
+        _ => Err(piece.fault(format!("the node is not below N, which is {n}"))),
+    }
+}
