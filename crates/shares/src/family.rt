@@ -20,7 +20,8 @@ fn space_for(helpand: u32, least: u32, limit: u32, share: u32, n: usize, k: usiz
     }
 }
 
-// What each node gets of subdomain n, whose owner has this share of its own helpand's.
+// What each node gets of subdomain n, whose owner has this share of its own helpand's. Most nodes are in other families and are
+// passed.
 pub fn divide_family(
     table: &[u32; 4096],
     totals: &[u32; 64],
@@ -41,10 +42,12 @@ pub fn divide_family(
     let mut k = 0;
     while k < nodes {
         let space = space_for(helpands[k], leasts[k], limit, share, n, k);
-        let keeps = numbers::smaller(space, table[64 * k + n]);
-        spaces[k] = space;
-        kept[k] = keeps;
-        rest -= keeps;
+        if space != 0 {
+            let keeps = numbers::smaller(space, table[64 * k + n]);
+            spaces[k] = space;
+            kept[k] = keeps;
+            rest -= keeps;
+        }
         k += 1;
     }
     fill::fill(spaces, kept, rest, nodes, n)

@@ -2,8 +2,10 @@
 -- the rest is the total less those amounts. Assumes nothing.
 use borrow.Author.Needs.{needs}
 use mathlib.Core.Path.{_≡_, refl, sym, ap, _∙_}
+use mathlib.Core.Logic.{⊎-elim}
 use mathlib.Core.List.{List}
-use Prim.Native.Nat.{ℕ, _-_, _≤_, min}
+use Prim.Native.Nat.{ℕ, _+_, _-_, _≤_, _<_, min}
+use native.Mathlib.Decide.{ℕ-discrete}
 use native.Mathlib.Omega.{arith}
 use lib.ListN.{length, length-set}
 use denote.Ref.{now}
@@ -12,7 +14,7 @@ use Rattle.fold.proofs.Sums.{sum-none, sum-more}
 use Rattle.plan.specs.Tree.{at}
 use Rattle.tree.specs.Totals.{held, tabulate, totalOf}
 use Rattle.shares.specs.Shares.{space, kept}
-use Rattle.tree.proofs.Tabulate.{tabulate-at, tabulate-none, tabulate-more}
+use Rattle.tree.proofs.Tabulate.{tabulate-at, tabulate-behind, length-tabulate, tabulate-is, tabulate-none, tabulate-more}
 use Rattle.shares.proofs.Spaces.{space-here}
 use Rattle.shares.proofs.Amounts.{kept-left, amount-arrays}
 use Rattle.shares.proofs.family.divide_family.Statement.{statement}
@@ -44,13 +46,13 @@ space-is c =
     c .space-for .ensures ∙ space-here (at (now (a .helpands))) (a .limit) (at (now (a .leasts))) (a .share) (a .n) (l .loop .k)
 
 keeps-is : (c : tie.After-smaller Inv-loop μ-loop) →
-    let l = c .before .before .before .before .before .before in
+    let l = c .before .before .before .before .before .before .before in
     let a = l .before .before .args in
     c .smaller .result ≡ K (now (a .table)) (now (a .helpands)) (now (a .leasts)) (a .limit) (a .share) (a .n) (l .loop .k)
 keeps-is c =
-    let l = c .before .before .before .before .before .before in
+    let l = c .before .before .before .before .before .before .before in
     let a = l .before .before .args in
-    c .smaller .ensures ∙ ap (λ (x : ℕ). min x (held (now (a .table)) (l .loop .k) (a .n))) (space-is (c .before .before))
+    c .smaller .ensures ∙ ap (λ (x : ℕ). min x (held (now (a .table)) (l .loop .k) (a .n))) (space-is (c .before .before .before))
 
 -- the total is the table's
 total-is : (c : tie.Start Inv-loop μ-loop) → at (now (c .args .totals)) (c .args .n) ≡ totalOf (c .args .nodes) (now (c .args .table)) (c .args .n)
@@ -60,7 +62,7 @@ total-is c =
 
 sub-rest : tie.Need-sub-rest Inv-loop μ-loop
 sub-rest c =
-    let l = c .before .before .before .before .before .before in
+    let l = c .before .before .before .before .before .before .before in
     let b = l .before .before in
     let a = b .args in
     omega (
@@ -71,20 +73,44 @@ sub-rest c =
       kept-left (a .nodes) (l .loop .k) (S (now (a .helpands)) (now (a .leasts)) (a .limit) (a .share) (a .n)) (λ j. held (now (a .table)) j (a .n)) (omega arith),
     )
 
+-- a node that gets nothing is passed
+passed : (f : ℕ → ℕ) (k : ℕ) (xs : List ℕ) → k < 64 → xs ≡ tabulate k f → f k ≡ 0 → xs ≡ tabulate (k + 1) f
+passed f k xs b e z =
+    tabulate-is (k + 1) f (omega arith) xs (ap length e ∙ length-tabulate k f (omega arith))
+    (λ j l. elim (ℕ-discrete j k) [
+      | yes q ↦ ap (λ (ys : List ℕ). at ys j) e ∙ tabulate-behind k f j (omega arith) ∙ sym (ap f q ∙ z)
+      | no d ↦ ap (λ (ys : List ℕ). at ys j) e ∙ tabulate-at k f j (omega arith)
+    ])
+    (λ j l. ap (λ (ys : List ℕ). at ys j) e ∙ tabulate-behind k f j (omega arith))
+
 loop-again : tie.Need-loop-again Inv-loop μ-loop
 loop-again c =
-    let l = c .before .before .before .before .before .before in
+    let l = c .before .before .before .before .before in
     let a = l .before .before .args in
     let k = l .loop .k in
     let s = S (now (a .helpands)) (now (a .leasts)) (a .limit) (a .share) (a .n) in
-    let t = K (now (a .table)) (now (a .helpands)) (now (a .leasts)) (a .limit) (a .share) (a .n) in (
+    let t = K (now (a .table)) (now (a .helpands)) (now (a .leasts)) (a .limit) (a .share) (a .n) in
+    ⊎-elim
+    (λ w.
+    let m : tie.After-smaller Inv-loop μ-loop = record { before = record { before = record { before = c .before; if1 = w .0 }; smaller-arg = w .1 }; smaller = w .2 } in (
       search needs,
-      simp length-set (l .loop .inv .1),
-      simp length-set (l .loop .inv .2),
-      rw (l .loop .inv .3, space-is (c .before .before)) (tabulate-more s k (omega arith)),
-      rw (l .loop .inv .4, keeps-is c) (tabulate-more t k (omega arith)),
-      omega (arith, keeps-is c, l .loop .inv .5, sum-more k t),
-    )
+      rw (w .3) (simp length-set (l .loop .inv .1)),
+      rw (w .4) (simp length-set (l .loop .inv .2)),
+      rw (w .3, l .loop .inv .3, space-is (c .before)) (tabulate-more s k (omega arith)),
+      rw (w .4, l .loop .inv .4, keeps-is m) (tabulate-more t k (omega arith)),
+      omega (arith, w .5, keeps-is m, l .loop .inv .5, sum-more k t),
+    ))
+    (λ w.
+    let z : s k ≡ 0 = sym (space-is (c .before)) ∙ w .0 .left in
+    let y : t k ≡ 0 = omega (arith, z) in (
+      search needs,
+      rw (w .1) (l .loop .inv .1),
+      rw (w .2) (l .loop .inv .2),
+      rw (w .1) (passed s k (l .loop .spaces) (omega arith) (l .loop .inv .3) z),
+      rw (w .2) (passed t k (l .loop .kept) (omega arith) (l .loop .inv .4) y),
+      omega (arith, w .3, l .loop .inv .5, sum-more k t, y),
+    ))
+    (c .if1 .came)
 
 returns : tie.Need-returns Inv-loop μ-loop
 returns c =
