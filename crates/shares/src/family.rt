@@ -50,5 +50,5 @@ pub fn divide_family(
         }
         k += 1;
     }
-    fill::fill(spaces, kept, rest, nodes, n)
+    fill::fill(&spaces, &kept, rest, nodes, n)
 }

@@ -114,7 +114,7 @@ loop-again c =
 
 returns : tie.Need-returns Inv-loop μ-loop
 returns c =
-    let l = c .before .before in
+    let l = c .before .before .before .before in
     let b = l .before .before in
     let a = b .args in
     let e : l .loop .k ≡ a .nodes = omega arith in
