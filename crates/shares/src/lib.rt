@@ -4,12 +4,33 @@ mod fill;
 
 ghost use mathlib.Core.Path.{_≡_};
 ghost use Prim.Native.Nat.{_≤_, _<_};
+ghost use mathlib.Core.Bool.{not};
 ghost use lib.ListN.{length};
+ghost use Rattle.fold.specs.All.{all};
+ghost use Rattle.tree.specs.Family.{helps};
 ghost use Rattle.limit.specs.Limit.{maxNodes};
 ghost use Rattle.plan.specs.Tree.{at, Tree};
 ghost use Rattle.tree.specs.Totals.{held, totalsOf};
 ghost use Rattle.shares.specs.Shares.{sharesOf};
 ghost use Rattle.shares.specs.Walk.{Fine, sharesIn, Walked};
+
+// Whether nobody helps n.
+fn is_leaf(helpands: &[u32; 64], nodes: usize, n: usize) -> bool
+    requires { ⌜ (nodes ≤ maxNodes) × (n < nodes) ⌝ }
+    ensures { λ r. ⌜ r ≡ all nodes (λ k. not (helps (at (now (helpands .entry))) n k)) ⌝ }
+{
+    let owner = n as u32;
+    let mut k = 0;
+    while k < nodes {
+        if helpands[k] == owner {
+            if k != n {
+                return false;
+            }
+        }
+        k += 1;
+    }
+    true
+}
 
 // Divides the families of n and of all below it, so many levels down, and notes the shares. The share of n stands already.
 fn divide_below(
@@ -33,6 +54,9 @@ fn divide_below(
         depth n (at (now (shares .entry))) (at (now (shares .exit))) ⌝ }
 {
     if depth == 0 {
+        return;
+    }
+    if is_leaf(helpands, nodes, n) {
         return;
     }
     let amounts = family::divide_family(
