@@ -24,6 +24,8 @@
 //! | `rival` | whether there is one, found in other ways |
 //! | `demands` | what must hold of a planned step, however it was found |
 //! | `bench_text` | what the bench program prints |
+//! | `plain` | the benchmark's yardstick |
+//! | `speed` | the benchmark |
 //! | `refused` | a small step for each refusal of *plan a step* |
 //! | `cases` | the input and output of the program that the gate runs |
 
@@ -40,6 +42,7 @@ pub mod faults;
 pub mod guarded;
 pub mod inputs;
 pub mod operations;
+pub mod plain;
 pub mod random;
 pub mod readers;
 pub mod records;
@@ -47,6 +50,7 @@ pub mod reference;
 pub mod refused;
 pub mod rival;
 pub mod settings;
+pub mod speed;
 pub mod steps;
 pub mod worked;
 

@@ -3,7 +3,7 @@
 
 use crate::answers::{PartAnswer, StepAnswer, WeighedAnswer, WrittenAnswer};
 use crate::bounds::NODES;
-use crate::{boundary, reference};
+use crate::{boundary, plain, reference};
 
 const MOST_NODES: usize = *NODES.end() as usize;
 
@@ -46,6 +46,15 @@ pub const ARCHIVE: Operations = Operations {
     plan_step: boundary::plan_step,
     carry_out: boundary::carry_out,
     tree_in_force: boundary::tree_in_force,
+};
+
+/// The benchmark's yardstick. *Tree in force* is not measured, so it has none.
+pub const PLAIN: Operations = Operations {
+    name: "plain Rust",
+    weigh: plain::weigh,
+    plan_step: plain::plan_step,
+    carry_out: plain::carry_out,
+    tree_in_force: reference::tree_in_force,
 };
 
 /// All who are tested.

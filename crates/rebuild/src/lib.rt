@@ -100,12 +100,12 @@ pub fn rebuild(totals: [u32; 64], old: [u32; 64], nodes: usize, p: u32) -> Rebui
         helpands: [0u32; 64],
         shares: [0u32; 64],
     };
-    while let Found::At(l) = scan::smallest_in_a(s.loads, s.targets, s.finished, nodes) {
+    while let Found::At(l) = scan::smallest_in_a(&s.loads, &s.targets, &s.finished, nodes) {
         let need = s.targets[l] - s.loads[l];
         let Found::At(g) = scan::choose(
-            s.loads,
-            s.targets,
-            s.finished,
+            &s.loads,
+            &s.targets,
+            &s.finished,
             nodes,
             l,
             need,

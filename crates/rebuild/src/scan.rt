@@ -26,14 +26,14 @@ pub fn in_b(load: u32, target: u32, finished: bool) -> bool
 }
 
 // The node in A with the smallest load, the lowest number on ties.
-pub fn smallest_in_a(
-    loads: [u32; 64],
-    targets: [u32; 64],
-    finished: [bool; 64],
+pub fn smallest_in_a<'a>(
+    loads: &'a [u32; 64],
+    targets: &'a [u32; 64],
+    finished: &'a [bool; 64],
     nodes: usize,
 ) -> Found
     requires { ⌜ nodes ≤ maxNodes ⌝ }
-    ensures { λ r. ⌜ r ≡ smallestInA nodes loads targets finished ⌝ }
+    ensures { λ r. ⌜ r ≡ smallestInA nodes (now (loads .entry)) (now (targets .entry)) (now (finished .entry)) ⌝ }
 {
     let mut best = Found::Nothing;
     let mut k = 0;
@@ -56,9 +56,14 @@ pub fn smallest_in_a(
 }
 
 // The node in B with the largest load, the lowest number on ties.
-fn largest_in_b(loads: [u32; 64], targets: [u32; 64], finished: [bool; 64], nodes: usize) -> Found
+fn largest_in_b<'a>(
+    loads: &'a [u32; 64],
+    targets: &'a [u32; 64],
+    finished: &'a [bool; 64],
+    nodes: usize,
+) -> Found
     requires { ⌜ nodes ≤ maxNodes ⌝ }
-    ensures { λ r. ⌜ r ≡ largestInB nodes loads targets finished ⌝ }
+    ensures { λ r. ⌜ r ≡ largestInB nodes (now (loads .entry)) (now (targets .entry)) (now (finished .entry)) ⌝ }
 {
     let mut best = Found::Nothing;
     let mut k = 0;
@@ -102,17 +107,17 @@ pub fn lowest_in_b(
 
 // Whom l helps: its helpand in the old tree, if that is another node, in B and has the need; otherwise the node in B with the largest
 // load.
-pub fn choose(
-    loads: [u32; 64],
-    targets: [u32; 64],
-    finished: [bool; 64],
+pub fn choose<'a>(
+    loads: &'a [u32; 64],
+    targets: &'a [u32; 64],
+    finished: &'a [bool; 64],
     nodes: usize,
     l: usize,
     need: u32,
     old: usize,
 ) -> Found
     requires { ⌜ (nodes ≤ maxNodes) × (old < 64) ⌝ }
-    ensures { λ r. ⌜ r ≡ chosen nodes loads targets finished l need old ⌝ }
+    ensures { λ r. ⌜ r ≡ chosen nodes (now (loads .entry)) (now (targets .entry)) (now (finished .entry)) l need old ⌝ }
 {
     if old != l {
         if in_b(loads[old], targets[old], finished[old]) {

@@ -79,6 +79,11 @@ module _ {nodes : ℕ} {h right : ℕ → ℕ} {depth n : ℕ} {before : ℕ →
             steps k (omega arith) l refl
       ]
 
+-- nobody helps n
+pub walked-leaf : {nodes : ℕ} {h right : ℕ → ℕ} {depth n : ℕ} {out : ℕ → ℕ} → ((k : ℕ) → k < nodes → h k < nodes)
+    → ((k : ℕ) → k < nodes → helps h n k ≡ false) → out n ≡ right n → Walked nodes h right (suc depth) n out out
+walked-leaf inside none e = passed-all inside (record { stays = λ k q. q; made = λ i l y. absurd (true≢false (sym y ∙ none i l)) }) e
+
 -- no level below
 pub walked-none : {nodes : ℕ} {h right : ℕ → ℕ} {n : ℕ} {out : ℕ → ℕ} → out n ≡ right n → Walked nodes h right 0 n out out
 walked-none {nodes} {h} {right} {n} {out} e = record {

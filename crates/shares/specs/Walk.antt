@@ -5,23 +5,21 @@ use Prim.Native.Nat.{ℕ, _≤_, _<_}
 use Rattle.limit.specs.Limit.{maxNodes}
 use Rattle.plan.specs.Tree.{at, walk, Tree}
 use Rattle.tree.specs.Totals.{held, tabulate, totalsOf}
-use Rattle.shares.specs.declared.Weighed.{Weighed}
 use Rattle.shares.specs.Shares.{amount, sharesOf}
 
--- a weighed tree of a table of counts: its helpands are a tree, and its totals are the table's
-pub record Fine (tree : Weighed) (table : List ℕ) : Type 0 where
-  pub few : tree .nodes ≤ maxNodes
-  pub rooted : (r : ℕ) × Tree (tree .nodes) (at (tree .helpands)) r
-  pub counted : tree .totals ≡ totalsOf (tree .nodes) table
+-- a tree of so many nodes, and the totals of a table of counts
+pub record Fine (nodes : ℕ) (helpands totals table : List ℕ) : Type 0 where
+  pub few : nodes ≤ maxNodes
+  pub rooted : (r : ℕ) × Tree nodes (at helpands) r
+  pub counted : totals ≡ totalsOf nodes table
 
 -- what each node gets of subdomain n, whose owner has share r
-abbrev pub amountsIn : Weighed → List ℕ → ℕ → ℕ → List ℕ
-amountsIn tree table r n =
-    tabulate (tree .nodes) (amount (tree .nodes) (at (tree .helpands)) (tree .limit) (at (tree .leasts)) (at (tree .totals)) (held table) r n)
+abbrev pub amountsIn : ℕ → ℕ → List ℕ → List ℕ → List ℕ → List ℕ → ℕ → ℕ → List ℕ
+amountsIn nodes limit helpands leasts totals table r n = tabulate nodes (amount nodes (at helpands) limit (at leasts) (at totals) (held table) r n)
 
 -- the shares of all nodes
-abbrev pub sharesIn : Weighed → List ℕ → List ℕ
-sharesIn tree table = sharesOf (tree .nodes) (at (tree .helpands)) (tree .limit) (at (tree .leasts)) (at (tree .totals)) (held table)
+abbrev pub sharesIn : ℕ → ℕ → List ℕ → List ℕ → List ℕ → List ℕ → List ℕ
+sharesIn nodes limit helpands leasts totals table = sharesOf nodes (at helpands) limit (at leasts) (at totals) (held table)
 
 -- the shares before a walk down from node n, and after it: a right entry stays right, and each node from which n is reached in so
 -- many steps has its right share

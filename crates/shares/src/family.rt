@@ -1,5 +1,4 @@
 // One family's division: the spaces of its members, what they keep, and the rest.
-use super::Weighed;
 use super::fill;
 use fold::numbers;
 ghost use mathlib.Core.Path.{_≡_};
@@ -21,22 +20,35 @@ fn space_for(helpand: u32, least: u32, limit: u32, share: u32, n: usize, k: usiz
     }
 }
 
-// What each node gets of subdomain n, whose owner has this share of its own helpand's.
-pub fn divide_family(table: &[u32; 4096], tree: Weighed, share: u32, n: usize) -> [u32; 64]
-    requires { ⌜ (Fine tree (now table)) × (n < tree .nodes) ⌝ }
-    ensures { λ r. ⌜ r ≡ amountsIn tree (now (table .entry)) share n ⌝ }
+// What each node gets of subdomain n, whose owner has this share of its own helpand's. Most nodes are in other families and are
+// passed.
+pub fn divide_family(
+    table: &[u32; 4096],
+    totals: &[u32; 64],
+    leasts: &[u32; 64],
+    helpands: &[u32; 64],
+    nodes: usize,
+    limit: u32,
+    share: u32,
+    n: usize,
+) -> [u32; 64]
+    requires { ⌜ (Fine nodes (now helpands) (now totals) (now table)) × (n < nodes) ⌝ }
+    ensures { λ r. ⌜
+        r ≡ amountsIn nodes limit (now (helpands .entry)) (now (leasts .entry)) (now (totals .entry)) (now (table .entry)) share n ⌝ }
 {
     let mut spaces = [0u32; 64];
     let mut kept = [0u32; 64];
-    let mut rest = tree.totals[n];
+    let mut rest = totals[n];
     let mut k = 0;
-    while k < tree.nodes {
-        let space = space_for(tree.helpands[k], tree.leasts[k], tree.limit, share, n, k);
-        let keeps = numbers::smaller(space, table[64 * k + n]);
-        spaces[k] = space;
-        kept[k] = keeps;
-        rest -= keeps;
+    while k < nodes {
+        let space = space_for(helpands[k], leasts[k], limit, share, n, k);
+        if space != 0 {
+            let keeps = numbers::smaller(space, table[64 * k + n]);
+            spaces[k] = space;
+            kept[k] = keeps;
+            rest -= keeps;
+        }
         k += 1;
     }
-    fill::fill(spaces, kept, rest, tree.nodes, n)
+    fill::fill(&spaces, &kept, rest, nodes, n)
 }

@@ -15,9 +15,9 @@ fn topped(keeps: u32, space: u32, left: u32) -> u32
 }
 
 // What each node has of subdomain n in all, with the rest filled into the spaces of its family.
-pub fn fill(spaces: [u32; 64], kept: [u32; 64], rest: u32, nodes: usize, n: usize) -> [u32; 64]
+pub fn fill(spaces: &[u32; 64], kept: &[u32; 64], rest: u32, nodes: usize, n: usize) -> [u32; 64]
     requires { ⌜ (nodes ≤ maxNodes) × (n < nodes) ⌝ }
-    ensures { λ r. ⌜ r ≡ tabulate nodes (fill n (at spaces) (at kept) rest) ⌝ }
+    ensures { λ r. ⌜ r ≡ tabulate nodes (fill n (at (now (spaces .entry))) (at (now (kept .entry))) rest) ⌝ }
 {
     let mut amounts = [0u32; 64];
     let own = topped(kept[n], spaces[n], rest);

@@ -4,48 +4,92 @@ mod fill;
 
 ghost use mathlib.Core.Path.{_≡_};
 ghost use Prim.Native.Nat.{_≤_, _<_};
+ghost use mathlib.Core.Bool.{not};
+ghost use lib.ListN.{length};
+ghost use Rattle.fold.specs.All.{all};
+ghost use Rattle.tree.specs.Family.{helps};
 ghost use Rattle.limit.specs.Limit.{maxNodes};
 ghost use Rattle.plan.specs.Tree.{at, Tree};
 ghost use Rattle.tree.specs.Totals.{held, totalsOf};
 ghost use Rattle.shares.specs.Shares.{sharesOf};
 ghost use Rattle.shares.specs.Walk.{Fine, sharesIn, Walked};
 
-// A tree that was weighed: its nodes with their helpands, totals and leasts, and the limit.
-struct Weighed {
-    nodes: usize,
-    limit: u32,
-    helpands: [u32; 64],
-    totals: [u32; 64],
-    leasts: [u32; 64],
-}
-
-// The shares after the families of n and of all below it are divided, so many levels down. The share of n stands already.
-fn divide_below(
-    table: &[u32; 4096],
-    tree: Weighed,
-    depth: usize,
-    n: usize,
-    shares: [u32; 64],
-) -> [u32; 64]
-    requires { ⌜ (Fine tree (now table)) × (n < tree .nodes) × (at shares n ≡ at (sharesIn tree (now table)) n) ⌝ }
-    ensures { λ r. ⌜ Walked (tree .nodes) (at (tree .helpands)) (at (sharesIn tree (now (table .entry)))) depth n (at shares) (at r) ⌝ }
+// Whether nobody helps n.
+fn is_leaf(helpands: &[u32; 64], nodes: usize, n: usize) -> bool
+    requires { ⌜ (nodes ≤ maxNodes) × (n < nodes) ⌝ }
+    ensures { λ r. ⌜ r ≡ all nodes (λ k. not (helps (at (now (helpands .entry))) n k)) ⌝ }
 {
-    let mut out = shares;
-    if depth == 0 {
-        return out;
-    }
-    let amounts = family::divide_family(table, tree, shares[n], n);
+    let owner = n as u32;
     let mut k = 0;
-    while k < tree.nodes {
-        if k != n {
-            if tree.helpands[k] as usize == n {
-                out[k] = amounts[k];
-                out = divide_below(table, tree, depth - 1, k, out);
+    while k < nodes {
+        if helpands[k] == owner {
+            if k != n {
+                return false;
             }
         }
         k += 1;
     }
-    out
+    true
+}
+
+// Divides the families of n and of all below it, so many levels down, and notes the shares. The share of n stands already.
+fn divide_below(
+    table: &[u32; 4096],
+    totals: &[u32; 64],
+    leasts: &[u32; 64],
+    helpands: &[u32; 64],
+    nodes: usize,
+    limit: u32,
+    depth: usize,
+    n: usize,
+    shares: &mut [u32; 64],
+)
+    requires { ⌜
+        (Fine nodes (now helpands) (now totals) (now table)) × (n < nodes) × (length (now shares) ≡ 64)
+        × (at (now shares) n ≡ at (sharesIn nodes limit (now helpands) (now leasts) (now totals) (now table)) n) ⌝ }
+    ensures { λ _. ⌜
+        (length (now (shares .exit)) ≡ 64)
+        × Walked nodes (at (now (helpands .entry)))
+        (at (sharesIn nodes limit (now (helpands .entry)) (now (leasts .entry)) (now (totals .entry)) (now (table .entry))))
+        depth n (at (now (shares .entry))) (at (now (shares .exit))) ⌝ }
+{
+    if depth == 0 {
+        return;
+    }
+    if is_leaf(helpands, nodes, n) {
+        return;
+    }
+    let amounts = family::divide_family(
+        table,
+        totals,
+        leasts,
+        helpands,
+        nodes,
+        limit,
+        shares[n],
+        n,
+    );
+    let owner = n as u32;
+    let mut k = 0;
+    while k < nodes {
+        if k != n {
+            if helpands[k] == owner {
+                shares[k] = amounts[k];
+                divide_below(
+                    table,
+                    totals,
+                    leasts,
+                    helpands,
+                    nodes,
+                    limit,
+                    depth - 1,
+                    k,
+                    shares,
+                );
+            }
+        }
+        k += 1;
+    }
 }
 
 // The shares of all nodes in a tree that is kept, with these totals and leasts.
@@ -61,12 +105,18 @@ pub fn shares(
     requires { ⌜ (nodes ≤ maxNodes) × (Tree nodes (at helpands) root) × (totals ≡ totalsOf nodes (now table)) ⌝ }
     ensures { λ r. ⌜ r ≡ sharesOf nodes (at helpands) limit (at leasts) (at totals) (held (now (table .entry))) ⌝ }
 {
-    let tree = Weighed {
+    let levels = nodes;
+    let mut out = [0u32; 64];
+    divide_below(
+        table,
+        &totals,
+        &leasts,
+        &helpands,
         nodes,
         limit,
-        helpands,
-        totals,
-        leasts,
-    };
-    divide_below(table, tree, nodes, root, [0u32; 64])
+        levels,
+        root,
+        &mut out,
+    );
+    out
 }

@@ -109,3 +109,12 @@ module _ (nodes : ℕ) (surplus shortage : ℕ → ℕ) where
             record { s-le = omega arith; r-le = omega arith; sent-le = omega (arith, going .sent-le); got-le = omega arith },
             left-part n routes₀ counts₀ e whole routes counts entries (moveOf s r v) (rest s (sent + v) (r + 1) 0) routes′ counts′ entries′ (rw q at left) er ec ee,
           )
+
+  -- a sender with nothing left is passed
+  pub sender-done : (n : ℕ) (routes₀ counts₀ : List ℕ) (e : ℕ) (whole : List Move) (routes counts : List ℕ) (entries s sent r got : ℕ)
+      → Going nodes surplus shortage s sent r got → Left n routes₀ counts₀ e whole routes counts entries (rest s sent r got)
+      → s < nodes → r < nodes → surplus s - sent ≡ 0
+      → Going nodes surplus shortage (s + 1) 0 r got × Left n routes₀ counts₀ e whole routes counts entries (rest (s + 1) 0 r got)
+  sender-done n routes₀ counts₀ e whole routes counts entries s sent r got going left hs hr z =
+      let g : got + 0 ≡ got = omega arith in
+      rw g at (sender-next n routes₀ counts₀ e whole routes counts entries s sent r got going left hs hr 0 (omega arith) routes counts entries (omega arith) refl refl (omega arith))

@@ -45,14 +45,14 @@ fn due_amount(helpand: u32, share: u32, own: u32, n: usize, k: usize) -> u32
 
 // What each node is due of subdomain n, where own is what is left for its owner.
 pub fn due_amounts(
-    helpands: [u32; 64],
-    shares: [u32; 64],
+    helpands: &[u32; 64],
+    shares: &[u32; 64],
     own: u32,
     nodes: usize,
     n: usize,
 ) -> [u32; 64]
     requires { ⌜ nodes ≤ maxNodes ⌝ }
-    ensures { λ r. ⌜ r ≡ tabulate nodes (dueWith (at helpands) (at shares) own n) ⌝ }
+    ensures { λ r. ⌜ r ≡ tabulate nodes (dueWith (at (now (helpands .entry))) (at (now (shares .entry))) own n) ⌝ }
 {
     let mut due = [0u32; 64];
     let mut k = 0;

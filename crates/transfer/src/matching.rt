@@ -53,10 +53,10 @@ fn put_move(
 }
 
 // Writes the moves of subdomain n behind the first e entries, and gives the number of entries then. Each turn is done with a
-// sender or with a receiver.
+// sender or with a receiver; at once with a sender that has nothing left, as most have in a sparse sheet.
 fn put_subdomain(
     table: &[u32; 4096],
-    due: [u32; 64],
+    due: &[u32; 64],
     nodes: usize,
     n: usize,
     routes: &mut [u32],
@@ -64,9 +64,9 @@ fn put_subdomain(
     e: usize,
 ) -> usize
     requires { ⌜ (nodes ≤ maxNodes) × (n < nodes) × (e + (nodes - 1) ≤ length (now routes)) × (e + (nodes - 1) ≤ length (now counts)) ⌝ }
-    ensures entries { λ k. ⌜ k ≡ e + length (movesOf nodes (λ (k : ℕ). held (now (table .entry)) k n) (at due)) ⌝ }
-    ensures routes { λ _. ⌜ now (routes .exit) ≡ sets (now (routes .entry)) e (map (routeOf n) (movesOf nodes (λ (k : ℕ). held (now (table .entry)) k n) (at due))) ⌝ }
-    ensures counts { λ _. ⌜ now (counts .exit) ≡ sets (now (counts .entry)) e (map countOf (movesOf nodes (λ (k : ℕ). held (now (table .entry)) k n) (at due))) ⌝ }
+    ensures entries { λ k. ⌜ k ≡ e + length (movesOf nodes (λ (k : ℕ). held (now (table .entry)) k n) (at (now (due .entry)))) ⌝ }
+    ensures routes { λ _. ⌜ now (routes .exit) ≡ sets (now (routes .entry)) e (map (routeOf n) (movesOf nodes (λ (k : ℕ). held (now (table .entry)) k n) (at (now (due .entry))))) ⌝ }
+    ensures counts { λ _. ⌜ now (counts .exit) ≡ sets (now (counts .entry)) e (map countOf (movesOf nodes (λ (k : ℕ). held (now (table .entry)) k n) (at (now (due .entry))))) ⌝ }
 {
     let mut entries = e;
     let mut s = 0;
@@ -75,17 +75,22 @@ fn put_subdomain(
     let mut got = 0;
     while s < nodes && r < nodes {
         let left = surplus(table[64 * s + n], due[s]) - sent;
-        let missing = shortage(table[64 * r + n], due[r]) - got;
-        let count = numbers::smaller(left, missing);
-        entries = put_move(routes, counts, entries, n, s, r, count);
-        if left <= missing {
+        if left == 0 {
             s += 1;
             sent = 0;
-            got += count;
         } else {
-            r += 1;
-            got = 0;
-            sent += count;
+            let missing = shortage(table[64 * r + n], due[r]) - got;
+            let count = numbers::smaller(left, missing);
+            entries = put_move(routes, counts, entries, n, s, r, count);
+            if left <= missing {
+                s += 1;
+                sent = 0;
+                got += count;
+            } else {
+                r += 1;
+                got = 0;
+                sent += count;
+            }
         }
     }
     entries
@@ -111,8 +116,8 @@ pub fn all_moves(
     let mut e = 0;
     let mut n = 0;
     while n < nodes {
-        let due = due_amounts(helpands, shares, own[n], nodes, n);
-        e = put_subdomain(table, due, nodes, n, routes, counts, e);
+        let due = due_amounts(&helpands, &shares, own[n], nodes, n);
+        e = put_subdomain(table, &due, nodes, n, routes, counts, e);
         n += 1;
     }
     e

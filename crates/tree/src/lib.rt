@@ -10,20 +10,18 @@ ghost use Rattle.tree.specs.Totals.{totalOf, tabulate, totalsOf, primary
 
 pub mod weigh;
 
-// The totals of what the holders below `holder` have, with what `holder` has added to them.
-fn add_row(totals: [u32; 64], table: &[u32; 4096], holder: usize, nodes: usize) -> [u32; 64]
+// Adds what `holder` has to the totals of what the holders below it have.
+fn add_row(totals: &mut [u32; 64], table: &[u32; 4096], holder: usize, nodes: usize)
     requires { ⌜
         (nodes ≤ maxNodes) × (holder < nodes) × (sum 4096 (at (now table)) ≤ maxTotal)
-        × (totals ≡ tabulate nodes (totalOf holder (now table))) ⌝ }
-    ensures { λ r. ⌜ r ≡ tabulate nodes (totalOf (holder + 1) (now (table .entry))) ⌝ }
+        × (now totals ≡ tabulate nodes (totalOf holder (now table))) ⌝ }
+    ensures { λ _. ⌜ now (totals .exit) ≡ tabulate nodes (totalOf (holder + 1) (now (table .entry))) ⌝ }
 {
-    let mut out = totals;
     let mut n = 0;
     while n < nodes {
-        out[n] += table[64 * holder + n];
+        totals[n] += table[64 * holder + n];
         n += 1;
     }
-    out
 }
 
 // "Pn is the sum of all counts for subdomain n, whoever holds them." All of them in one pass over the table, as it lies in memory.
@@ -35,8 +33,7 @@ pub fn totals(table: &[u32; 4096], nodes: usize) -> [u32; 64]
     let mut out = [0u32; 64];
     let mut holder = 0;
     while holder < nodes {
-        let more = add_row(out, table, holder, nodes);
-        out = more;
+        add_row(&mut out, table, holder, nodes);
         holder += 1;
     }
     out

@@ -5,18 +5,13 @@ use fold::numbers;
 ghost use mathlib.Core.Path.{_≡_};
 ghost use Prim.Native.Nat.{ℕ, _-_, _≤_};
 ghost use lib.Dec.{leb};
+ghost use lib.ListN.{length};
 ghost use Rattle.fold.specs.All.{all};
 ghost use Rattle.limit.specs.Limit.{maxNodes};
 ghost use Rattle.plan.specs.Tree.{at, Tree};
 ghost use Rattle.tree.specs.Totals.{tabulate};
 ghost use Rattle.tree.specs.Weigh.{least};
 ghost use Rattle.tree.specs.Descent.{Weighable, Weighed};
-
-// What a helper can spare, and the array of leasts with its own and those of all nodes below it.
-struct Spared {
-    spare: u32,
-    leasts: [u32; 64],
-}
 
 // The root of a tree: the node that is its own helpand.
 pub fn find_root(helpands: [u32; 64], nodes: usize) -> usize
@@ -30,7 +25,7 @@ pub fn find_root(helpands: [u32; 64], nodes: usize) -> usize
     node
 }
 
-// The leasts of node n and of all nodes below it, written into the array that is passed down the tree and back, so that one pass
+// The least of node n. It is noted, and so are those of all nodes below n, in the array that is lent down the tree, so that one pass
 // finds them all. No tree is so deep that the remaining depth is used up.
 fn least(
     totals: &[u32; 64],
@@ -39,30 +34,30 @@ fn least(
     limit: u32,
     depth: usize,
     n: usize,
-    leasts: [u32; 64],
-) -> [u32; 64]
-    requires { ⌜ Weighable nodes (at (now helpands)) depth n ⌝ }
-    ensures { λ r. ⌜ Weighed nodes (at (now (helpands .entry))) (at (now (totals .entry))) limit n leasts r ⌝ }
+    leasts: &mut [u32; 64],
+) -> u32
+    requires { ⌜ Weighable nodes (at (now helpands)) depth n × (length (now leasts) ≡ 64) ⌝ }
+    ensures { λ r. ⌜
+        (r ≡ least nodes (at (now (helpands .entry))) (at (now (totals .entry))) limit n) × (length (now (leasts .exit)) ≡ 64)
+        × Weighed nodes (at (now (helpands .entry))) (at (now (totals .entry))) limit n (now (leasts .entry)) (now (leasts .exit)) ⌝ }
 {
     if depth == 0 {
-        return leasts;
+        return 0;
     }
     let owner = n as u32;
     let mut left = totals[n];
-    let mut out = leasts;
     let mut k = 0;
     while k < nodes {
         if helpands[k] == owner {
             if k != n {
-                let helper = spare(totals, helpands, nodes, limit, depth - 1, k, out);
-                left = numbers::less(left, helper.spare);
-                out = helper.leasts;
+                let spared = spare(totals, helpands, nodes, limit, depth - 1, k, leasts);
+                left = numbers::less(left, spared);
             }
         }
         k += 1;
     }
-    out[n] = left;
-    out
+    leasts[n] = left;
+    left
 }
 
 // What helper n can spare.
@@ -73,18 +68,15 @@ fn spare(
     limit: u32,
     depth: usize,
     n: usize,
-    leasts: [u32; 64],
-) -> Spared
-    requires { ⌜ Weighable nodes (at (now helpands)) depth n ⌝ }
+    leasts: &mut [u32; 64],
+) -> u32
+    requires { ⌜ Weighable nodes (at (now helpands)) depth n × (length (now leasts) ≡ 64) ⌝ }
     ensures { λ r. ⌜
-        (r .spare ≡ limit - least nodes (at (now (helpands .entry))) (at (now (totals .entry))) limit n)
-        × Weighed nodes (at (now (helpands .entry))) (at (now (totals .entry))) limit n leasts (r .leasts) ⌝ }
+        (r ≡ limit - least nodes (at (now (helpands .entry))) (at (now (totals .entry))) limit n) × (length (now (leasts .exit)) ≡ 64)
+        × Weighed nodes (at (now (helpands .entry))) (at (now (totals .entry))) limit n (now (leasts .entry)) (now (leasts .exit)) ⌝ }
 {
-    let out = least(totals, helpands, nodes, limit, depth, n, leasts);
-    Spared {
-        spare: numbers::less(limit, out[n]),
-        leasts: out,
-    }
+    let own = least(totals, helpands, nodes, limit, depth, n, leasts);
+    numbers::less(limit, own)
 }
 
 // The leasts of all nodes of a tree.
@@ -98,15 +90,9 @@ pub fn leasts(
     requires { ⌜ (nodes ≤ maxNodes) × Tree nodes (at helpands) root ⌝ }
     ensures { λ r. ⌜ r ≡ tabulate nodes (least nodes (at helpands) (at totals) limit) ⌝ }
 {
-    least(
-        &totals,
-        &helpands,
-        nodes,
-        limit,
-        nodes + 1,
-        root,
-        [0u32; 64],
-    )
+    let mut out = [0u32; 64];
+    least(&totals, &helpands, nodes, limit, nodes + 1, root, &mut out);
+    out
 }
 
 // "The tree holds if no least is above L."

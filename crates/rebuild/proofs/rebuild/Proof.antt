@@ -53,7 +53,7 @@ loop-holds c =
 -- where l is found
 module _ (c : tie.After-l Inv-loop μ-loop) where
   abbrev head : tie.At-loop Inv-loop μ-loop
-  head = c .before .before .before .before .before .before
+  head = c .before .before .before .before .before .before .before
 
   abbrev start : tie.Start Inv-loop μ-loop
   start = head .before .before
@@ -69,7 +69,7 @@ module _ (c : tie.After-l Inv-loop μ-loop) where
   old-fits = old-below start (c .l .given .0 .0) (l-fits .0)
 
 abbrev found-l : tie.After-choose-arg3 Inv-loop μ-loop → tie.After-l Inv-loop μ-loop
-found-l c = c .before .before .before .before .before .before
+found-l c = c .before .before .before .before .before .before .before
 
 -- where g is found too
 module _ (c : tie.After-g Inv-loop μ-loop) where
@@ -102,12 +102,12 @@ returns : tie.Need-returns Inv-loop μ-loop
 unfolding rebuiltOf
 returns c =
     let found = c .before .before in
-    let h = found .before .before .before .before in
+    let h = found .before .before .before .before .before in
     let b = h .before .before in
     let a = b .args in
     c .finish .ensures
     ∙ ap (finishOf (a .nodes)) (sym (⊎-elim
-    (λ w. absurd (reached-some (a .nodes) (a .p) (b .pre .1) (at (a .totals)) (a .t2) (old-below b) _ _ (h .loop .inv) _ (sym (found .smallest-in-a .ensures) ∙ w .1 .given .1) (sym (w .8 .ensures) ∙ w .10 .given .1)))
+    (λ w. absurd (reached-some (a .nodes) (a .p) (b .pre .1) (at (a .totals)) (a .t2) (old-below b) _ _ (h .loop .inv) _ (sym (found .smallest-in-a .ensures) ∙ w .1 .given .1) (sym (w .9 .ensures) ∙ w .11 .given .1)))
     (λ w. reached-end (a .nodes) (a .p) (b .pre .1) (at (a .totals)) (a .t2) (old-below b) _ _ (h .loop .inv) (sym (found .smallest-in-a .ensures) ∙ w .1 .given .1))
     (c .before .match .came)))
 

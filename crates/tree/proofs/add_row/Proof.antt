@@ -10,25 +10,25 @@ use denote.Ref.{now}
 use Rattle.fold.proofs.Sums.{sum-more}
 use Rattle.plan.specs.Tree.{at}
 use Rattle.tree.specs.Totals.{held, totalOf}
-use Rattle.tree.proofs.Tabulate.{tabulate-at, tabulate-behind, tabulate-is, stored-below, stored-behind}
+use Rattle.tree.proofs.Tabulate.{tabulate-at, tabulate-behind, tabulate-is, stored-below, stored-behind, length-tabulate}
 use Rattle.tree.proofs.Totalled.{total-le}
 use Rattle.tree.proofs.add_row.Statement.{statement}
 use Rattle.tree.proofs.add_row.Tie as tie
 
 abbrev Inv-loop : tie.InvT-loop
-Inv-loop table holder nodes out₀ n₀ out n =
+Inv-loop out₀ table holder nodes n₀ out n =
     (n ≤ nodes) × (length out ≡ 64) × ((k : ℕ) → k < n → at out k ≡ totalOf (holder + 1) table k) × ((k : ℕ) → n ≤ k → at out k ≡ at out₀ k)
 
 abbrev μ-loop : tie.MeasureT-loop
-μ-loop table holder nodes out₀ n₀ out n = nodes - n
+μ-loop out₀ table holder nodes n₀ out n = nodes - n
 
 -- the holder's count goes to what is there
-more : (c : tie.After-out Inv-loop μ-loop) →
-    let l = c .before .before in
+more : (c : tie.After-totals2 Inv-loop μ-loop) →
+    let l = c .before .before .before in
     let a = l .before .args in
-    at (l .loop .out) (l .loop .n) + held (now (a .table)) (a .holder) (l .loop .n) ≡ totalOf (a .holder + 1) (now (a .table)) (l .loop .n)
+    at (l .loop .totals) (l .loop .n) + held (now (a .table)) (a .holder) (l .loop .n) ≡ totalOf (a .holder + 1) (now (a .table)) (l .loop .n)
 more c =
-    let l = c .before .before in
+    let l = c .before .before .before in
     let a = l .before .args in
     let n = l .loop .n in
     omega (
@@ -40,23 +40,23 @@ more c =
     )
 
 -- and stays within 32 bits
-fits : tie.Need-add-out-2 Inv-loop μ-loop
+fits : tie.Need-add-totals-2 Inv-loop μ-loop
 fits c =
-    let l = c .before .before in
+    let l = c .before .before .before in
     let a = l .before .args in
     omega (arith, more c, total-le (now (a .table)) (a .holder + 1) (l .loop .n) (omega arith) (omega arith))
 
 loop-again : tie.Need-loop-again Inv-loop μ-loop
 loop-again c =
-    let l = c .before .before in
+    let l = c .before .before .before in
     let a = l .before .args in
-    let out = l .loop .out in
+    let out = l .loop .totals in
     let n = l .loop .n in
     let v = at out n + held (now (a .table)) (a .holder) n in (
       omega arith,
       simp length-set (l .loop .inv .1),
       stored-below out n v (totalOf (a .holder + 1) (now (a .table))) (omega arith) (more c) (l .loop .inv .2),
-      stored-behind out n v (at (a .totals)) (l .loop .inv .3),
+      stored-behind out n v (at (now (a .totals))) (l .loop .inv .3),
     )
 
 returns : tie.Need-returns Inv-loop μ-loop
@@ -64,7 +64,7 @@ returns c =
     let l = c .before in
     let a = l .before .args in
     let e : l .loop .n ≡ a .nodes = omega arith in
-    tabulate-is (a .nodes) (totalOf (a .holder + 1) (now (a .table))) (omega arith) (l .loop .out) (l .loop .inv .1)
+    tabulate-is (a .nodes) (totalOf (a .holder + 1) (now (a .table))) (omega arith) (l .loop .totals) (l .loop .inv .1)
     (rw e at (l .loop .inv .2))
     (λ k b. l .loop .inv .3 k (omega arith) ∙ ap (λ (xs : List ℕ). at xs k) (l .before .pre .3) ∙ tabulate-behind (a .nodes) (totalOf (a .holder) (now (a .table))) k b)
 
@@ -74,15 +74,15 @@ add-row-spec =
     (tie.spec
     Inv-loop
     μ-loop
-    (λ c. (omega arith, search needs, (λ k b. absurd (omega arith)), (λ k b. refl)))  -- loop-holds
-    (λ c. search needs)  -- mul-out
-    (λ c. search needs)  -- add-out
-    (λ c. search needs)  -- mul-out-2
-    (λ c. search needs)  -- element-copy-out-out
-    (λ c. search needs)  -- mul-out-3
-    (λ c. search needs)  -- array-read-out
+    (λ c. (omega arith, ap length (c .pre .3) ∙ length-tabulate (c .args .nodes) _ (omega arith), (λ k b. absurd (omega arith)), (λ k b. refl)))  -- loop-holds
+    (λ c. search needs)  -- mul-totals
+    (λ c. search needs)  -- add-totals
+    (λ c. search needs)  -- mul-totals-2
+    (λ c. search needs)  -- element-copy-out-totals
+    (λ c. search needs)  -- mul-totals-3
+    (λ c. search needs)  -- element-copy-out-totals-2
     fits
-    (λ c. search needs)  -- array-write-out
+    (λ c. search needs)  -- element-write-totals
     (λ c. search needs)  -- add-n
     (λ c. search needs)  -- loop-less
     loop-again

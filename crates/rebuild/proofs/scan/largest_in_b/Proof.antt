@@ -12,10 +12,10 @@ use Rattle.rebuild.proofs.scan.largest_in_b.Statement.{statement}
 use Rattle.rebuild.proofs.scan.largest_in_b.Tie as tie
 
 abbrev Inv-loop : tie.InvT-loop
-Inv-loop nodes loads targets finished best₀ k₀ best k = (k ≤ nodes) × (best ≡ largestInB k loads targets finished)
+Inv-loop loads targets finished nodes best₀ k₀ best k = (k ≤ nodes) × (best ≡ largestInB k loads targets finished)
 
 abbrev μ-loop : tie.MeasureT-loop
-μ-loop nodes loads targets finished best₀ k₀ best k = nodes - k
+μ-loop loads targets finished nodes best₀ k₀ best k = nodes - k
 
 loop-holds : tie.Need-loop-holds Inv-loop μ-loop
 unfolding best
@@ -24,21 +24,21 @@ loop-holds c = search needs
 -- the best so far is a node
 at-node : (c : tie.After-best Inv-loop μ-loop) → c .best .given .0 .0 < 64
 at-node c =
-    let l = c .before .before .before .before .before in
+    let l = c .before .before .before .before .before .before .before .before in
     omega (arith, best-found _ _ (l .loop .k) _ (sym (l .loop .inv .1) ∙ c .best .given .1) .0)
 
 -- one node more: the first in the group, a better one, one that is no better, and one that is not in the group
 loop-again : tie.Need-loop-again Inv-loop μ-loop
 loop-again c =
-    let l = c .before .before .before .loop in
+    let l = c .before .before .before .before .before .before .loop in
     let e = sym (l .inv .1) in
     let o = sym (c .before .in-b .ensures) in
     ⊎-elim
     (λ w. (search needs, w .3 ∙ sym (best-begins _ _ (l .k) (o ∙ w .0 .taken) (e ∙ w .2 .given .1))))
     (⊎-elim
-    (λ w. (search needs, w .5 ∙ sym (best-takes _ _ (l .k) _ (o ∙ w .0 .taken) (e ∙ w .2 .given .1) (lt-ltb _ _ (w .4 .taken)))))
+    (λ w. (search needs, w .7 ∙ sym (best-takes _ _ (l .k) _ (o ∙ w .0 .taken) (e ∙ w .2 .given .1) (lt-ltb _ _ (w .6 .taken)))))
     (⊎-elim
-    (λ w. (search needs, w .5 ∙ sym (best-stays _ _ (l .k) _ (o ∙ w .0 .taken) (e ∙ w .2 .given .1) (le-ltb _ _ (w .4 .left)))))
+    (λ w. (search needs, w .7 ∙ sym (best-stays _ _ (l .k) _ (o ∙ w .0 .taken) (e ∙ w .2 .given .1) (le-ltb _ _ (w .6 .left)))))
     (λ w. (search needs, w .1 ∙ l .inv .1 ∙ sym (best-skips _ _ (l .k) (o ∙ w .0 .left))))))
     (c .if1 .came)
 
@@ -55,17 +55,17 @@ largest-in-b-spec =
     μ-loop
     loop-holds
     (λ c. search needs)  -- mul-in-b
-    (λ c. search needs)  -- array-read-in-b
+    (λ c. search needs)  -- element-copy-out-in-b
     (λ c. search needs)  -- mul-in-b-2
-    (λ c. search needs)  -- array-read-in-b-2
-    (λ c. search needs)  -- array-read-in-b-3
+    (λ c. search needs)  -- element-copy-out-in-b-2
+    (λ c. search needs)  -- element-copy-out-in-b-3
     (λ c κs. search needs)  -- in-b-requires
     (λ c. search needs)  -- enum-told
     (λ c. search needs)  -- enum-known-best
     (λ c. omega (arith, at-node (c .before)))  -- mul-if2
-    (λ c. at-node (c .before))  -- array-read-if2
+    (λ c. at-node (c .before))  -- element-copy-out-if2
     (λ c. search needs)  -- mul-if2-2
-    (λ c. search needs)  -- array-read-if2-2
+    (λ c. search needs)  -- element-copy-out-if2-2
     (λ c. search needs)  -- add-k
     (λ c. search needs)  -- loop-less
     loop-again

@@ -2,8 +2,10 @@
 -- the rest is the total less those amounts. Assumes nothing.
 use borrow.Author.Needs.{needs}
 use mathlib.Core.Path.{_≡_, refl, sym, ap, _∙_}
+use mathlib.Core.Logic.{⊎-elim}
 use mathlib.Core.List.{List}
-use Prim.Native.Nat.{ℕ, _-_, _≤_, min}
+use Prim.Native.Nat.{ℕ, _+_, _-_, _≤_, _<_, min}
+use native.Mathlib.Decide.{ℕ-discrete}
 use native.Mathlib.Omega.{arith}
 use lib.ListN.{length, length-set}
 use denote.Ref.{now}
@@ -11,58 +13,56 @@ use Rattle.fold.specs.Sum.{sum}
 use Rattle.fold.proofs.Sums.{sum-none, sum-more}
 use Rattle.plan.specs.Tree.{at}
 use Rattle.tree.specs.Totals.{held, tabulate, totalOf}
-use Rattle.shares.specs.declared.Weighed.{Weighed}
 use Rattle.shares.specs.Shares.{space, kept}
-use Rattle.tree.proofs.Tabulate.{tabulate-at, tabulate-none, tabulate-more}
+use Rattle.tree.proofs.Tabulate.{tabulate-at, tabulate-behind, length-tabulate, tabulate-is, tabulate-none, tabulate-more}
 use Rattle.shares.proofs.Spaces.{space-here}
 use Rattle.shares.proofs.Amounts.{kept-left, amount-arrays}
 use Rattle.shares.proofs.family.divide_family.Statement.{statement}
 use Rattle.shares.proofs.family.divide_family.Tie as tie
 
 -- the spaces, and what is kept
-abbrev S : Weighed → ℕ → ℕ → ℕ → ℕ
-S tree share n = space (at (tree .helpands)) (tree .limit) (at (tree .leasts)) share n
+abbrev S : List ℕ → List ℕ → ℕ → ℕ → ℕ → ℕ → ℕ
+S helpands leasts limit share n = space (at helpands) limit (at leasts) share n
 
-abbrev K : List ℕ → Weighed → ℕ → ℕ → ℕ → ℕ
-K table tree share n = kept (S tree share n) (λ j. held table j n)
+abbrev K : List ℕ → List ℕ → List ℕ → ℕ → ℕ → ℕ → ℕ → ℕ
+K table helpands leasts limit share n = kept (S helpands leasts limit share n) (λ j. held table j n)
 
 abbrev Inv-loop : tie.InvT-loop
-Inv-loop table share n tree spaces₀ kept₀ rest₀ k₀ spaces keeps rest k =
-    (k ≤ tree .nodes) × (length spaces ≡ 64) × (length keeps ≡ 64) × (spaces ≡ tabulate k (S tree share n)) × (keeps ≡ tabulate k (K table tree share n))
-    × (rest ≡ rest₀ - sum k (K table tree share n))
+Inv-loop table totals leasts helpands nodes limit share n spaces₀ kept₀ rest₀ k₀ spaces keeps rest k =
+    (k ≤ nodes) × (length spaces ≡ 64) × (length keeps ≡ 64) × (spaces ≡ tabulate k (S helpands leasts limit share n)) × (keeps ≡ tabulate k (K table helpands leasts limit share n))
+    × (rest ≡ rest₀ - sum k (K table helpands leasts limit share n))
 
 abbrev μ-loop : tie.MeasureT-loop
-μ-loop table share n tree spaces₀ kept₀ rest₀ k₀ spaces kept rest k = tree .nodes - k
+μ-loop table totals leasts helpands nodes limit share n spaces₀ kept₀ rest₀ k₀ spaces kept rest k = nodes - k
 
 -- node k's, in a turn
 space-is : (c : tie.After-space-for Inv-loop μ-loop) →
     let l = c .before .before .before .before in
     let a = l .before .before .args in
-    c .space-for .result ≡ S (a .t2) (a .share) (a .n) (l .loop .k)
+    c .space-for .result ≡ S (now (a .helpands)) (now (a .leasts)) (a .limit) (a .share) (a .n) (l .loop .k)
 space-is c =
     let l = c .before .before .before .before in
-    let t = l .before .before .args .t2 in
     let a = l .before .before .args in
-    c .space-for .ensures ∙ space-here (at (t .helpands)) (t .limit) (at (t .leasts)) (a .share) (a .n) (l .loop .k)
+    c .space-for .ensures ∙ space-here (at (now (a .helpands))) (a .limit) (at (now (a .leasts))) (a .share) (a .n) (l .loop .k)
 
 keeps-is : (c : tie.After-smaller Inv-loop μ-loop) →
-    let l = c .before .before .before .before .before .before in
+    let l = c .before .before .before .before .before .before .before in
     let a = l .before .before .args in
-    c .smaller .result ≡ K (now (a .table)) (a .t2) (a .share) (a .n) (l .loop .k)
+    c .smaller .result ≡ K (now (a .table)) (now (a .helpands)) (now (a .leasts)) (a .limit) (a .share) (a .n) (l .loop .k)
 keeps-is c =
-    let l = c .before .before .before .before .before .before in
+    let l = c .before .before .before .before .before .before .before in
     let a = l .before .before .args in
-    c .smaller .ensures ∙ ap (λ (x : ℕ). min x (held (now (a .table)) (l .loop .k) (a .n))) (space-is (c .before .before))
+    c .smaller .ensures ∙ ap (λ (x : ℕ). min x (held (now (a .table)) (l .loop .k) (a .n))) (space-is (c .before .before .before))
 
 -- the total is the table's
-total-is : (c : tie.Start Inv-loop μ-loop) → at (c .args .t2 .totals) (c .args .n) ≡ totalOf (c .args .t2 .nodes) (now (c .args .table)) (c .args .n)
+total-is : (c : tie.Start Inv-loop μ-loop) → at (now (c .args .totals)) (c .args .n) ≡ totalOf (c .args .nodes) (now (c .args .table)) (c .args .n)
 total-is c =
     let a = c .args in
-    ap (λ (xs : List ℕ). at xs (a .n)) (c .pre .0 .counted) ∙ tabulate-at (a .t2 .nodes) (totalOf (a .t2 .nodes) (now (a .table))) (a .n) (c .pre .1)
+    ap (λ (xs : List ℕ). at xs (a .n)) (c .pre .0 .counted) ∙ tabulate-at (a .nodes) (totalOf (a .nodes) (now (a .table))) (a .n) (c .pre .1)
 
 sub-rest : tie.Need-sub-rest Inv-loop μ-loop
 sub-rest c =
-    let l = c .before .before .before .before .before .before in
+    let l = c .before .before .before .before .before .before .before in
     let b = l .before .before in
     let a = b .args in
     omega (
@@ -70,40 +70,63 @@ sub-rest c =
       keeps-is c,
       total-is b,
       l .loop .inv .5,
-      kept-left (a .t2 .nodes) (l .loop .k) (S (a .t2) (a .share) (a .n)) (λ j. held (now (a .table)) j (a .n)) (omega arith),
+      kept-left (a .nodes) (l .loop .k) (S (now (a .helpands)) (now (a .leasts)) (a .limit) (a .share) (a .n)) (λ j. held (now (a .table)) j (a .n)) (omega arith),
     )
+
+-- a node that gets nothing is passed
+passed : (f : ℕ → ℕ) (k : ℕ) (xs : List ℕ) → k < 64 → xs ≡ tabulate k f → f k ≡ 0 → xs ≡ tabulate (k + 1) f
+passed f k xs b e z =
+    tabulate-is (k + 1) f (omega arith) xs (ap length e ∙ length-tabulate k f (omega arith))
+    (λ j l. elim (ℕ-discrete j k) [
+      | yes q ↦ ap (λ (ys : List ℕ). at ys j) e ∙ tabulate-behind k f j (omega arith) ∙ sym (ap f q ∙ z)
+      | no d ↦ ap (λ (ys : List ℕ). at ys j) e ∙ tabulate-at k f j (omega arith)
+    ])
+    (λ j l. ap (λ (ys : List ℕ). at ys j) e ∙ tabulate-behind k f j (omega arith))
 
 loop-again : tie.Need-loop-again Inv-loop μ-loop
 loop-again c =
-    let l = c .before .before .before .before .before .before in
+    let l = c .before .before .before .before .before in
     let a = l .before .before .args in
     let k = l .loop .k in
-    let s = S (a .t2) (a .share) (a .n) in
-    let t = K (now (a .table)) (a .t2) (a .share) (a .n) in (
+    let s = S (now (a .helpands)) (now (a .leasts)) (a .limit) (a .share) (a .n) in
+    let t = K (now (a .table)) (now (a .helpands)) (now (a .leasts)) (a .limit) (a .share) (a .n) in
+    ⊎-elim
+    (λ w.
+    let m : tie.After-smaller Inv-loop μ-loop = record { before = record { before = record { before = c .before; if1 = w .0 }; smaller-arg = w .1 }; smaller = w .2 } in (
       search needs,
-      simp length-set (l .loop .inv .1),
-      simp length-set (l .loop .inv .2),
-      rw (l .loop .inv .3, space-is (c .before .before)) (tabulate-more s k (omega arith)),
-      rw (l .loop .inv .4, keeps-is c) (tabulate-more t k (omega arith)),
-      omega (arith, keeps-is c, l .loop .inv .5, sum-more k t),
-    )
+      rw (w .3) (simp length-set (l .loop .inv .1)),
+      rw (w .4) (simp length-set (l .loop .inv .2)),
+      rw (w .3, l .loop .inv .3, space-is (c .before)) (tabulate-more s k (omega arith)),
+      rw (w .4, l .loop .inv .4, keeps-is m) (tabulate-more t k (omega arith)),
+      omega (arith, w .5, keeps-is m, l .loop .inv .5, sum-more k t),
+    ))
+    (λ w.
+    let z : s k ≡ 0 = sym (space-is (c .before)) ∙ w .0 .left in
+    let y : t k ≡ 0 = omega (arith, z) in (
+      search needs,
+      rw (w .1) (l .loop .inv .1),
+      rw (w .2) (l .loop .inv .2),
+      rw (w .1) (passed s k (l .loop .spaces) (omega arith) (l .loop .inv .3) z),
+      rw (w .2) (passed t k (l .loop .kept) (omega arith) (l .loop .inv .4) y),
+      omega (arith, w .3, l .loop .inv .5, sum-more k t, y),
+    ))
+    (c .if1 .came)
 
 returns : tie.Need-returns Inv-loop μ-loop
 returns c =
-    let l = c .before .before in
+    let l = c .before .before .before .before in
     let b = l .before .before in
     let a = b .args in
-    let t = a .t2 in
-    let e : l .loop .k ≡ t .nodes = omega arith in
+    let e : l .loop .k ≡ a .nodes = omega arith in
     c .fill .ensures
-    ∙ amount-arrays (t .nodes) (at (t .helpands)) (t .limit) (at (t .leasts)) (at (t .totals)) (held (now (a .table))) (a .share) (a .n)
+    ∙ amount-arrays (a .nodes) (at (now (a .helpands))) (a .limit) (at (now (a .leasts))) (at (now (a .totals))) (held (now (a .table))) (a .share) (a .n)
     (l .loop .spaces) (l .loop .kept) (l .loop .rest)
     (b .pre .1) (rw e at (l .loop .inv .3)) (rw e at (l .loop .inv .4)) (rw e at (l .loop .inv .5))
 
 loop-holds : tie.Need-loop-holds Inv-loop μ-loop
 loop-holds c =
     let a = c .before .args in
-    (search needs, refl, refl, sym (tabulate-none _), sym (tabulate-none _), omega (arith, sum-none (K (now (a .table)) (a .t2) (a .share) (a .n))))
+    (search needs, refl, refl, sym (tabulate-none _), sym (tabulate-none _), omega (arith, sum-none (K (now (a .table)) (now (a .helpands)) (now (a .leasts)) (a .limit) (a .share) (a .n))))
 
 pub divide-family-spec : {M : Type 1} → statement M
 divide-family-spec =

@@ -6,6 +6,7 @@ use mathlib.Core.Logic.{⊎-elim}
 use Prim.Native.Nat.{ℕ, _+_, _-_, _≤_, min}
 use native.Mathlib.Omega.{arith}
 use lib.ListN.{length, length-set}
+use denote.Ref.{now}
 use Rattle.plan.specs.Tree.{at}
 use Rattle.tree.specs.Totals.{tabulate}
 use Rattle.shares.specs.Fill.{room, ahead, fill}
@@ -15,12 +16,12 @@ use Rattle.shares.proofs.fill.fill.Statement.{statement}
 use Rattle.shares.proofs.fill.fill.Tie as tie
 
 abbrev Inv-loop : tie.InvT-loop
-Inv-loop rest nodes n spaces kept amounts₀ own left₀ k₀ amounts left k =
+Inv-loop spaces kept rest nodes n amounts₀ own left₀ k₀ amounts left k =
     (k ≤ nodes) × (length amounts ≡ 64) × (left ≡ rest - ahead n (room (at spaces) (at kept)) k)
     × (amounts ≡ tabulate k (fill n (at spaces) (at kept) rest))
 
 abbrev μ-loop : tie.MeasureT-loop
-μ-loop rest nodes n spaces kept amounts₀ own left₀ k₀ amounts left k = nodes - k
+μ-loop spaces kept rest nodes n amounts₀ own left₀ k₀ amounts left k = nodes - k
 
 -- what is left when a helper has taken its part
 less-left : (x before space keeps left all : ℕ) → left ≡ x - before → all ≡ keeps + min (x - before) space → left - (all - keeps) ≡ x - (before + space)
@@ -29,26 +30,26 @@ less-left x before space keeps left all e f = omega arith
 -- where the ways through a turn meet
 turn : (c : tie.Joined1 Inv-loop μ-loop) →
     let l = c .before .before in
-    let a = l .before .before .args in
-    (c .if1 .amount ≡ fill (a .n) (at (a .t1)) (at (a .t2)) (a .rest) (l .loop .k))
-    × (c .if1 .left ≡ a .rest - ahead (a .n) (room (at (a .t1)) (at (a .t2))) (l .loop .k + 1))
+    let a = l .before .before .before .before .before .args in
+    (c .if1 .amount ≡ fill (a .n) (at (now (a .spaces))) (at (now (a .kept))) (a .rest) (l .loop .k))
+    × (c .if1 .left ≡ a .rest - ahead (a .n) (room (at (now (a .spaces))) (at (now (a .kept)))) (l .loop .k + 1))
 turn c =
     let l = c .before .before in
-    let a = l .before .before .args in
-    let s = at (a .t1) in
-    let t = at (a .t2) in
+    let a = l .before .before .before .before .before .args in
+    let s = at (now (a .spaces)) in
+    let t = at (now (a .kept)) in
     let x = a .rest in
     let k = l .loop .k in
     let before = ahead (a .n) (room s t) k in
     ⊎-elim
     (λ w.
-    let e : w .1 .result ≡ t k + min (x - before) (room s t k) = rw (← l .loop .inv .2) (w .1 .ensures) in (
-      w .3 ∙ e ∙ sym (fill-helper (a .n) s t x k (w .0 .taken)),
-      w .2 ∙ less-left x before (room s t k) (t k) (l .loop .left) (w .1 .result) (l .loop .inv .2) e
+    let e : w .3 .result ≡ t k + min (x - before) (room s t k) = rw (← l .loop .inv .2) (w .3 .ensures) in (
+      w .6 ∙ e ∙ sym (fill-helper (a .n) s t x k (w .0 .taken)),
+      w .5 ∙ less-left x before (room s t k) (t k) (l .loop .left) (w .3 .result) (l .loop .inv .2) e
           ∙ ap (λ (y : ℕ). x - y) (sym (ahead-more (a .n) (room s t) k (w .0 .taken))),
     ))
     (λ w. (
-      w .2 ∙ l .before .topped .ensures ∙ sym (fill-own (a .n) s t x (a .n) refl) ∙ ap (fill (a .n) s t x) (sym (w .0 .left)),
+      w .2 ∙ l .before .before .topped .ensures ∙ sym (fill-own (a .n) s t x (a .n) refl) ∙ ap (fill (a .n) s t x) (sym (w .0 .left)),
       w .1 ∙ l .loop .inv .2 ∙ ap (λ (y : ℕ). x - y) (sym (ahead-own (a .n) (room s t) k (w .0 .left))),
     ))
     (c .if1 .came)
@@ -56,8 +57,8 @@ turn c =
 loop-again : tie.Need-loop-again Inv-loop μ-loop
 loop-again c =
     let l = c .before .before in
-    let a = l .before .before .args in
-    let f = fill (a .n) (at (a .t1)) (at (a .t2)) (a .rest) in (
+    let a = l .before .before .before .before .before .args in
+    let f = fill (a .n) (at (now (a .spaces))) (at (now (a .kept))) (a .rest) in (
       search needs,
       simp length-set (l .loop .inv .1),
       turn c .1,
@@ -67,7 +68,7 @@ loop-again c =
 returns : tie.Need-returns Inv-loop μ-loop
 returns c =
     let l = c .before in
-    let e : l .loop .k ≡ l .before .before .args .nodes = omega arith in
+    let e : l .loop .k ≡ l .before .before .before .before .before .args .nodes = omega arith in
     rw e at (l .loop .inv .3)
 
 pub fill-spec : {M : Type 1} → statement M
@@ -77,22 +78,22 @@ fill-spec =
     Inv-loop
     μ-loop
     (λ c. search needs)  -- mul-topped
-    (λ c. search needs)  -- array-read-topped
+    (λ c. search needs)  -- element-copy-out-topped
     (λ c. search needs)  -- mul-topped-2
-    (λ c. search needs)  -- array-read-topped-2
+    (λ c. search needs)  -- element-copy-out-topped-2
     (λ c κs. search needs)  -- topped-requires
     (λ c. search needs)  -- mul-left
-    (λ c. search needs)  -- array-read-left
+    (λ c. search needs)  -- element-copy-out-left
     (λ c. search needs)  -- sub-left
     (λ c. search needs)  -- sub-left-2
-    (λ c. let a = c .before .args in (search needs, refl, omega (arith, ahead-none (a .n) (room (at (a .t1)) (at (a .t2)))), sym (tabulate-none _)))  -- loop-holds
+    (λ c. let a = c .before .before .before .before .args in (search needs, refl, omega (arith, ahead-none (a .n) (room (at (now (a .spaces))) (at (now (a .kept))))), sym (tabulate-none _)))  -- loop-holds
     (λ c. search needs)  -- mul-topped-3
-    (λ c. search needs)  -- array-read-topped-3
+    (λ c. search needs)  -- element-copy-out-topped-3
     (λ c. search needs)  -- mul-topped-4
-    (λ c. search needs)  -- array-read-topped-4
+    (λ c. search needs)  -- element-copy-out-topped-4
     (λ c κs. search needs)  -- topped-requires-2
     (λ c. search needs)  -- mul-left-2
-    (λ c. search needs)  -- array-read-left-2
+    (λ c. search needs)  -- element-copy-out-left-2
     (λ c. search needs)  -- sub-left-3
     (λ c. search needs)  -- sub-left-4
     (λ c. search needs)  -- mul-amounts

@@ -5,6 +5,7 @@ use mathlib.Core.Path.{_≡_, refl, sym}
 use Prim.Native.Nat.{ℕ, _-_, _≤_}
 use native.Mathlib.Omega.{arith}
 use lib.ListN.{length, length-set}
+use denote.Ref.{now}
 use Rattle.plan.specs.Tree.{at}
 use Rattle.tree.specs.Totals.{tabulate}
 use Rattle.tree.proofs.Tabulate.{tabulate-none, tabulate-more}
@@ -13,16 +14,16 @@ use Rattle.transfer.proofs.due.due_amounts.Statement.{statement}
 use Rattle.transfer.proofs.due.due_amounts.Tie as tie
 
 abbrev Inv-loop : tie.InvT-loop
-Inv-loop own nodes n helpands shares due₀ k₀ due k = (k ≤ nodes) × (length due ≡ 64) × (due ≡ tabulate k (dueWith (at helpands) (at shares) own n))
+Inv-loop helpands shares own nodes n due₀ k₀ due k = (k ≤ nodes) × (length due ≡ 64) × (due ≡ tabulate k (dueWith (at helpands) (at shares) own n))
 
 abbrev μ-loop : tie.MeasureT-loop
-μ-loop own nodes n helpands shares due₀ k₀ due k = nodes - k
+μ-loop helpands shares own nodes n due₀ k₀ due k = nodes - k
 
 loop-again : tie.Need-loop-again Inv-loop μ-loop
 loop-again c =
-    let l = c .before .before in
+    let l = c .before .before .before .before in
     let a = l .before .args in
-    let due : ℕ → ℕ = dueWith (at (a .t1)) (at (a .t2)) (a .own) (a .n) in
+    let due : ℕ → ℕ = dueWith (at (now (a .helpands))) (at (now (a .shares))) (a .own) (a .n) in
     let v : c .due-amount .result ≡ due (l .loop .k) = unfold dueWith in (c .due-amount .ensures) in
     (omega arith, simp length-set (l .loop .inv .1), rw (l .loop .inv .2, v) (tabulate-more due (l .loop .k) (omega arith)))
 
@@ -41,9 +42,9 @@ due-amounts-spec =
     μ-loop
     (λ c. (omega arith, refl, sym (tabulate-none _)))  -- loop-holds
     (λ c. search needs)  -- mul-due-amount
-    (λ c. search needs)  -- array-read-due-amount
+    (λ c. search needs)  -- element-copy-out-due-amount
     (λ c. search needs)  -- mul-due-amount-2
-    (λ c. search needs)  -- array-read-due-amount-2
+    (λ c. search needs)  -- element-copy-out-due-amount-2
     (λ c κs. search needs)  -- due-amount-requires
     (λ c. search needs)  -- mul-due
     (λ c. search needs)  -- array-write-due

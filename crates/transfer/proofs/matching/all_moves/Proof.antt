@@ -22,11 +22,11 @@ abbrev dues : List ℕ → List ℕ → List ℕ → ℕ → ℕ → ℕ
 dues helpands shares own n = dueWith (at helpands) (at shares) (at own n) n
 
 abbrev Inv-loop : tie.InvT-loop
-Inv-loop table helpands shares nodes routes₀ counts₀ own e₀ n₀ routes counts e n =
+Inv-loop table nodes routes₀ counts₀ helpands shares own e₀ n₀ routes counts e n =
     (n ≤ nodes) × Written nodes table (dues helpands shares own) routes₀ counts₀ n routes counts e
 
 abbrev μ-loop : tie.MeasureT-loop
-μ-loop table helpands shares nodes routes₀ counts₀ own e₀ n₀ routes counts e n = nodes - n
+μ-loop table nodes routes₀ counts₀ helpands shares own e₀ n₀ routes counts e n = nodes - n
 
 -- there is room for one more subdomain
 fits : (nodes n e long long₀ : ℕ) → n < nodes → e ≤ n * (nodes - 1) → nodes * (nodes - 1) ≤ long₀ → long ≡ long₀ → e + (nodes - 1) ≤ long
@@ -36,12 +36,12 @@ fits nodes n e long long₀ h b l q =
 
 put-subdomain-requires : tie.Need-put-subdomain-requires Inv-loop μ-loop
 put-subdomain-requires c κs =
-    let t = c .before .before .before in
+    let t = c .before .before .before .before .before .before in
     let l = t .before .loop in
     let start = t .before .before .before .before .before in
     let a = start .args in
     let p = start .pre in
-    let d = dues (a .helpands) (a .shares) (t .before .before .own-amounts .result) in
+    let d = dues (a .t3) (a .t4) (t .before .before .own-amounts .result) in
     let w = l .inv .1 in
     let few : l .e ≤ l .n * (a .nodes - 1) = rw (w .entries) (few-all (a .nodes) (now (a .table)) d (l .n)) in (
       p .0,
@@ -53,17 +53,18 @@ put-subdomain-requires c κs =
 loop-again : tie.Need-loop-again Inv-loop μ-loop
 loop-again c =
     let put = c .before .before .before .before in
-    let due = put .before .before .before in
-    let head = due .before .before in
+    let due = put .before .before .before .before in
+    let turn = due .before .before .before in
+    let head = turn .before in
     let l = head .loop in
     let a = head .before .before .before .before .args in
-    let d = dues (a .helpands) (a .shares) (head .before .own-amounts .result) in
+    let d = dues (a .t3) (a .t4) (head .before .own-amounts .result) in
     let r = put .put-subdomain in
     let moves = movesOf (a .nodes) (λ (k : ℕ). held (now (a .table)) k (l .n)) (at (due .due-amounts .result)) in
     let same : moves ≡ movesIn (a .nodes) (now (a .table)) d (l .n) =
     moves-eq (a .nodes) (λ (k : ℕ). held (now (a .table)) k (l .n)) (at (due .due-amounts .result)) (d (l .n))
     (λ k b. ap (λ (xs : List ℕ). at xs k) (due .due-amounts .ensures) ∙ tabulate-at (a .nodes) (d (l .n)) k b) in (
-      omega (arith, due .before .loop-test .taken),
+      omega (arith, turn .loop-test .taken),
       written-more (a .nodes) (now (a .table)) d (now (a .routes)) (now (a .counts)) (l .n) (l .routes) (l .counts) (l .e) (l .inv .1) moves
           (r .last .1 .1 .1 .1 .0) (r .last .1 .1 .1 .1 .1 .0) (r .result) same (r .ensures .0) (r .ensures .1 .0) (r .ensures .1 .1),
     )
@@ -74,9 +75,9 @@ returns c =
     let start = c .before .before .before .before .before in
     let a = start .args in
     let own = c .before .before .own-amounts in
-    let h = at (a .helpands) in
-    let share = at (a .shares) in
-    let d = dues (a .helpands) (a .shares) (own .result) in
+    let h = at (a .t3) in
+    let share = at (a .t4) in
+    let d = dues (a .t3) (a .t4) (own .result) in
     let d′ = dueOf (a .nodes) h (at (a .totals)) share in
     let same : (n : ℕ) → n < a .nodes → d n ≡ d′ n =
     λ n b. ap (λ (x : ℕ). dueWith h share x n) (ap (λ (xs : List ℕ). at xs n) (own .ensures) ∙ tabulate-at (a .nodes) (ownOf (a .nodes) h (at (a .totals)) share) n b) in
@@ -99,7 +100,7 @@ same-length : (c : tie.After-loop Inv-loop μ-loop) →
 same-length c =
     let l = c .before .loop in
     let a = c .before .before .before .before .before .args in
-    let d = dues (a .helpands) (a .shares) (c .before .before .own-amounts .result) in (
+    let d = dues (a .t3) (a .t4) (c .before .before .own-amounts .result) in (
       routes-long (a .nodes) (now (a .table)) d (now (a .routes)) (now (a .counts)) (l .n) (l .routes) (l .counts) (l .e) (l .inv .1),
       counts-long (a .nodes) (now (a .table)) d (now (a .routes)) (now (a .counts)) (l .n) (l .routes) (l .counts) (l .e) (l .inv .1),
     )

@@ -1,9 +1,8 @@
 -- `tree::weigh::leasts` meets its contract: every chain comes to the root, so the walk down from there leaves every least.
 -- Assumes nothing.
 use borrow.Author.Needs.{needs}
-use mathlib.Core.Path.{_≡_, _∙_}
+use mathlib.Core.Path.{refl, _∙_}
 use native.Mathlib.Numerals.{add-one}
-use lib.ListN.{length}
 use Rattle.plan.specs.Tree.{at}
 use Rattle.tree.specs.Weigh.{least}
 use Rattle.tree.proofs.Tabulate.{zeros-at, tabulate-is}
@@ -13,24 +12,25 @@ use Rattle.tree.proofs.weigh.leasts.Tie as tie
 
 least-requires : tie.Need-least-requires
 least-requires c κs =
-    let start = c .before .before in
+    let start = c .before .before .before in
     let a = start .args in
-    let t = start .pre .1 in
-    record {
-      few = start .pre .0;
-      node = t .root;
-      tree = (a .root, t);
-      shallow = rw (add-one (a .nodes)) (tree-shallow (a .nodes) (at (a .t2)) (a .root) t (a .root));
-    }
+    let t = start .pre .1 in (
+      record {
+        few = start .pre .0;
+        node = t .root;
+        tree = (a .root, t);
+        shallow = rw (add-one (a .nodes)) (tree-shallow (a .nodes) (at (a .t2)) (a .root) t (a .root));
+      },
+      refl,
+    )
 
 returns : tie.Need-returns
 returns c =
-    let start = c .before .before .before in
+    let start = c .before .before .before .before in
     let a = start .args in
     let t = start .pre .1 in
-    let w = c .least .ensures in
-    let size : length (c .least .result) ≡ 64 = search needs in
-    tabulate-is (a .nodes) (least (a .nodes) (at (a .t2)) (at (a .t1)) (a .limit)) (start .pre .0) (c .least .result) size
+    let w = c .least .ensures .2 in
+    tabulate-is (a .nodes) (least (a .nodes) (at (a .t2)) (at (a .t1)) (a .limit)) (start .pre .0) (c .least .last .1 .1 .1 .1 .1 .1 .0) (c .least .ensures .1)
     (λ k l. w .below k (a .nodes) l (t .reach k l))
     (λ k l. w .behind k l ∙ zeros-at 64 k)
 

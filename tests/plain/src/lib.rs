@@ -1,0 +1,102 @@
+//! Document 01 in plain safe Rust: the benchmark's yardstick. Fixed arrays of
+//! 64 and 4,096, one pass where one will do, no memory from the heap; and no
+//! trick that a reader would have to think about.
+//!
+//! Every operation gives its values, or the refusal.
+#![forbid(unsafe_code)]
+
+mod deciding;
+mod records;
+mod transfer;
+mod tree;
+
+use records::{put_record, put_words, read_moves, read_plan, read_sheet, Nodes, Table};
+
+/// What *plan a step* gives: kind, L and both lengths in bytes.
+pub struct Step {
+    pub kind: u32,
+    pub limit: u32,
+    pub plan_bytes: u32,
+    pub moves_bytes: u32,
+}
+
+/// *Plan a step*.
+pub fn plan_step(
+    sheet_bytes: &[u8],
+    old_bytes: &[u8],
+    plan: &mut [u8],
+    moves: &mut [u8],
+) -> Result<Step, u32> {
+    let sheet = read_sheet(sheet_bytes)?;
+    let old = match old_bytes {
+        [] => None,
+        bytes => Some(read_plan(bytes)?),
+    };
+    if old.as_ref().is_some_and(|old| old.n != sheet.n) {
+        return Err(21);
+    }
+    let n = sheet.n as usize;
+    let table = records::unpack(sheet_bytes, sheet.e as usize);
+    let totals = deciding::totals(&table, n);
+    let tree = old.filter(|old| old.kind != 0).map(|old| old.helpands);
+    let decision = deciding::decide(&table, &totals, tree.as_ref(), n, &sheet);
+    let (mut routes, mut counts) = ([0; 4096], [0; 4096]);
+    let e = transfer::moves(&table, &totals, &decision, n, &mut routes, &mut counts);
+    let (plan_bytes, moves_bytes) = (4 * (3 + 2 * n), 4 * (2 + 2 * e));
+    if plan.len() < plan_bytes {
+        return Err(22);
+    }
+    if moves.len() < moves_bytes {
+        return Err(23);
+    }
+    let head = [sheet.n, decision.kind, sheet.limit];
+    put_record(plan, &head, &decision.helpands[..n], &decision.shares[..n]);
+    put_record(moves, &[sheet.n, e as u32], &routes[..e], &counts[..e]);
+    Ok(Step {
+        kind: decision.kind,
+        limit: sheet.limit,
+        plan_bytes: plan_bytes as u32,
+        moves_bytes: moves_bytes as u32,
+    })
+}
+
+/// *Weigh*: whether the tree holds.
+pub fn weigh(sheet_bytes: &[u8], plan_bytes: &[u8], least: &mut [u8]) -> Result<bool, u32> {
+    let sheet = read_sheet(sheet_bytes)?;
+    let plan = read_plan(plan_bytes)?;
+    if sheet.n != plan.n {
+        return Err(21);
+    }
+    if plan.kind == 0 {
+        return Err(24);
+    }
+    let n = sheet.n as usize;
+    if least.len() < 4 * n {
+        return Err(25);
+    }
+    let table = records::unpack(sheet_bytes, sheet.e as usize);
+    let totals = deciding::totals(&table, n);
+    let order = &tree::downwards(&plan.helpands, n)[..n];
+    let leasts: Nodes = tree::leasts(&totals, &plan.helpands, order, sheet.limit);
+    put_words(least, &leasts[..n]);
+    Ok(leasts[..n].iter().all(|&least| least <= sheet.limit))
+}
+
+/// *Carry out*: the length in bytes of the sheet that follows.
+pub fn carry_out(sheet_bytes: &[u8], moves_bytes: &[u8], next: &mut [u8]) -> Result<u32, u32> {
+    let sheet = read_sheet(sheet_bytes)?;
+    let moves = read_moves(moves_bytes)?;
+    if sheet.n != moves.n {
+        return Err(41);
+    }
+    let mut table: Table = records::unpack(sheet_bytes, sheet.e as usize);
+    transfer::apply(&mut table, moves_bytes, moves.e as usize)?;
+    let cells = &table[..64 * sheet.n as usize];
+    let e = cells.iter().filter(|&&count| count != 0).count();
+    let bytes = 4 * (3 + 2 * e);
+    if next.len() < bytes {
+        return Err(43);
+    }
+    records::put_sheet(&mut next[..bytes], &[sheet.n, sheet.t, e as u32], cells);
+    Ok(bytes as u32)
+}

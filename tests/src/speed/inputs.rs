@@ -1,0 +1,199 @@
+//! Sheets and old plans for each outcome. Every input is asked whether it has
+//! the outcome that it is meant for.
+
+use crate::operations::REFERENCE;
+use crate::random::Random;
+use crate::records::plans;
+use crate::records::to_words;
+use crate::reference::table::Table;
+use crate::steps::Step;
+
+/// The tolerance of all sheets, in percent.
+const TOLERANCE: u32 = 10;
+
+/// How many particles a node has on average.
+const AVERAGE: u64 = 100_000;
+
+/// How much of a sheet is filled.
+#[derive(Clone, Copy, Debug, PartialEq, Eq)]
+pub enum Filling {
+    /// All N × N cells.
+    Dense,
+    /// About 3N cells: of each subdomain, what its owner, one of its helpers
+    /// and one other node hold.
+    Sparse,
+}
+
+/// The form of an old tree, over nodes in any order.
+#[derive(Clone, Copy, Debug, PartialEq, Eq)]
+pub enum Form {
+    Chain,
+    Star,
+    Random,
+}
+
+/// What a step comes to.
+#[derive(Clone, Copy, Debug, PartialEq, Eq)]
+pub enum Outcome {
+    Primary,
+    Kept(Form),
+    /// Rebuilt, with an old tree that does not hold or with none.
+    Rebuilt(Option<Form>),
+}
+
+pub const FILLINGS: [Filling; 2] = [Filling::Dense, Filling::Sparse];
+
+pub const OUTCOMES: [Outcome; 6] = [
+    Outcome::Primary,
+    Outcome::Kept(Form::Chain),
+    Outcome::Kept(Form::Star),
+    Outcome::Kept(Form::Random),
+    Outcome::Rebuilt(None),
+    Outcome::Rebuilt(Some(Form::Random)),
+];
+
+impl Outcome {
+    pub fn kind(self) -> u32 {
+        match self {
+            Outcome::Primary => 0,
+            Outcome::Kept(_) => 1,
+            Outcome::Rebuilt(_) => 2,
+        }
+    }
+
+    /// The form of the old tree, if there is one.
+    pub fn form(self) -> Option<Form> {
+        match self {
+            Outcome::Primary => None,
+            Outcome::Kept(form) => Some(form),
+            Outcome::Rebuilt(form) => form,
+        }
+    }
+
+    pub fn name(self) -> String {
+        match (self, self.form()) {
+            (Outcome::Primary, _) => "primary".into(),
+            (Outcome::Kept(form), _) => format!("kept, {form:?}").to_lowercase(),
+            (_, Some(_)) => "rebuilt, old tree".into(),
+            (_, None) => "rebuilt, no tree".into(),
+        }
+    }
+}
+
+/// The first step of a run that has this outcome.
+pub fn step(n: usize, filling: Filling, outcome: Outcome, random: &mut Random) -> Step {
+    loop {
+        let step = attempt(n, filling, outcome, random);
+        let planned = REFERENCE.planned(&step.sheet, &step.old);
+        let plan = planned.expect("the step is accepted").plan;
+        if to_words(&plan)[1] == outcome.kind() {
+            return step;
+        }
+    }
+}
+
+fn attempt(n: usize, filling: Filling, outcome: Outcome, random: &mut Random) -> Step {
+    let helpands = match outcome.form() {
+        Some(form) => tree(n, form, random),
+        None => (0..n as u32).collect(),
+    };
+    let totals = match outcome {
+        Outcome::Primary => level(n, random),
+        Outcome::Kept(_) => divided(&helpands, random),
+        Outcome::Rebuilt(_) => uneven(n, random),
+    };
+    let table = spread(&totals, &helpands, filling, random);
+    let old = match outcome.form() {
+        Some(_) => plans::plan(2, 0, &helpands, &vec![0; n]).bytes(),
+        None => Vec::new(),
+    };
+    Step {
+        sheet: table.sheet(TOLERANCE).bytes(),
+        old,
+    }
+}
+
+/// The helpands of a tree of this form.
+fn tree(n: usize, form: Form, random: &mut Random) -> Vec<u32> {
+    let mut order: Vec<u32> = (0..n as u32).collect();
+    random.shuffle(&mut order);
+    let mut helpands = vec![order[0]; n];
+    for at in 1..n {
+        helpands[order[at] as usize] = match form {
+            Form::Chain => order[at - 1],
+            Form::Star => order[0],
+            Form::Random => order[random.place(at)],
+        };
+    }
+    helpands
+}
+
+/// Totals within a few percent of each other.
+fn level(n: usize, random: &mut Random) -> Vec<u64> {
+    let (low, high) = (AVERAGE - AVERAGE / 40, AVERAGE + AVERAGE / 40);
+    (0..n).map(|_| random.amount(low, high)).collect()
+}
+
+/// The totals of a division along the tree with loads within a few percent of
+/// each other, in which each node has a part of its helpand's subdomain.
+fn divided(helpands: &[u32], random: &mut Random) -> Vec<u64> {
+    let loads = level(helpands.len(), random);
+    let mut totals = vec![0; loads.len()];
+    for (node, &load) in loads.iter().enumerate() {
+        let share = random.amount(0, load * 3 / 4);
+        totals[helpands[node] as usize] += share;
+        totals[node] += load - share;
+    }
+    totals
+}
+
+/// Totals of which some are many times others, and one is a third of all.
+fn uneven(n: usize, random: &mut Random) -> Vec<u64> {
+    let some = |random: &mut Random| random.amount(1, AVERAGE) * random.amount(1, 100) / 50;
+    let mut totals: Vec<u64> = (0..n).map(|_| n as u64 + some(random)).collect();
+    totals[random.place(n)] += AVERAGE * n as u64 / 2;
+    totals
+}
+
+/// The particles of each subdomain given to holders.
+fn spread(totals: &[u64], helpands: &[u32], filling: Filling, random: &mut Random) -> Table {
+    let mut table = Table::empty(totals.len());
+    for (subdomain, &total) in totals.iter().enumerate() {
+        let holders = holders(subdomain, helpands, filling, random);
+        // Most stays with the first, who owns them; everybody has one at least.
+        let others = holders.len() as u64 - 1;
+        let most = (total / 2 / others.max(1)).max(1);
+        let mut left = total;
+        for &holder in &holders[1..] {
+            let piece = random.amount(1, most);
+            table.counts[holder][subdomain] += piece;
+            left -= piece;
+        }
+        table.counts[subdomain][subdomain] += left;
+    }
+    table
+}
+
+/// The holders of one subdomain's particles, its owner first.
+fn holders(
+    subdomain: usize,
+    helpands: &[u32],
+    filling: Filling,
+    random: &mut Random,
+) -> Vec<usize> {
+    let n = helpands.len();
+    let others = (0..n).filter(|&node| node != subdomain);
+    if filling == Filling::Dense {
+        return std::iter::once(subdomain).chain(others).collect();
+    }
+    let helpers: Vec<usize> = others
+        .clone()
+        .filter(|&node| helpands[node] as usize == subdomain)
+        .collect();
+    let others: Vec<usize> = others.collect();
+    let helper = match helpers[..] {
+        [] => random.one_of(&others),
+        _ => random.one_of(&helpers),
+    };
+    vec![subdomain, helper, random.one_of(&others)]
+}

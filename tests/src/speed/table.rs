@@ -1,0 +1,81 @@
+//! What the benchmark prints: a row for each operation, filling, outcome and
+//! sort of inputs.
+
+use super::inputs::{Filling, Outcome, FILLINGS, OUTCOMES};
+use super::jobs::{Job, Measured, MEASURED};
+use super::timing::{time, Times};
+
+/// The numbers of nodes, the largest last.
+pub const NODES: [usize; 4] = [8, 16, 32, 64];
+
+/// How many calls a sample has.
+const CALLS: usize = 32;
+
+/// One row.
+#[derive(Clone, Copy, Debug)]
+pub struct Row {
+    pub measured: Measured,
+    pub filling: Filling,
+    pub outcome: Outcome,
+    pub changing: bool,
+}
+
+pub const HEAD: &str = "\
+operation    sheet   outcome            inputs    |     8     16     32     64 | plain   copy | /plain  /copy  noise | 64/32
+-------------------------------------------------+----------------------------+--------------+----------------------+------";
+
+/// All rows, in the order in which they are printed.
+pub fn rows() -> Vec<Row> {
+    let mut rows = Vec::new();
+    for measured in MEASURED {
+        for filling in FILLINGS {
+            for outcome in OUTCOMES.into_iter().filter(|&it| measured.takes(it)) {
+                rows.extend([false, true].map(|changing| Row {
+                    measured,
+                    filling,
+                    outcome,
+                    changing,
+                }));
+            }
+        }
+    }
+    rows
+}
+
+impl Row {
+    /// The times for each number of nodes.
+    pub fn times(&self, samples: usize) -> [Times; 4] {
+        NODES.map(|n| {
+            let input = (n, self.filling, self.outcome);
+            time(
+                &Job::new(self.measured, input, CALLS, self.changing),
+                samples,
+            )
+        })
+    }
+
+    /// The row as it is printed.
+    pub fn line(&self, times: &[Times; 4]) -> String {
+        let [a, b, c, last] = times;
+        let inputs = if self.changing {
+            "changing"
+        } else {
+            "repeated"
+        };
+        let sizes = [a, b, c, last].map(|times| format!("{:6.2}", times.archive));
+        format!(
+            "{:12} {:7} {:18} {:9} | {} | {:5.2} {:6.2} | {:6.2} {:6.1} {:5.1}% | {:5.2}",
+            self.measured.name(),
+            format!("{:?}", self.filling).to_lowercase(),
+            self.outcome.name(),
+            inputs,
+            sizes.join(" "),
+            last.plain,
+            last.copy,
+            last.archive / last.plain,
+            last.archive / last.copy,
+            100.0 * last.noise,
+            last.archive / c.archive,
+        )
+    }
+}
