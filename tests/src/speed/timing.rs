@@ -1,6 +1,7 @@
 //! Medians of many samples. The archive, plain Rust and the copy take turns,
 //! so that what slows the machine slows them alike. From turn to turn the stack
-//! begins elsewhere in its page, since that alone can cost a tenth.
+//! begins elsewhere in its page, so that no one placement decides. Between two
+//! runs of the program times still differ: look at several.
 
 use super::jobs::Job;
 use crate::operations::{ARCHIVE, PLAIN};
