@@ -1,9 +1,15 @@
 //! Medians of many samples. The archive, plain Rust and the copy take turns,
-//! so that what slows the machine slows them alike.
+//! so that what slows the machine slows them alike. From turn to turn the stack
+//! begins elsewhere in its page, so that no one placement decides. Between two
+//! runs of the program times still differ: look at several.
 
 use super::jobs::Job;
 use crate::operations::{ARCHIVE, PLAIN};
+use std::hint::black_box;
 use std::time::Instant;
+
+/// How many places the stack begins at: together more than a page.
+const DEPTHS: usize = 20;
 
 /// Microseconds for one call.
 #[derive(Clone, Copy, Debug)]
@@ -20,10 +26,11 @@ pub fn time(job: &Job, samples: usize) -> Times {
     job.check(&ARCHIVE, &PLAIN);
     let (mut buffers, mut scratch) = (Job::buffers(), Job::buffers());
     let [mut archive, mut plain, mut copy] = [(); 3].map(|_| Vec::with_capacity(samples));
-    for _ in 0..samples {
-        archive.push(sample(job, || job.run(&ARCHIVE, &mut buffers)));
-        plain.push(sample(job, || job.run(&PLAIN, &mut buffers)));
-        copy.push(sample(job, || job.copy(&mut scratch, &mut buffers)));
+    for turn in 0..samples {
+        let depth = turn % DEPTHS;
+        archive.push(sample(job, depth, || job.run(&ARCHIVE, &mut buffers)));
+        plain.push(sample(job, depth, || job.run(&PLAIN, &mut buffers)));
+        copy.push(sample(job, depth, || job.copy(&mut scratch, &mut buffers)));
     }
     let [low, median, high] = quartiles(archive);
     Times {
@@ -34,11 +41,26 @@ pub fn time(job: &Job, samples: usize) -> Times {
     }
 }
 
-/// Microseconds for one call of the job.
-fn sample(job: &Job, run: impl FnOnce()) -> f64 {
-    let start = Instant::now();
-    run();
-    start.elapsed().as_secs_f64() * 1e6 / job.len() as f64
+/// Microseconds for one call of the job, so deep in the stack.
+fn sample(job: &Job, depth: usize, mut run: impl FnMut()) -> f64 {
+    let mut elapsed = 0.0;
+    at_depth(depth, &mut || {
+        let start = Instant::now();
+        run();
+        elapsed = start.elapsed().as_secs_f64();
+    });
+    elapsed * 1e6 / job.len() as f64
+}
+
+/// Runs something with the stack some hundred bytes lower for each level.
+#[inline(never)]
+fn at_depth(depth: usize, run: &mut dyn FnMut()) {
+    if depth == 0 {
+        return run();
+    }
+    let lower = black_box([0u8; 192]);
+    at_depth(depth - 1, run);
+    black_box(&lower);
 }
 
 fn quartiles(mut samples: Vec<f64>) -> [f64; 3] {
