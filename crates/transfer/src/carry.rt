@@ -28,26 +28,28 @@ fn into_cell(route: u32) -> usize
     (64 * (route % 64) + route / 4096) as usize
 }
 
-// Applies the first e moves. What a cell may still send is kept apart from what it holds, so that a send is tested against the old
-// table alone: what arrives plays no part.
+// Applies the first e moves. What a cell sends is added up in 64 bits, which no count makes wrap, and tested against the old table
+// alone: what arrives plays no part.
 pub fn apply_moves(table: [u32; 4096], routes: &[u32], counts: &[u32], e: usize) -> AfterMoves
     requires { ⌜ (e ≤ length (now routes)) × (e ≤ length (now counts)) × ((i : ℕ) → i < e → getD (now routes) i 0 < 262144) × (sum 4096 (at table) ≤ maxTotal) ⌝ }
     ensures { λ r. ⌜ r ≡ afterMoves table (take e (now (routes .entry))) (take e (now (counts .entry))) ⌝ }
 {
-    let mut left = table;
+    let old = table;
+    let mut sent = [0u64; 4096];
     let mut next = table;
     let mut i = 0;
     while i < e {
         let from = from_cell(routes[i]);
         let into = into_cell(routes[i]);
         let count = counts[i];
-        if left[from] < count {
+        let sends = sent[from] + count as u64;
+        if (old[from] as u64) < sends {
             return AfterMoves {
                 refused: true,
-                table: table,
+                table: old,
             };
         }
-        left[from] = left[from] - count;
+        sent[from] = sends;
         next[from] = next[from] - count;
         next[into] = next[into] + count;
         i += 1;

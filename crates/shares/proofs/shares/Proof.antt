@@ -1,5 +1,7 @@
 -- `shares::shares` meets its contract: a walk from the root reaches each node. Assumes nothing.
-use mathlib.Core.Path.{refl, sym, _∙_}
+use borrow.Author.Needs.{needs}
+use mathlib.Core.Path.{_≡_, refl, sym, _∙_}
+use lib.ListN.{length}
 use denote.Ref.{now}
 use Rattle.plan.specs.Tree.{at}
 use Rattle.tree.specs.Totals.{held}
