@@ -159,7 +159,7 @@ fn refusals_leave_the_buffers_untouched() {
 }
 
 /// The stack that docs/USING.md asks for.
-const STACK: usize = 512 * 1024;
+const STACK: usize = 256 * 1024;
 
 /// A sheet of 4,096 cells, and a chain of 64 nodes that it keeps: of the calls
 /// that were measured, this one takes the most stack.
