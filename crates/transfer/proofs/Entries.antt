@@ -1,7 +1,7 @@
 -- Moves written from entry e on into two arrays, some of them and then the rest: what the arrays are in the end is what they are now
 -- with the rest written behind. Assumes nothing.
 use mathlib.Core.Path.{_≡_, refl, sym, ap, _∙_}
-use mathlib.Core.Logic.{_⊎_}
+use mathlib.Core.Logic.{_⊎_, inl}
 use mathlib.Core.List.{List, [], _++_, map, map-append}
 use Prim.Native.Nat.{ℕ, _+_, _-_, _*_, _≤_, _<_, min}
 use native.Mathlib.Decide.{decLe}
@@ -9,8 +9,8 @@ use native.Mathlib.Omega.{arith}
 use lib.ListN.{length, length-append, length-map}
 use lib.Seq.{sets, length-sets}
 use Rattle.words.proofs.Buffer.{sets-append}
-use Rattle.transfer.specs.Matching.{Move, moveOf, matched, routeOf, countOf}
-use Rattle.transfer.proofs.Turns.{turn-stop, rest-sender, rest-receiver}
+use Rattle.transfer.specs.Matching.{Move, moveOf, matched, NextFrom, routeOf, countOf}
+use Rattle.transfer.proofs.Turns.{turn-stop, rest-sender, rest-receiver, rest, senders-passed, receivers-passed}
 
 -- `rest` is left of `whole`, which began at entry e of the arrays routes₀ and counts₀
 pub record Left (n : ℕ) (routes₀ counts₀ : List ℕ) (e : ℕ) (whole : List Move) (routes counts : List ℕ) (entries : ℕ) (rest : List Move) : Type 0 where
@@ -51,70 +51,112 @@ module _ (n : ℕ) (routes₀ counts₀ : List ℕ) (e : ℕ) (whole : List Move
 
 -- ---- a turn of the matching: the moves of the remaining turns are what is left
 
-pub record Going (nodes : ℕ) (surplus shortage : ℕ → ℕ) (s sent r got : ℕ) : Type 0 where
+-- sender s can still send `left` and receiver r still lacks `missing`
+pub record Pending (nodes : ℕ) (surplus shortage : ℕ → ℕ) (n : ℕ) (routes₀ counts₀ : List ℕ) (e : ℕ) (whole : List Move) (routes counts : List ℕ) (entries s left r missing : ℕ) : Type 0 where
+  pub sent : ℕ
+  pub got : ℕ
   pub s-le : s ≤ nodes
   pub r-le : r ≤ nodes
-  pub sent-le : sent ≤ surplus s
-  pub got-le : got ≤ shortage r
+  pub left-is : s < nodes → sent + left ≡ surplus s
+  pub left-some : s < nodes → 0 < left
+  pub missing-is : r < nodes → got + missing ≡ shortage r
+  pub moves : Left n routes₀ counts₀ e whole routes counts entries (rest nodes surplus shortage s sent r got)
 
 module _ (nodes : ℕ) (surplus shortage : ℕ → ℕ) where
-  -- the moves of the turns that are left of 2 × N
-  abbrev pub rest : ℕ → ℕ → ℕ → ℕ → List Move
-  rest s sent r got = matched nodes surplus shortage (2 * nodes - (s + r)) s sent r got
+  -- the next sender, and the next receiver, have the same moves before them
+  to-sender : (s s′ count r got : ℕ) → r < nodes → NextFrom nodes surplus s s′ count → rest nodes surplus shortage s 0 r got ≡ rest nodes surplus shortage s′ 0 r got
+  to-sender s s′ count r got hr x =
+      let q : s + (s′ - s) ≡ s′ = omega (arith, x .from-le) in
+      rw q at (senders-passed nodes surplus shortage (s′ - s) s r got (omega (arith, x .from-le, x .node-le)) hr (λ k a b. x .passed k a (omega (arith, x .from-le))))
 
-  pub begin : (n : ℕ) (routes counts : List ℕ) (e : ℕ)
-      → Going nodes surplus shortage 0 0 0 0 × Left n routes counts e (matched nodes surplus shortage (2 * nodes) 0 0 0 0) routes counts e (rest 0 0 0 0)
-  begin n routes counts e =
-      let z : 2 * nodes - 0 ≡ 2 * nodes = omega arith in (
-        record { s-le = omega arith; r-le = omega arith; sent-le = omega arith; got-le = omega arith },
-        rw z (left-all n routes counts e (matched nodes surplus shortage (2 * nodes) 0 0 0 0)),
-      )
+  to-receiver : (s sent r r′ count : ℕ) → (s < nodes → 0 < surplus s - sent) → NextFrom nodes shortage r r′ count
+      → rest nodes surplus shortage s sent r 0 ≡ rest nodes surplus shortage s sent r′ 0
+  to-receiver s sent r r′ count h x = elim (decLe nodes s) [
+    | yes l ↦ turn-stop nodes surplus shortage (2 * nodes - (s + r)) s sent r 0 (inl l) ∙ sym (turn-stop nodes surplus shortage (2 * nodes - (s + r′)) s sent r′ 0 (inl l))
+    | no d ↦
+        let hs : s < nodes = omega (arith, d) in
+        let q : r + (r′ - r) ≡ r′ = omega (arith, x .from-le) in
+        rw q at (receivers-passed nodes surplus shortage (r′ - r) s sent r hs (h hs) (omega (arith, x .from-le, x .node-le)) (λ k a b. x .passed k a (omega (arith, x .from-le))))
+  ]
 
-  pub finish : (n : ℕ) (routes₀ counts₀ : List ℕ) (e : ℕ) (whole : List Move) (routes counts : List ℕ) (entries s sent r got : ℕ)
-      → Left n routes₀ counts₀ e whole routes counts entries (rest s sent r got) → (nodes ≤ s) ⊎ (nodes ≤ r)
-      → (entries ≡ e + length whole) × ((routes ≡ sets routes₀ e (map (routeOf n) whole)) × (counts ≡ sets counts₀ e (map countOf whole)))
-  finish n routes₀ counts₀ e whole routes counts entries s sent r got l h =
-      left-none n routes₀ counts₀ e whole routes counts entries (rw (turn-stop nodes surplus shortage (2 * nodes - (s + r)) s sent r got h) at l)
+  pub begin : (n : ℕ) (routes counts : List ℕ) (e s left r missing : ℕ) → 0 < nodes → NextFrom nodes surplus 0 s left → NextFrom nodes shortage 0 r missing
+      → Pending nodes surplus shortage n routes counts e (matched nodes surplus shortage (2 * nodes) 0 0 0 0) routes counts e s left r missing
+  begin n routes counts e s left r missing some x y =
+      let z : 2 * nodes - 0 ≡ 2 * nodes = omega arith in
+      let all : matched nodes surplus shortage (2 * nodes) 0 0 0 0 ≡ rest nodes surplus shortage 0 0 0 0 = rw z in
+      let q : matched nodes surplus shortage (2 * nodes) 0 0 0 0 ≡ rest nodes surplus shortage s 0 r 0 =
+      all ∙ to-sender 0 s left 0 0 some x ∙ to-receiver s 0 0 r missing (λ h. omega (arith, x .some h, x .is h)) y in
+      record {
+        sent = 0;
+        got = 0;
+        s-le = x .node-le;
+        r-le = y .node-le;
+        left-is = λ h. omega (arith, x .is h);
+        left-some = x .some;
+        missing-is = λ h. omega (arith, y .is h);
+        moves = rw q (left-all n routes counts e (rest nodes surplus shortage s 0 r 0));
+      }
 
-  module _ (n : ℕ) (routes₀ counts₀ : List ℕ) (e : ℕ) (whole : List Move) (routes counts : List ℕ) (entries s sent r got : ℕ)
-      (going : Going nodes surplus shortage s sent r got)
-      (left : Left n routes₀ counts₀ e whole routes counts entries (rest s sent r got))
-      (hs : s < nodes) (hr : r < nodes) (v : ℕ) (is : v ≡ min (surplus s - sent) (shortage r - got)) where
-    -- there is room for the pair's move
-    pub room : entries + length (moveOf s r v) ≤ e + length whole
-    room = elim (decLe (surplus s - sent) (shortage r - got)) [
-      | yes h ↦ fits (rest (s + 1) 0 r (got + v)) (rw is (rest-sender nodes surplus shortage s sent r got hs hr h))
-      | no d ↦ fits (rest s (sent + v) (r + 1) 0) (rw is (rest-receiver nodes surplus shortage s sent r got hs hr (omega (arith, d))))
-    ]
-      where
-        fits : (l : List Move) → rest s sent r got ≡ moveOf s r v ++ l → entries + length (moveOf s r v) ≤ e + length whole
-        fits l q = omega (arith, left .entries-left, ap length q, length-append (moveOf s r v) l)
+  module _ (n : ℕ) (routes₀ counts₀ : List ℕ) (e : ℕ) (whole : List Move) (routes counts : List ℕ) (entries s left r missing : ℕ)
+      (p : Pending nodes surplus shortage n routes₀ counts₀ e whole routes counts entries s left r missing) where
+    pub finish : (nodes ≤ s) ⊎ (nodes ≤ r)
+        → (entries ≡ e + length whole) × ((routes ≡ sets routes₀ e (map (routeOf n) whole)) × (counts ≡ sets counts₀ e (map countOf whole)))
+    finish h =
+        left-none n routes₀ counts₀ e whole routes counts entries (rw (turn-stop nodes surplus shortage (2 * nodes - (s + r)) s (p .sent) r (p .got) h) at (p .moves))
 
-    module _ (routes′ counts′ : List ℕ) (entries′ : ℕ)
-        (ee : entries′ ≡ entries + length (moveOf s r v))
-        (er : routes′ ≡ sets routes entries (map (routeOf n) (moveOf s r v)))
-        (ec : counts′ ≡ sets counts entries (map countOf (moveOf s r v))) where
-      pub sender-next : surplus s - sent ≤ shortage r - got
-          → Going nodes surplus shortage (s + 1) 0 r (got + v) × Left n routes₀ counts₀ e whole routes′ counts′ entries′ (rest (s + 1) 0 r (got + v))
-      sender-next h =
-          let q : rest s sent r got ≡ moveOf s r v ++ rest (s + 1) 0 r (got + v) = rw is (rest-sender nodes surplus shortage s sent r got hs hr h) in (
-            record { s-le = omega arith; r-le = omega arith; sent-le = omega arith; got-le = omega (arith, going .got-le) },
-            left-part n routes₀ counts₀ e whole routes counts entries (moveOf s r v) (rest (s + 1) 0 r (got + v)) routes′ counts′ entries′ (rw q at left) er ec ee,
-          )
+    module _ (hs : s < nodes) (hr : r < nodes) (v : ℕ) (is : v ≡ min left missing) where
+      is-pair : v ≡ min (surplus s - p .sent) (shortage r - p .got)
+      is-pair = omega (arith, p .left-is hs, p .missing-is hr)
 
-      pub receiver-next : shortage r - got < surplus s - sent
-          → Going nodes surplus shortage s (sent + v) (r + 1) 0 × Left n routes₀ counts₀ e whole routes′ counts′ entries′ (rest s (sent + v) (r + 1) 0)
-      receiver-next h =
-          let q : rest s sent r got ≡ moveOf s r v ++ rest s (sent + v) (r + 1) 0 = rw is (rest-receiver nodes surplus shortage s sent r got hs hr h) in (
-            record { s-le = omega arith; r-le = omega arith; sent-le = omega (arith, going .sent-le); got-le = omega arith },
-            left-part n routes₀ counts₀ e whole routes counts entries (moveOf s r v) (rest s (sent + v) (r + 1) 0) routes′ counts′ entries′ (rw q at left) er ec ee,
-          )
+      sender-rest : left ≤ missing → rest nodes surplus shortage s (p .sent) r (p .got) ≡ moveOf s r v ++ rest nodes surplus shortage (s + 1) 0 r (p .got + v)
+      sender-rest h = rw is-pair (rest-sender nodes surplus shortage s (p .sent) r (p .got) hs hr (omega (arith, p .left-is hs, p .missing-is hr)))
 
-  -- a sender with nothing left is passed
-  pub sender-done : (n : ℕ) (routes₀ counts₀ : List ℕ) (e : ℕ) (whole : List Move) (routes counts : List ℕ) (entries s sent r got : ℕ)
-      → Going nodes surplus shortage s sent r got → Left n routes₀ counts₀ e whole routes counts entries (rest s sent r got)
-      → s < nodes → r < nodes → surplus s - sent ≡ 0
-      → Going nodes surplus shortage (s + 1) 0 r got × Left n routes₀ counts₀ e whole routes counts entries (rest (s + 1) 0 r got)
-  sender-done n routes₀ counts₀ e whole routes counts entries s sent r got going left hs hr z =
-      let g : got + 0 ≡ got = omega arith in
-      rw g at (sender-next n routes₀ counts₀ e whole routes counts entries s sent r got going left hs hr 0 (omega arith) routes counts entries (omega arith) refl refl (omega arith))
+      receiver-rest : missing < left → rest nodes surplus shortage s (p .sent) r (p .got) ≡ moveOf s r v ++ rest nodes surplus shortage s (p .sent + v) (r + 1) 0
+      receiver-rest h = rw is-pair (rest-receiver nodes surplus shortage s (p .sent) r (p .got) hs hr (omega (arith, p .left-is hs, p .missing-is hr)))
+
+      -- there is room for the pair's move
+      pub room : entries + length (moveOf s r v) ≤ e + length whole
+      room = elim (decLe left missing) [
+        | yes h ↦ fits (rest nodes surplus shortage (s + 1) 0 r (p .got + v)) (sender-rest h)
+        | no d ↦ fits (rest nodes surplus shortage s (p .sent + v) (r + 1) 0) (receiver-rest (omega (arith, d)))
+      ]
+        where
+          fits : (l : List Move) → rest nodes surplus shortage s (p .sent) r (p .got) ≡ moveOf s r v ++ l → entries + length (moveOf s r v) ≤ e + length whole
+          fits l q = omega (arith, p .moves .entries-left, ap length q, length-append (moveOf s r v) l)
+
+      module _ (routes′ counts′ : List ℕ) (entries′ : ℕ)
+          (ee : entries′ ≡ entries + length (moveOf s r v))
+          (er : routes′ ≡ sets routes entries (map (routeOf n) (moveOf s r v)))
+          (ec : counts′ ≡ sets counts entries (map countOf (moveOf s r v))) where
+        -- the moves that are left behind the pair's
+        behind : (l l′ : List Move) → rest nodes surplus shortage s (p .sent) r (p .got) ≡ moveOf s r v ++ l → l ≡ l′ → Left n routes₀ counts₀ e whole routes′ counts′ entries′ l′
+        behind l l′ q same = rw (← same) (left-part n routes₀ counts₀ e whole routes counts entries (moveOf s r v) l routes′ counts′ entries′ (rw q at (p .moves)) er ec ee)
+
+        pub sender-next : left ≤ missing → (s′ left′ : ℕ) → NextFrom nodes surplus (s + 1) s′ left′
+            → Pending nodes surplus shortage n routes₀ counts₀ e whole routes′ counts′ entries′ s′ left′ r (missing - v)
+        sender-next h s′ left′ x =
+            record {
+              sent = 0;
+              got = p .got + v;
+              s-le = x .node-le;
+              r-le = p .r-le;
+              left-is = λ l. omega (arith, x .is l);
+              left-some = x .some;
+              missing-is = λ l. omega (arith, p .missing-is hr);
+              moves = behind (rest nodes surplus shortage (s + 1) 0 r (p .got + v)) (rest nodes surplus shortage s′ 0 r (p .got + v)) (sender-rest h) (to-sender (s + 1) s′ left′ r (p .got + v) hr x);
+            }
+
+        pub receiver-next : missing < left → (r′ missing′ : ℕ) → NextFrom nodes shortage (r + 1) r′ missing′
+            → Pending nodes surplus shortage n routes₀ counts₀ e whole routes′ counts′ entries′ s (left - v) r′ missing′
+        receiver-next h r′ missing′ y =
+            record {
+              sent = p .sent + v;
+              got = 0;
+              s-le = p .s-le;
+              r-le = y .node-le;
+              left-is = λ l. omega (arith, p .left-is hs);
+              left-some = λ l. omega arith;
+              missing-is = λ l. omega (arith, y .is l);
+              moves = behind (rest nodes surplus shortage s (p .sent + v) (r + 1) 0) (rest nodes surplus shortage s (p .sent + v) r′ 0) (receiver-rest h)
+                  (to-receiver s (p .sent + v) (r + 1) r′ missing′ (λ l. omega (arith, p .left-is hs)) y);
+            }

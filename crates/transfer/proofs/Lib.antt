@@ -1,5 +1,6 @@
 pub mod Dues
 pub mod Turns
+pub mod Next
 pub mod Ends
 pub mod Matched
 pub mod Entries

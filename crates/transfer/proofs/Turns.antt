@@ -5,6 +5,7 @@ use mathlib.Core.Logic.{_⊎_, inl, inr}
 use mathlib.Core.Bool.{and-false}
 use mathlib.Core.List.{List, [], _∷_, _++_}
 use Prim.Native.Nat.{ℕ, zero, suc, _+_, _-_, _*_, _≤_, _<_, min}
+use native.Mathlib.Nat.{add-zero}
 use native.Mathlib.Decide.{ℕ-discrete, decLe}
 use native.Mathlib.Omega.{arith}
 use borrow.Author.Tests.{lt-ltb, le-ltb, le-leb, lt-leb, eq-eqb, ne-eqb}
@@ -51,6 +52,33 @@ module _ (nodes : ℕ) (surplus shortage : ℕ → ℕ) where
     rest-receiver h =
         let e : 2 * nodes - (s + r) ≡ suc (2 * nodes - (s + (r + 1))) = omega arith in
         rw e (turn-receiver (2 * nodes - (s + (r + 1))) s sent r got hs hr h)
+
+  -- the moves of the turns that are left of 2 × N where s and r are reached
+  abbrev pub rest : ℕ → ℕ → ℕ → ℕ → List Move
+  rest s sent r got = matched nodes surplus shortage (2 * nodes - (s + r)) s sent r got
+
+  -- ---- nodes without a surplus or a shortage are passed
+
+  pub senders-passed : (d s r got : ℕ) → s + d ≤ nodes → r < nodes → ((k : ℕ) → s ≤ k → k < s + d → surplus k ≡ 0) → rest s 0 r got ≡ rest (s + d) 0 r got
+  senders-passed zero s r got h hr z = rw (add-zero s)
+  senders-passed (suc d) s r got h hr z =
+      let here : surplus s ≡ 0 = z s (omega arith) (omega arith) in
+      let v : pair s 0 r got ≡ 0 = omega (arith, here) in
+      let g : got + 0 ≡ got = omega arith in
+      let one : rest s 0 r got ≡ rest (s + 1) 0 r got = rw g at (rw v at (rest-sender s 0 r got (omega arith) hr (omega (arith, here)))) in
+      let e : s + suc d ≡ s + 1 + d = omega arith in
+      rw e (one ∙ senders-passed d (s + 1) r got (omega arith) hr (λ k a b. z k (omega arith) (omega arith)))
+
+  pub receivers-passed : (d s sent r : ℕ) → s < nodes → 0 < surplus s - sent → r + d ≤ nodes → ((k : ℕ) → r ≤ k → k < r + d → shortage k ≡ 0)
+      → rest s sent r 0 ≡ rest s sent (r + d) 0
+  receivers-passed zero s sent r hs h l z = rw (add-zero r)
+  receivers-passed (suc d) s sent r hs h l z =
+      let here : shortage r ≡ 0 = z r (omega arith) (omega arith) in
+      let v : pair s sent r 0 ≡ 0 = omega (arith, here) in
+      let g : sent + 0 ≡ sent = omega arith in
+      let one : rest s sent r 0 ≡ rest s sent (r + 1) 0 = rw g at (rw v at (rest-receiver s sent r 0 hs (omega arith) (omega (arith, here)))) in
+      let e : r + suc d ≡ r + 1 + d = omega arith in
+      rw e (one ∙ receivers-passed d s sent (r + 1) hs h (omega arith) (λ k a b. z k (omega arith) (omega arith)))
 
   -- ---- what a turn does: m particles go from s to r, and one of the two is done
 

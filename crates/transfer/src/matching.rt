@@ -13,7 +13,13 @@ ghost use Rattle.plan.specs.Tree.{at};
 ghost use Rattle.tree.specs.Totals.{held, totalsOf};
 ghost use Rattle.words.specs.Buffer.{placed};
 ghost use Rattle.transfer.specs.Due.{dueOf, Allotted};
-ghost use Rattle.transfer.specs.Matching.{surplusOf, shortageOf, moveOf, movesOf, routeOf, countOf, allRoutes, allCounts};
+ghost use Rattle.transfer.specs.Matching.{surplusOf, shortageOf, moveOf, NextFrom, movesOf, routeOf, countOf, allRoutes, allCounts};
+
+// A node with a surplus or a shortage, and what remains of it; past the last such node, the number of nodes.
+struct Remaining {
+    node: usize,
+    count: u32,
+}
 
 // What a node holds above its due amount.
 fn surplus(holding: u32, due: u32) -> u32
@@ -52,8 +58,58 @@ fn put_move(
     e + 1
 }
 
+// The first node from k on that has a surplus of subdomain n, and its surplus.
+fn next_sender(table: &[u32; 4096], due: &[u32; 64], nodes: usize, n: usize, k: usize) -> Remaining
+    requires { ⌜ (nodes ≤ maxNodes) × (n < nodes) × (k ≤ nodes) ⌝ }
+    ensures { λ r. ⌜ NextFrom nodes (λ (j : ℕ). surplusOf (held (now (table .entry)) j n) (at (now (due .entry)) j)) k (r .node) (r .count) ⌝ }
+{
+    let mut s = k;
+    while s < nodes {
+        let count = surplus(table[64 * s + n], due[s]);
+        if count != 0 {
+            return Remaining {
+                node: s,
+                count: count,
+            };
+        }
+        s += 1;
+    }
+    Remaining {
+        node: nodes,
+        count: 0,
+    }
+}
+
+// The first node from k on that lacks some of its due amount of subdomain n, and what it lacks.
+fn next_receiver(
+    table: &[u32; 4096],
+    due: &[u32; 64],
+    nodes: usize,
+    n: usize,
+    k: usize,
+) -> Remaining
+    requires { ⌜ (nodes ≤ maxNodes) × (n < nodes) × (k ≤ nodes) ⌝ }
+    ensures { λ r. ⌜ NextFrom nodes (λ (j : ℕ). shortageOf (held (now (table .entry)) j n) (at (now (due .entry)) j)) k (r .node) (r .count) ⌝ }
+{
+    let mut r = k;
+    while r < nodes {
+        let count = shortage(table[64 * r + n], due[r]);
+        if count != 0 {
+            return Remaining {
+                node: r,
+                count: count,
+            };
+        }
+        r += 1;
+    }
+    Remaining {
+        node: nodes,
+        count: 0,
+    }
+}
+
 // Writes the moves of subdomain n behind the first e entries, and gives the number of entries then. Each turn is done with a
-// sender or with a receiver; at once with a sender that has nothing left, as most have in a sparse sheet.
+// sender or with a receiver.
 fn put_subdomain(
     table: &[u32; 4096],
     due: &[u32; 64],
@@ -69,28 +125,17 @@ fn put_subdomain(
     ensures counts { λ _. ⌜ now (counts .exit) ≡ sets (now (counts .entry)) e (map countOf (movesOf nodes (λ (k : ℕ). held (now (table .entry)) k n) (at (now (due .entry))))) ⌝ }
 {
     let mut entries = e;
-    let mut s = 0;
-    let mut sent = 0;
-    let mut r = 0;
-    let mut got = 0;
-    while s < nodes && r < nodes {
-        let left = surplus(table[64 * s + n], due[s]) - sent;
-        if left == 0 {
-            s += 1;
-            sent = 0;
+    let mut s = next_sender(table, due, nodes, n, 0);
+    let mut r = next_receiver(table, due, nodes, n, 0);
+    while s.node < nodes && r.node < nodes {
+        let count = numbers::smaller(s.count, r.count);
+        entries = put_move(routes, counts, entries, n, s.node, r.node, count);
+        if s.count <= r.count {
+            r.count -= count;
+            s = next_sender(table, due, nodes, n, s.node + 1);
         } else {
-            let missing = shortage(table[64 * r + n], due[r]) - got;
-            let count = numbers::smaller(left, missing);
-            entries = put_move(routes, counts, entries, n, s, r, count);
-            if left <= missing {
-                s += 1;
-                sent = 0;
-                got += count;
-            } else {
-                r += 1;
-                got = 0;
-                sent += count;
-            }
+            s.count -= count;
+            r = next_receiver(table, due, nodes, n, r.node + 1);
         }
     }
     entries
