@@ -2,11 +2,15 @@
 use mathlib.Core.Path.{_≡_, refl, sym, ap, _∙_}
 use mathlib.Core.Bool.{cond}
 use Prim.Native.Nat.{ℕ}
+use native.Mathlib.Omega.{arith}
+use borrow.Author.Tests.{le-leb, lt-leb, ne-eqb}
 use lib.Dec.{eqb, leb}
-use Rattle.sheet.specs.declared.SheetRefusal.the-variants as sheet
-use Rattle.sheet.proofs.Answers.{refusalOf as sheetRefusal}
-use Rattle.moves.specs.declared.MovesRefusal.the-variants as moves
-use Rattle.moves.proofs.Answers.{refusalOf as movesRefusal}
+use Rattle.sheet.specs.declared.SheetRefusal.{SheetRefusal}
+use Rattle.sheet.specs.Sheet.{refusalNumber as sheetNumber}
+use Rattle.sheet.proofs.Answers.{refusalOf as sheetRefusal, numbered as sheet-numbered}
+use Rattle.moves.specs.declared.MovesRefusal.{MovesRefusal}
+use Rattle.moves.specs.Moves.{refusalNumber as movesNumber}
+use Rattle.moves.proofs.Answers.{refusalOf as movesRefusal, numbered as moves-numbered}
 use Rattle.carry.specs.declared.CarryRefusal.{CarryRefusal}
 use Rattle.carry.specs.declared.CarryRefusal.the-variants.{Sheet, Moves, NodesDiffer, Sends, Buffer}
 use Rattle.carry.specs.declared.Carrying.{Carrying}
@@ -25,19 +29,13 @@ carryingOf a = cond (eqb (a .refusal) 0) (Carried (a .bytes)) (Refused (refusalO
 
 back : (c : Carrying) → carryingOf (answerOf c) ≡ c
 back (Carried bytes) = refl
-back (Refused (Sheet sheet.Short)) = refl
-back (Refused (Sheet sheet.Nodes)) = refl
-back (Refused (Sheet sheet.Tolerance)) = refl
-back (Refused (Sheet sheet.Entries)) = refl
-back (Refused (Sheet sheet.Length)) = refl
-back (Refused (Sheet sheet.Cell)) = refl
-back (Refused (Sheet sheet.Count)) = refl
-back (Refused (Moves moves.Short)) = refl
-back (Refused (Moves moves.Nodes)) = refl
-back (Refused (Moves moves.Entries)) = refl
-back (Refused (Moves moves.Length)) = refl
-back (Refused (Moves moves.Route)) = refl
-back (Refused (Moves moves.Count)) = refl
+back (Refused (Sheet r)) =
+    let n = sheet-numbered r in
+    rw (ne-eqb (sheetNumber r) 0 (λ z. omega (arith, n .0)), le-leb (sheetNumber r) 7 (n .1)) (ap (λ (x : SheetRefusal). Refused (Sheet x)) (n .2))
+back (Refused (Moves r)) =
+    let n = moves-numbered r in
+    rw (ne-eqb (movesNumber r) 0 (λ z. omega (arith, n .0)), lt-leb (movesNumber r) 7 (omega (arith, n .0)), le-leb (movesNumber r) 36 (n .1))
+    (ap (λ (x : MovesRefusal). Refused (Moves x)) (n .2))
 back (Refused NodesDiffer) = refl
 back (Refused Sends) = refl
 back (Refused Buffer) = refl

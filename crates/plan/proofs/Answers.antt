@@ -1,17 +1,16 @@
--- The numbers of an answer determine the reading that it was made of: each refusal can be told from its number, and none is 0.
--- Assumes nothing.
+-- The answer in numbers determines the reading: no two cases of the enum share their number and values. Assumes nothing.
 use mathlib.Core.Path.{_≡_, refl, sym, ap, _∙_}
 use mathlib.Core.Bool.{cond}
-use mathlib.Core.List.{List}
-use Prim.Native.Nat.{ℕ, _<_}
+use Prim.Native.Nat.{ℕ, _≤_, _<_}
 use native.Mathlib.Omega.{arith}
+use borrow.Author.Tests.{ne-eqb}
 use lib.Dec.{eqb}
-use Rattle.plan.specs.declared.PlanAnswer.{PlanAnswer}
 use Rattle.plan.specs.declared.PlanRefusal.{PlanRefusal}
 use Rattle.plan.specs.declared.PlanRefusal.the-variants.{Short, Nodes, Kind, Limit, Length, Helpand, Shape, Share}
 use Rattle.plan.specs.declared.PlanReading.{PlanReading}
 use Rattle.plan.specs.declared.PlanReading.the-variants.{Accepted, Refused}
-use Rattle.plan.specs.Plan.{refusalNumber, answerOf, readPlan}
+use Rattle.plan.specs.declared.PlanAnswer.{PlanAnswer}
+use Rattle.plan.specs.Plan.{refusalNumber, answerOf}
 
 -- the refusal of a number
 abbrev pub refusalOf : ℕ → PlanRefusal
@@ -24,34 +23,28 @@ refusalOf k =
     (cond (eqb k 16) Helpand
     (cond (eqb k 17) Shape Share))))))
 
-back : (r : PlanRefusal) → refusalOf (refusalNumber r) ≡ r
-back Short = refl
-back Nodes = refl
-back Kind = refl
-back Limit = refl
-back Length = refl
-back Helpand = refl
-back Shape = refl
-back Share = refl
+-- the paper numbers them 11 to 18, and the number tells which refusal it is
+pub numbered : (r : PlanRefusal) → (11 ≤ refusalNumber r) × (refusalNumber r ≤ 18) × (refusalOf (refusalNumber r) ≡ r)
+numbered Short = (omega arith, omega arith, refl)
+numbered Nodes = (omega arith, omega arith, refl)
+numbered Kind = (omega arith, omega arith, refl)
+numbered Limit = (omega arith, omega arith, refl)
+numbered Length = (omega arith, omega arith, refl)
+numbered Helpand = (omega arith, omega arith, refl)
+numbered Shape = (omega arith, omega arith, refl)
+numbered Share = (omega arith, omega arith, refl)
 
+-- no refusal has the number 0
 pub number-more : (r : PlanRefusal) → 0 < refusalNumber r
-number-more Short = omega arith
-number-more Nodes = omega arith
-number-more Kind = omega arith
-number-more Limit = omega arith
-number-more Length = omega arith
-number-more Helpand = omega arith
-number-more Shape = omega arith
-number-more Share = omega arith
+number-more r = omega (arith, numbered r .0)
 
--- THEOREM: Two readings with the same numbers are the same reading.
-pub answer-determines : (a b : PlanReading) → answerOf a ≡ answerOf b → a ≡ b
-answer-determines (Accepted p) (Accepted q) e = ap (λ (x : PlanAnswer). Accepted (record { n = x .n; kind = x .kind; limit = x .limit })) e
-answer-determines (Accepted p) (Refused r) e = absurd (omega (arith, number-more r, ap (λ (x : PlanAnswer). x .refusal) e))
-answer-determines (Refused r) (Accepted p) e = absurd (omega (arith, number-more r, ap (λ (x : PlanAnswer). x .refusal) e))
-answer-determines (Refused r) (Refused t) e =
-    ap Refused (sym (back r) ∙ ap (λ (x : PlanAnswer). refusalOf (x .refusal)) e ∙ back t)
+-- the reading of an answer
+abbrev readingOf : PlanAnswer → PlanReading
+readingOf a = cond (eqb (a .refusal) 0) (Accepted (record { n = a .n; kind = a .kind; limit = a .limit })) (Refused (refusalOf (a .refusal)))
 
--- so the contract of `read_plan` determines its answer
-pub reading-determined : (s : List ℕ) (a b : PlanReading) → answerOf a ≡ readPlan s → answerOf b ≡ readPlan s → a ≡ b
-reading-determined s a b e f = answer-determines a b (e ∙ sym f)
+back : (r : PlanReading) → readingOf (answerOf r) ≡ r
+back (Accepted p) = refl
+back (Refused r) = rw (ne-eqb (refusalNumber r) 0 (λ z. omega (arith, number-more r))) (ap Refused (numbered r .2))
+
+pub answer-determines : (r q : PlanReading) → answerOf r ≡ answerOf q → r ≡ q
+answer-determines r q e = sym (back r) ∙ ap readingOf e ∙ back q

@@ -2,11 +2,15 @@
 use mathlib.Core.Path.{_≡_, refl, sym, ap, _∙_}
 use mathlib.Core.Bool.{true, false, cond}
 use Prim.Native.Nat.{ℕ}
+use native.Mathlib.Omega.{arith}
+use borrow.Author.Tests.{le-leb, lt-leb, ne-eqb}
 use lib.Dec.{eqb, leb}
-use Rattle.sheet.specs.declared.SheetRefusal.the-variants as sheet
-use Rattle.sheet.proofs.Answers.{refusalOf as sheetRefusal}
-use Rattle.plan.specs.declared.PlanRefusal.the-variants as plan
-use Rattle.plan.proofs.Answers.{refusalOf as planRefusal}
+use Rattle.sheet.specs.declared.SheetRefusal.{SheetRefusal}
+use Rattle.sheet.specs.Sheet.{refusalNumber as sheetNumber}
+use Rattle.sheet.proofs.Answers.{refusalOf as sheetRefusal, numbered as sheet-numbered}
+use Rattle.plan.specs.declared.PlanRefusal.{PlanRefusal}
+use Rattle.plan.specs.Plan.{refusalNumber as planNumber}
+use Rattle.plan.proofs.Answers.{refusalOf as planRefusal, numbered as plan-numbered}
 use Rattle.weigh.specs.declared.WeighRefusal.{WeighRefusal}
 use Rattle.weigh.specs.declared.WeighRefusal.the-variants.{Sheet, Plan, NodesDiffer, Primary, Buffer}
 use Rattle.weigh.specs.declared.Weighing.{Weighing}
@@ -26,21 +30,13 @@ weighingOf a = cond (eqb (a .refusal) 0) (Weighed (eqb (a .holds) 1)) (Refused (
 back : (w : Weighing) → weighingOf (answerOf w) ≡ w
 back (Weighed true) = refl
 back (Weighed false) = refl
-back (Refused (Sheet sheet.Short)) = refl
-back (Refused (Sheet sheet.Nodes)) = refl
-back (Refused (Sheet sheet.Tolerance)) = refl
-back (Refused (Sheet sheet.Entries)) = refl
-back (Refused (Sheet sheet.Length)) = refl
-back (Refused (Sheet sheet.Cell)) = refl
-back (Refused (Sheet sheet.Count)) = refl
-back (Refused (Plan plan.Short)) = refl
-back (Refused (Plan plan.Nodes)) = refl
-back (Refused (Plan plan.Kind)) = refl
-back (Refused (Plan plan.Limit)) = refl
-back (Refused (Plan plan.Length)) = refl
-back (Refused (Plan plan.Helpand)) = refl
-back (Refused (Plan plan.Shape)) = refl
-back (Refused (Plan plan.Share)) = refl
+back (Refused (Sheet r)) =
+    let n = sheet-numbered r in
+    rw (ne-eqb (sheetNumber r) 0 (λ z. omega (arith, n .0)), le-leb (sheetNumber r) 7 (n .1)) (ap (λ (x : SheetRefusal). Refused (Sheet x)) (n .2))
+back (Refused (Plan r)) =
+    let n = plan-numbered r in
+    rw (ne-eqb (planNumber r) 0 (λ z. omega (arith, n .0)), lt-leb (planNumber r) 7 (omega (arith, n .0)), le-leb (planNumber r) 18 (n .1))
+    (ap (λ (x : PlanRefusal). Refused (Plan x)) (n .2))
 back (Refused NodesDiffer) = refl
 back (Refused Primary) = refl
 back (Refused Buffer) = refl
