@@ -23,12 +23,15 @@ pub fn plan_and_carry_out(
     moves: &mut [u8],
     next: &mut [u8],
 ) -> Outcome
-    ensures step { λ r. ⌜ stepOf r ≡ stepAnswer (now (sheet .entry)) (now (old .entry)) (length (now (plan .entry))) (length (now (moves .entry))) ⌝ }
+    ensures step { λ r. ⌜
+        stepOf r ≡ stepAnswer (now (sheet .entry)) (now (old .entry)) (length (now (plan .entry))) (length (now (moves .entry))) ⌝ }
     ensures carry { λ r. ⌜ carryOf r ≡ carriedAnswer (now (sheet .entry)) (now (old .entry)) (stepOf r) (length (now (next .entry))) ⌝ }
     ensures plan { λ r. ⌜ now (plan .exit) ≡ after (stepOf r) (planIn (now (sheet .entry)) (now (old .entry))) (now (plan .entry)) ⌝ }
     ensures moves { λ r. ⌜ now (moves .exit) ≡ after (stepOf r) (movesIn (now (sheet .entry)) (now (old .entry))) (now (moves .entry)) ⌝ }
     ensures next { λ r. ⌜ now (next .exit) ≡ carriedNext (now (sheet .entry)) (now (old .entry)) (stepOf r) (now (next .entry)) ⌝ }
-    ensures demand { λ r. ⌜ Demand3 (now (sheet .entry)) (now (old .entry)) (now (plan .entry)) (now (moves .entry)) (now (next .entry)) (stepOf r) (carryOf r) (now (plan .exit)) (now (moves .exit)) (now (next .exit)) ⌝ }
+    ensures demand { λ r. ⌜
+        Demand3 (now (sheet .entry)) (now (old .entry)) (now (plan .entry)) (now (moves .entry)) (now (next .entry)) (stepOf r) (carryOf r)
+        (now (plan .exit)) (now (moves .exit)) (now (next .exit)) ⌝ }
 {
     match planner::plan_step(sheet, old, plan, moves) {
         Step::Refused(r) => Outcome::Refused(r),

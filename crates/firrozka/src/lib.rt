@@ -58,9 +58,12 @@ pub extern "C" fn firrozka_plan_step(
     plan: &mut [u8],
     moves: &mut [u8],
 ) -> StepAnswer
-    ensures answer { λ r. ⌜ r ≡ stepAnswer (now (sheet .entry)) (now (old .entry)) (length (now (plan .entry))) (length (now (moves .entry))) ⌝ }
-    ensures plan { λ _. ⌜ now (plan .exit) ≡ planAfter (now (sheet .entry)) (now (old .entry)) (now (plan .entry)) (length (now (moves .entry))) ⌝ }
-    ensures moves { λ _. ⌜ now (moves .exit) ≡ movesAfter (now (sheet .entry)) (now (old .entry)) (now (moves .entry)) (length (now (plan .entry))) ⌝ }
+    ensures answer { λ r. ⌜
+        r ≡ stepAnswer (now (sheet .entry)) (now (old .entry)) (length (now (plan .entry))) (length (now (moves .entry))) ⌝ }
+    ensures plan { λ _. ⌜
+        now (plan .exit) ≡ planAfter (now (sheet .entry)) (now (old .entry)) (now (plan .entry)) (length (now (moves .entry))) ⌝ }
+    ensures moves { λ _. ⌜
+        now (moves .exit) ≡ movesAfter (now (sheet .entry)) (now (old .entry)) (now (moves .entry)) (length (now (plan .entry))) ⌝ }
 {
     planner::answer(planner::plan_step(sheet, old, plan, moves))
 }

@@ -111,9 +111,12 @@ fn write_records(
     e: usize,
 ) -> Step
     requires { ⌜ (n ≤ maxNodes) × (e ≤ 4096) × (e ≤ length (now routes)) × (e ≤ length (now counts)) ⌝ }
-    ensures answer { λ r. ⌜ answerOf r ≡ writtenAnswer (d .kind) limit (planOf n limit d) (movesBytes n e (now (routes .entry)) (now (counts .entry))) (length (now (plan .entry))) (length (now (moves .entry))) ⌝ }
+    ensures answer { λ r. ⌜
+        answerOf r ≡ writtenAnswer (d .kind) limit (planOf n limit d) (movesBytes n e (now (routes .entry)) (now (counts .entry)))
+        (length (now (plan .entry))) (length (now (moves .entry))) ⌝ }
     ensures plan { λ r. ⌜ now (plan .exit) ≡ after (answerOf r) (planOf n limit d) (now (plan .entry)) ⌝ }
-    ensures moves { λ r. ⌜ now (moves .exit) ≡ after (answerOf r) (movesBytes n e (now (routes .entry)) (now (counts .entry))) (now (moves .entry)) ⌝ }
+    ensures moves { λ r. ⌜
+        now (moves .exit) ≡ after (answerOf r) (movesBytes n e (now (routes .entry)) (now (counts .entry))) (now (moves .entry)) ⌝ }
 {
     let plan_size = 4 * (3 + 2 * n as usize);
     if plan.len() < plan_size {
@@ -145,7 +148,8 @@ fn plan_read(
     moves: &mut [u8],
 ) -> Step
     requires { ⌜ Read (now sheet) (now old) s tree ⌝ }
-    ensures answer { λ r. ⌜ answerOf r ≡ decidedAnswer (now (sheet .entry)) (now (old .entry)) (length (now (plan .entry))) (length (now (moves .entry))) ⌝ }
+    ensures answer { λ r. ⌜
+        answerOf r ≡ decidedAnswer (now (sheet .entry)) (now (old .entry)) (length (now (plan .entry))) (length (now (moves .entry))) ⌝ }
     ensures plan { λ r. ⌜ now (plan .exit) ≡ after (answerOf r) (planIn (now (sheet .entry)) (now (old .entry))) (now (plan .entry)) ⌝ }
     ensures moves { λ r. ⌜ now (moves .exit) ≡ after (answerOf r) (movesIn (now (sheet .entry)) (now (old .entry))) (now (moves .entry)) ⌝ }
 {
@@ -172,9 +176,12 @@ fn plan_read(
 
 // *Plan a step*. "A refused sheet ends planning before the old plan is looked at."
 pub fn plan_step(sheet: &[u8], old: &[u8], plan: &mut [u8], moves: &mut [u8]) -> Step
-    ensures answer { λ r. ⌜ answerOf r ≡ stepAnswer (now (sheet .entry)) (now (old .entry)) (length (now (plan .entry))) (length (now (moves .entry))) ⌝ }
-    ensures plan { λ _. ⌜ now (plan .exit) ≡ planAfter (now (sheet .entry)) (now (old .entry)) (now (plan .entry)) (length (now (moves .entry))) ⌝ }
-    ensures moves { λ _. ⌜ now (moves .exit) ≡ movesAfter (now (sheet .entry)) (now (old .entry)) (now (moves .entry)) (length (now (plan .entry))) ⌝ }
+    ensures answer { λ r. ⌜
+        answerOf r ≡ stepAnswer (now (sheet .entry)) (now (old .entry)) (length (now (plan .entry))) (length (now (moves .entry))) ⌝ }
+    ensures plan { λ _. ⌜
+        now (plan .exit) ≡ planAfter (now (sheet .entry)) (now (old .entry)) (now (plan .entry)) (length (now (moves .entry))) ⌝ }
+    ensures moves { λ _. ⌜
+        now (moves .exit) ≡ movesAfter (now (sheet .entry)) (now (old .entry)) (now (moves .entry)) (length (now (plan .entry))) ⌝ }
 {
     let reading = sheet::read_sheet(sheet);
     let SheetReading::Accepted(s) = reading else {

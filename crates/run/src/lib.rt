@@ -31,7 +31,8 @@ fn own_of(sheet: &[u8], nodes: usize, helpands: [u32; 64], shares: [u32; 64]) ->
 fn write_records(sheet: &[u8], plan: &[u8], moves: &[u8], out: &mut [u8]) -> usize
     requires { ⌜ Printable (now sheet) (now plan) (now moves) × (textSize ≤ length (now out)) ⌝ }
     ensures size { λ r. ⌜ r ≡ length (recordsText (now (sheet .entry)) (now (plan .entry)) (now (moves .entry))) ⌝ }
-    ensures bytes { λ _. ⌜ now (out .exit) ≡ placed (recordsText (now (sheet .entry)) (now (plan .entry)) (now (moves .entry))) (now (out .entry)) ⌝ }
+    ensures bytes { λ _. ⌜
+        now (out .exit) ≡ placed (recordsText (now (sheet .entry)) (now (plan .entry)) (now (moves .entry))) (now (out .entry)) ⌝ }
 {
     let nodes = words::word_number(plan, 0) as usize;
     let kind = words::word_number(plan, 1);

@@ -26,7 +26,9 @@ pub fn write_step(
 ) -> usize
     requires { ⌜ (nodes ≤ maxNodes) × (e ≤ length (now routes)) × (e ≤ length (now counts)) × (64 * (1 + nodes + e) ≤ length (now out)) ⌝ }
     ensures size { λ r. ⌜ r ≡ length (stepText kind limit nodes helpands shares own e (now (routes .entry)) (now (counts .entry))) ⌝ }
-    ensures bytes { λ _. ⌜ now (out .exit) ≡ placed (stepText kind limit nodes helpands shares own e (now (routes .entry)) (now (counts .entry))) (now (out .entry)) ⌝ }
+    ensures bytes { λ _. ⌜
+        now (out .exit) ≡ placed (stepText kind limit nodes helpands shares own e (now (routes .entry)) (now (counts .entry)))
+        (now (out .entry)) ⌝ }
 {
     let first = lines::put_head(out, 0, kind, limit);
     let second = lines::put_nodes(out, first, nodes, helpands, shares, own);

@@ -45,7 +45,9 @@ fn put_move(
     r: usize,
     count: u32,
 ) -> usize
-    requires { ⌜ (n < 64) × (s < 64) × (r < 64) × (e + length (moveOf s r count) ≤ length (now routes)) × (e + length (moveOf s r count) ≤ length (now counts)) ⌝ }
+    requires { ⌜
+        (n < 64) × (s < 64) × (r < 64) × (e + length (moveOf s r count) ≤ length (now routes))
+        × (e + length (moveOf s r count) ≤ length (now counts)) ⌝ }
     ensures entries { λ k. ⌜ k ≡ e + length (moveOf s r count) ⌝ }
     ensures routes { λ _. ⌜ now (routes .exit) ≡ sets (now (routes .entry)) e (map (routeOf n) (moveOf s r count)) ⌝ }
     ensures counts { λ _. ⌜ now (counts .exit) ≡ sets (now (counts .entry)) e (map countOf (moveOf s r count)) ⌝ }
@@ -61,7 +63,8 @@ fn put_move(
 // The first node from k on that has a surplus of subdomain n, and its surplus.
 fn next_sender(table: &[u32; 4096], due: &[u32; 64], nodes: usize, n: usize, k: usize) -> Remaining
     requires { ⌜ (nodes ≤ maxNodes) × (n < nodes) × (k ≤ nodes) ⌝ }
-    ensures { λ r. ⌜ NextFrom nodes (λ (j : ℕ). surplusOf (held (now (table .entry)) j n) (at (now (due .entry)) j)) k (r .node) (r .count) ⌝ }
+    ensures { λ r. ⌜
+        NextFrom nodes (λ (j : ℕ). surplusOf (held (now (table .entry)) j n) (at (now (due .entry)) j)) k (r .node) (r .count) ⌝ }
 {
     let mut s = k;
     while s < nodes {
@@ -89,7 +92,8 @@ fn next_receiver(
     k: usize,
 ) -> Remaining
     requires { ⌜ (nodes ≤ maxNodes) × (n < nodes) × (k ≤ nodes) ⌝ }
-    ensures { λ r. ⌜ NextFrom nodes (λ (j : ℕ). shortageOf (held (now (table .entry)) j n) (at (now (due .entry)) j)) k (r .node) (r .count) ⌝ }
+    ensures { λ r. ⌜
+        NextFrom nodes (λ (j : ℕ). shortageOf (held (now (table .entry)) j n) (at (now (due .entry)) j)) k (r .node) (r .count) ⌝ }
 {
     let mut r = k;
     while r < nodes {
@@ -121,8 +125,12 @@ fn put_subdomain(
 ) -> usize
     requires { ⌜ (nodes ≤ maxNodes) × (n < nodes) × (e + (nodes - 1) ≤ length (now routes)) × (e + (nodes - 1) ≤ length (now counts)) ⌝ }
     ensures entries { λ k. ⌜ k ≡ e + length (movesOf nodes (λ (k : ℕ). held (now (table .entry)) k n) (at (now (due .entry)))) ⌝ }
-    ensures routes { λ _. ⌜ now (routes .exit) ≡ sets (now (routes .entry)) e (map (routeOf n) (movesOf nodes (λ (k : ℕ). held (now (table .entry)) k n) (at (now (due .entry))))) ⌝ }
-    ensures counts { λ _. ⌜ now (counts .exit) ≡ sets (now (counts .entry)) e (map countOf (movesOf nodes (λ (k : ℕ). held (now (table .entry)) k n) (at (now (due .entry))))) ⌝ }
+    ensures routes { λ _. ⌜
+        now (routes .exit) ≡ sets (now (routes .entry)) e
+        (map (routeOf n) (movesOf nodes (λ (k : ℕ). held (now (table .entry)) k n) (at (now (due .entry))))) ⌝ }
+    ensures counts { λ _. ⌜
+        now (counts .exit) ≡ sets (now (counts .entry)) e
+        (map countOf (movesOf nodes (λ (k : ℕ). held (now (table .entry)) k n) (at (now (due .entry))))) ⌝ }
 {
     let mut entries = e;
     let mut s = next_sender(table, due, nodes, n, 0);
@@ -152,10 +160,16 @@ pub fn all_moves(
     routes: &mut [u32],
     counts: &mut [u32],
 ) -> usize
-    requires { ⌜ (nodes ≤ maxNodes) × (totals ≡ totalsOf nodes (now table)) × Allotted nodes (at helpands) (at totals) (at shares) × (nodes * (nodes - 1) ≤ length (now routes)) × (nodes * (nodes - 1) ≤ length (now counts)) ⌝ }
+    requires { ⌜
+        (nodes ≤ maxNodes) × (totals ≡ totalsOf nodes (now table)) × Allotted nodes (at helpands) (at totals) (at shares)
+        × (nodes * (nodes - 1) ≤ length (now routes)) × (nodes * (nodes - 1) ≤ length (now counts)) ⌝ }
     ensures entries { λ k. ⌜ k ≡ length (allRoutes nodes (now (table .entry)) (dueOf nodes (at helpands) (at totals) (at shares))) ⌝ }
-    ensures routes { λ _. ⌜ now (routes .exit) ≡ placed (allRoutes nodes (now (table .entry)) (dueOf nodes (at helpands) (at totals) (at shares))) (now (routes .entry)) ⌝ }
-    ensures counts { λ _. ⌜ now (counts .exit) ≡ placed (allCounts nodes (now (table .entry)) (dueOf nodes (at helpands) (at totals) (at shares))) (now (counts .entry)) ⌝ }
+    ensures routes { λ _. ⌜
+        now (routes .exit) ≡ placed (allRoutes nodes (now (table .entry)) (dueOf nodes (at helpands) (at totals) (at shares)))
+        (now (routes .entry)) ⌝ }
+    ensures counts { λ _. ⌜
+        now (counts .exit) ≡ placed (allCounts nodes (now (table .entry)) (dueOf nodes (at helpands) (at totals) (at shares)))
+        (now (counts .entry)) ⌝ }
 {
     let own = own_amounts(totals, helpands, shares, nodes);
     let mut e = 0;
