@@ -1,10 +1,9 @@
 // Writes a plan into a lent buffer.
-use words::Written;
 ghost use mathlib.Core.Path.{_≡_};
 ghost use Prim.Native.Nat.{_+_, _*_, _≤_};
 ghost use lib.ListN.{length};
 ghost use Rattle.limit.specs.Limit.{maxNodes};
-ghost use Rattle.words.specs.Buffer.{placed, written, writing};
+ghost use Rattle.words.specs.Buffer.{placed};
 ghost use Rattle.plan.specs.Write.{planBytes};
 
 // Writes the plan of the first n helpands and shares into a buffer that is long enough.
@@ -23,25 +22,4 @@ pub fn put_plan(
     words::put_head(out, n, kind, limit);
     words::put_words(out, 3, &helpands, nodes);
     words::put_words(out, 3 + nodes, &shares, nodes);
-}
-
-// The same into any buffer: too short, it is left as it was.
-pub fn write_plan(
-    out: &mut [u8],
-    n: u32,
-    kind: u32,
-    limit: u32,
-    helpands: [u32; 64],
-    shares: [u32; 64],
-) -> Written
-    requires { ⌜ n ≤ maxNodes ⌝ }
-    ensures answer { λ r. ⌜ r ≡ writing (planBytes n kind limit helpands shares) (now (out .entry)) ⌝ }
-    ensures bytes { λ _. ⌜ now (out .exit) ≡ written (planBytes n kind limit helpands shares) (now (out .entry)) ⌝ }
-{
-    let size = 4 * (3 + 2 * n as usize);
-    if out.len() < size {
-        return Written::Short;
-    }
-    put_plan(out, n, kind, limit, helpands, shares);
-    Written::Bytes(size)
 }
