@@ -1,13 +1,13 @@
 -- Demand 3, proved of what the two operations answer and write: the plan and the moves are read back as what was decided, the decision
 -- is kept exactly when a division within the limit exists, and the moves carry out what is due. Assumes nothing.
-use mathlib.Core.Path.{_≡_, refl, sym, ap, subst, _∙_}
+use mathlib.Core.Path.{_≡_, sym, ap, subst, _∙_}
 use mathlib.Core.Logic.{_≢_, _⊎_, inl, inr, ⊎-elim, _↔_}
-use mathlib.Core.Bool.{Bool, true, false, _&&_, cond, true≢false, and-false}
+use mathlib.Core.Bool.{Bool, true, false, _&&_, true≢false}
 use mathlib.Core.List.{List}
-use Prim.Native.Nat.{ℕ, _+_, _-_, _*_, _≤_, _<_}
+use Prim.Native.Nat.{ℕ, _-_, _≤_, _<_}
 use native.Mathlib.Omega.{arith}
 use borrow.Author.Tests.{lt-leb, eq-eqb}
-use lib.Dec.{leb, eqb}
+use lib.Dec.{leb}
 use lib.ListN.{length, take, replicate}
 use lib.Seq.{getD-take, take-at}
 use Rattle.fold.proofs.Tests.{either, all-fails, and-left, and-right, and-both}
@@ -18,7 +18,6 @@ use Rattle.sheet.specs.Sheet.{readSheet}
 use Rattle.sheet.specs.Table.{tableIn}
 use Rattle.sheet.proofs.Accepted.{sheet-accepted}
 use Rattle.plan.specs.declared.Plan.{Plan}
-use Rattle.plan.specs.declared.PlanAnswer.{PlanAnswer}
 use Rattle.plan.specs.Tree.{at, Tree}
 use Rattle.plan.specs.Plan.{readPlan, helpandsOf, sharesOf}
 use Rattle.plan.proofs.Accepted.{plan-accepted, helpands-are}
@@ -27,22 +26,21 @@ use Rattle.moves.specs.declared.MovesAnswer.{MovesAnswer}
 use Rattle.moves.specs.Moves.{readMoves, routesOf, countsOf, accepted as movesAccepted}
 use Rattle.tree.specs.Totals.{held, primary}
 use Rattle.tree.specs.Weigh.{holds}
-use Rattle.tree.specs.Division.{WithinLimit, OnTarget}
 use Rattle.tree.proofs.Keeping.{division-iff-holds}
 use Rattle.transfer.specs.Carry.{carried as carriedTable}
 use Rattle.weigh.specs.Weigh.{totalsIn}
 use Rattle.rebuild.specs.Target.{targetOf}
 use Rattle.decide.specs.declared.Decision.{Decision}
-use Rattle.decide.proofs.Decided.{Given, KeptFine, RebuiltFine, decided-kept, decided-rebuilt}
+use Rattle.decide.proofs.Decided.{KeptFine, RebuiltFine, decided-kept, decided-rebuilt}
 use Rattle.planner.specs.declared.StepAnswer.{StepAnswer}
 use Rattle.planner.specs.Step.{planned, OldAnswer, oldRead, readOld, oldHelpands, decisionIn, planIn, movesIn, stepAnswer, after, Read}
 use Rattle.planner.proofs.Ways.{old-empty, old-primary, old-tree}
 use Rattle.planner.proofs.Facts.{given, decision}
 use Rattle.planner.proofs.ReadBack as planned
 use Rattle.carry.specs.declared.CarryAnswer.{CarryAnswer}
-use Rattle.carry.specs.Carry.{withinIn, nextTable, nextSheet, carryAnswer, nextAfter}
+use Rattle.carry.specs.Carry.{nextTable, nextSheet, carryAnswer, nextAfter}
 use Rattle.carry.proofs.ReadBack as carried
-use Rattle.claim.specs.Claim.{Overloaded, AcceptedTree, PrimaryPlan, NoTree, Fits, Rival, due, Balanced, Claim, Demand3, carriedAnswer, carriedNext}
+use Rattle.claim.specs.Claim.{Overloaded, AcceptedTree, NoTree, Fits, Rival, Balanced, Claim, Demand3, carriedAnswer, carriedNext}
 use Rattle.claim.proofs.Agree.{tree-agree, within-agree, target-agree, due-agree}
 
 -- ---- the old plan, as the demand has it and as it is read

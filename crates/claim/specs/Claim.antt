@@ -17,7 +17,7 @@ use Rattle.weigh.specs.Weigh.{totalsIn}
 use Rattle.rebuild.specs.Target.{targetOf}
 use Rattle.transfer.specs.Due.{dueOf}
 use Rattle.planner.specs.declared.StepAnswer.{StepAnswer}
-use Rattle.planner.specs.Step.{planIn, movesIn, planned, numberOf, stepAnswer}
+use Rattle.planner.specs.Step.{planIn, movesIn, planned, numberOf}
 use Rattle.planner.specs.Step as step
 use Rattle.carry.specs.declared.CarryAnswer.{CarryAnswer}
 use Rattle.carry.specs.Carry.{nextSheet, carryAnswer, nextAfter}

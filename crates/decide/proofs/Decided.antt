@@ -1,7 +1,7 @@
 -- What the three ways of a decision give: the plan can be written and read back, no owner's helpers are given more than there is, and
 -- the plan is what document 01 says of its kind. Assumes nothing.
 use mathlib.Core.Path.{_≡_, refl, sym, ap, _∙_}
-use mathlib.Core.Logic.{_≢_, _⊎_, inl, inr, ⊎-elim}
+use mathlib.Core.Logic.{_≢_, _⊎_, inl, inr}
 use mathlib.Core.Bool.{Bool, true, false, _&&_, true≢false}
 use mathlib.Core.List.{List}
 use Prim.Native.Nat.{ℕ, _-_, _*_, _≤_, _<_}
@@ -11,18 +11,18 @@ use lib.Dec.{leb}
 use lib.ListN.{length, length-replicate}
 use Rattle.fold.specs.Sum.{only, sum}
 use Rattle.fold.proofs.Sums.{sum-eq, sum-zeros, sum-term}
-use Rattle.fold.proofs.Tests.{either, and-left, and-right, all-of, only-eq, only-max}
+use Rattle.fold.proofs.Tests.{either, and-left, and-right, all-of, only-max}
 use Rattle.limit.specs.Limit.{maxNodes, maxTolerance, maxTotal, limitOf}
 use Rattle.plan.specs.Tree.{at, helpandsBelow, Tree}
 use Rattle.plan.proofs.RoundTrip.{ReadBack, tree-read-written, roots-read-written}
-use Rattle.tree.specs.Totals.{held, tabulate, totalOf, totalsOf, primary}
+use Rattle.tree.specs.Totals.{held, totalOf, totalsOf, primary}
 use Rattle.tree.specs.Family.{helps, overHelpers}
 use Rattle.tree.specs.Weigh.{least, holds}
 use Rattle.tree.specs.Division.{WithinLimit, OnTarget, ownOf}
 use Rattle.tree.proofs.Tabulate.{zeros-at, tabulate-at, length-tabulate}
 use Rattle.tree.proofs.Weighing.{least-is}
 use Rattle.tree.proofs.Keeping.{holds-at}
-use Rattle.shares.specs.Shares.{shareOf, sharesOf}
+use Rattle.shares.specs.Shares.{shareOf}
 use Rattle.shares.proofs.KeptShares.{table-shares}
 use Rattle.shares.proofs.KeptShares as shares
 use Rattle.rebuild.specs.Target.{targetOf}

@@ -4,7 +4,7 @@ use mathlib.Core.List.{List}
 use Prim.Native.Nat.{ℕ}
 use lib.ListN.{replicate}
 use Rattle.plan.specs.Tree.{at}
-use Rattle.tree.specs.Totals.{held, tabulate, totalsOf, primary}
+use Rattle.tree.specs.Totals.{held, tabulate, primary}
 use Rattle.tree.specs.Weigh.{least, holds}
 use Rattle.shares.specs.Shares.{sharesOf}
 use Rattle.rebuild.specs.Rebuild.{rebuiltOf}

@@ -1,9 +1,9 @@
 -- Laws of tests: `&&`, `||`, a check that did not refuse, `only`, and `all` and `every`. Assumes nothing.
 use mathlib.Core.Path.{_≡_, refl, sym, ap, _∙_}
-use mathlib.Core.Logic.{_≢_, _⊎_, inl, inr, ⊎-elim}
+use mathlib.Core.Logic.{_⊎_, inl, inr, ⊎-elim}
 use mathlib.Core.Bool.{Bool, true, false, not, cond, _&&_, _||_, and-false, false≢true, true≢false}
 use mathlib.Core.List.{List, [], _∷_}
-use Prim.Native.Nat.{ℕ, zero, suc, _+_, _-_, _≤_, _<_}
+use Prim.Native.Nat.{ℕ, zero, suc, _+_, _≤_, _<_}
 use native.Mathlib.Nat.{eq-or-lt-of-le}
 use native.Mathlib.Decide.{ℕ-discrete}
 use native.Mathlib.Numerals.{add-one}
@@ -74,18 +74,6 @@ only-is b x e = rw e
 pub only-zero : (b : Bool) → only b 0 ≡ 0
 only-zero true = refl
 only-zero false = refl
-
-pub only-under : (b : Bool) (x y : ℕ) → (b ≡ true → x ≤ y) → only b x ≤ y
-only-under true x y h = h refl
-only-under false x y h = omega arith
-
-pub only-sum : (b : Bool) (x y : ℕ) → y ≤ x → only b (x - y) + only b y ≡ only b x
-only-sum true x y h = omega arith
-only-sum false x y h = omega arith
-
-pub only-part : (b : Bool) (x y : ℕ) → (b ≡ false → y ≡ 0) → only b (x + y) ≡ only b x + y
-only-part true x y h = omega arith
-only-part false x y h = omega (arith, h refl)
 
 -- ---- all
 

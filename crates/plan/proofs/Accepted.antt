@@ -126,6 +126,3 @@ module _ (s : List ℕ) (a : PlanAnswer) (k : Accepted s a) where
 
   pub helpands-are : length (helpandsOf s (a .n)) ≡ a .n
   helpands-are = length-part 3 (a .n) (words s) (omega (arith, words-are))
-
-  pub shares-are : length (sharesOf s (a .n)) ≡ a .n
-  shares-are = length-part (3 + a .n) (a .n) (words s) (omega (arith, words-are))

@@ -1,7 +1,7 @@
 -- What planning needs of a sheet and an old plan that were read: the totals add up to P, and an old tree is a tree. Assumes nothing.
 use mathlib.Core.Path.{_≡_, refl, sym, ap, _∙_}
-use mathlib.Core.Logic.{_≢_, _⊎_, inl, inr, ⊎-elim}
-use mathlib.Core.Bool.{Bool, true, false, cond, not, true≢false, false≢true}
+use mathlib.Core.Logic.{_≢_, _⊎_, inl, inr}
+use mathlib.Core.Bool.{Bool, true, false, cond, not, false≢true}
 use mathlib.Core.List.{List}
 use Prim.Native.Nat.{ℕ, _+_, _-_, _*_, _/_, _%_, _≤_, _<_}
 use native.Mathlib.Omega.{arith}
@@ -11,14 +11,13 @@ use lib.ListN.{length, replicate, length-append, length-replicate}
 use Rattle.fold.specs.Sum.{sum}
 use Rattle.fold.proofs.Sums.{sum-eq}
 use Rattle.fold.proofs.Tests.{either, all-of}
-use Rattle.limit.specs.Limit.{maxTotal, maxNodes, limitOf}
-use Rattle.words.specs.Words.{padded}
+use Rattle.limit.specs.Limit.{maxTotal}
 use Rattle.sheet.specs.declared.Sheet.{Sheet}
 use Rattle.sheet.specs.Sheet.{cellFine, accepted}
 use Rattle.sheet.specs.Table.{tableOf}
 use Rattle.sheet.proofs.Laws.{cell-holder, cell-subdomain}
 use Rattle.sheet.proofs.Accepted.{Accepted, reading-accepted}
-use Rattle.sheet.proofs.Tables.{length-table, table-outside, table-sum, table-within}
+use Rattle.sheet.proofs.Tables.{table-outside, table-sum, table-within}
 use Rattle.plan.specs.Tree.{at, helpandsBelow, Tree}
 use Rattle.plan.specs.Plan.{readPlan, helpandsOf}
 use Rattle.plan.proofs.Accepted.{plan-accepted, helpands-are}
@@ -28,7 +27,6 @@ use Rattle.plan.proofs.Trees.{tree-below}
 use Rattle.tree.specs.Totals.{held, totalOf, totalsOf}
 use Rattle.tree.proofs.Tabulate.{tabulate-at, length-tabulate}
 use Rattle.tree.proofs.Totalled.{totals-sum}
-use Rattle.decide.specs.declared.Decision.{Decision}
 use Rattle.decide.specs.Decide.{ownNumbers, decided}
 use Rattle.decide.proofs.Decided.{Given, Fine, decided-fine}
 use Rattle.planner.specs.Step.{OldAnswer, oldRefused, oldRead, readOld, oldHelpands, decisionIn, Read}

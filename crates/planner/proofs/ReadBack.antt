@@ -10,22 +10,19 @@ use lib.Dec.{eqb, ltb}
 use lib.ListN.{length, take, drop}
 use lib.Seq.{take-at, take-all, take-length}
 use Rattle.fold.proofs.Tests.{passed, handed}
-use Rattle.words.specs.Buffer.{placed}
 use Rattle.sheet.specs.declared.Sheet.{Sheet}
-use Rattle.sheet.specs.declared.SheetAnswer.{SheetAnswer}
 use Rattle.sheet.specs.Sheet.{readSheet}
 use Rattle.sheet.specs.Table.{tableIn}
-use Rattle.sheet.proofs.Accepted.{Accepted, sheet-accepted}
+use Rattle.sheet.proofs.Accepted.{sheet-accepted}
 use Rattle.plan.specs.Plan.{readPlan, helpandsOf, sharesOf, accepted as planAccepted}
 use Rattle.moves.specs.Moves.{readMoves, routesOf, countsOf, accepted as movesAccepted}
 use Rattle.moves.proofs.RoundTrip.{Writable, read-written, routes-written, counts-written}
-use Rattle.transfer.specs.Carry.{Acceptable}
 use Rattle.transfer.specs.Matching.{allRoutes, allCounts}
 use Rattle.transfer.proofs.Carrying.{Carries}
 use Rattle.weigh.specs.Weigh.{totalsIn}
 use Rattle.decide.proofs.Decided.{Fine}
 use Rattle.planner.specs.declared.StepAnswer.{StepAnswer}
-use Rattle.planner.specs.Step.{refused, planned, OldAnswer, readOld, decisionIn, planIn, dueIn, movesOf, movesIn, writtenAnswer, stepAnswer, after, Read}
+use Rattle.planner.specs.Step.{refused, planned, readOld, decisionIn, planIn, dueIn, movesOf, movesIn, writtenAnswer, stepAnswer, after, Read}
 use Rattle.planner.proofs.Facts.{decision-fine}
 use Rattle.planner.proofs.Records.{carries-due}
 

@@ -8,7 +8,7 @@ use sheet::SheetRefusal;
 ghost use mathlib.Core.Path.{_≡_};
 ghost use mathlib.Core.Logic.{_≢_};
 ghost use mathlib.Core.Bool.{true};
-ghost use Prim.Native.Nat.{_+_, _-_, _*_, _≤_};
+ghost use Prim.Native.Nat.{_+_, _*_, _≤_};
 ghost use lib.ListN.{length};
 ghost use Rattle.limit.specs.Limit.{maxNodes};
 ghost use Rattle.sheet.specs.Sheet.{answerOf as sheetAnswer};

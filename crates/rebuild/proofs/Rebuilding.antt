@@ -16,11 +16,9 @@ use Rattle.fold.specs.Best.{never}
 use Rattle.fold.proofs.Tests.{either, only-is, only-zero, all-at}
 use Rattle.fold.proofs.Sums.{sum-eq}
 use Rattle.fold.proofs.Scans.{best-found, best-some}
-use Rattle.limit.specs.Limit.{maxNodes, maxTotal, maxTolerance, limitOf}
-use Rattle.limit.proofs.Laws.{limit-max}
+use Rattle.limit.specs.Limit.{maxNodes, limitOf}
 use Rattle.plan.specs.Tree.{at, helpandsBelow, isRoot, walk, Tree}
 use Rattle.plan.proofs.Trees.{walk-own}
-use Rattle.plan.proofs.RoundTrip.{ReadBack, tree-read-written}
 use Rattle.tree.specs.Family.{helps, overHelpers}
 use Rattle.tree.specs.Totals.{tabulate}
 use Rattle.tree.specs.Division.{OnTarget, WithinLimit, load, ownOf}
@@ -294,13 +292,3 @@ module _ (nodes p : ℕ) (totals old : List ℕ)
     rebuilt-within =
         let o = rebuilt-on-target .2 .on-target in
         record { division = o .division; within = λ n b. omega (arith, o .on n b, target-limit nodes p t some n) }
-
-    -- THEOREM. The plan of kind 2 that is written of the new tree and shares is read back.
-    pub rebuilt-read : nodes ≢ 1 → p ≤ maxTotal → t ≤ maxTolerance → let r = rebuiltOf nodes p totals old in
-        ReadBack nodes 2 (limitOf p nodes t) (r .helpands) (r .shares)
-    rebuilt-read d hp ht =
-        let r = rebuiltOf nodes p totals old in
-        let b = rebuilt-on-target .2 in
-        tree-read-written nodes (limitOf p nodes t) (r .helpands) (r .shares) few (limit-max p nodes t hp some ht)
-        (omega (arith, b .helpands-long)) (omega (arith, b .shares-long)) 2 (rebuilt-on-target .0) (λ e. omega arith) (omega arith) d (b .tree)
-        (λ k l. omega (arith, b .under-target k l, target-limit nodes p t some k)) (b .root-share)

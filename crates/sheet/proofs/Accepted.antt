@@ -1,8 +1,8 @@
 -- What is known of a sheet that was accepted, and that the answer in numbers determines the reading. Assumes nothing.
 use mathlib.Core.Path.{_≡_, refl, sym, ap, _∙_}
 use mathlib.Core.List.{List}
-use mathlib.Core.Bool.{Bool, true, false, not, cond, _||_}
-use Prim.Native.Nat.{ℕ, zero, suc, _+_, _*_, _≤_, _<_}
+use mathlib.Core.Bool.{true, not, _||_}
+use Prim.Native.Nat.{ℕ, _+_, _*_, _≤_, _<_}
 use native.Mathlib.Omega.{arith}
 use borrow.Author.Tests.{ltb-false, eqb-true, not-false}
 use lib.Dec.{ltb, eqb}
@@ -10,14 +10,14 @@ use lib.ListN.{length, getD}
 use Rattle.fold.specs.Rising.{rising}
 use Rattle.fold.proofs.Tests.{passed, or-left, or-right}
 use Rattle.fold.proofs.Lists.{rising-at}
-use Rattle.limit.specs.Limit.{maxNodes, maxTolerance, maxTotal, limitOf}
-use Rattle.words.specs.Words.{words, part}
+use Rattle.limit.specs.Limit.{maxNodes, maxTolerance, limitOf}
+use Rattle.words.specs.Words.{words}
 use Rattle.words.proofs.Words.{length-words, length-part, part-at}
 use Rattle.sheet.specs.declared.Sheet.{Sheet}
 use Rattle.sheet.specs.declared.SheetAnswer.{SheetAnswer}
 use Rattle.sheet.specs.declared.CountSum.{CountSum}
 use Rattle.sheet.specs.declared.CountSum.the-variants.{Sum, Bad}
-use Rattle.sheet.specs.Sheet.{accepted, refused, refusalNumber, answerOf, cellsOf, countsOf, cellFine, runningSum, summedAnswer, entriesAnswer, headAnswer, readSheet}
+use Rattle.sheet.specs.Sheet.{accepted, refused, cellsOf, countsOf, cellFine, runningSum, summedAnswer, headAnswer, readSheet}
 use Rattle.sheet.proofs.Laws.{cell-below, Summed, summed}
 
 pub record Accepted (s : List ℕ) (a : SheetAnswer) : Type 0 where

@@ -1,6 +1,6 @@
 -- Laws of *read sheet*'s parts: a cell's nodes, and the running sum, one law for each way that a turn of its loop can go.
 -- Assumes nothing.
-use mathlib.Core.Path.{_≡_, refl, sym, ap, _∙_}
+use mathlib.Core.Path.{_≡_, refl, ap, _∙_}
 use mathlib.Core.List.{List, [], _∷_}
 use mathlib.Core.Bool.{Bool, true, false, cond}
 use Prim.Native.Nat.{ℕ, zero, suc, _+_, _*_, _/_, _%_, _≤_, _<_}
@@ -11,7 +11,6 @@ use lib.ListN.{length, getD}
 use Rattle.fold.specs.Sum.{total}
 use Rattle.fold.proofs.Tests.{and-left, and-right, and-both}
 use Rattle.limit.specs.Limit.{maxTotal}
-use Rattle.sheet.specs.declared.CountSum.{CountSum}
 use Rattle.sheet.specs.declared.CountSum.the-variants.{Sum, Bad}
 use Rattle.sheet.specs.Sheet.{cellFine, runningSum}
 

@@ -3,25 +3,24 @@
 use mathlib.Core.Path.{_≡_, refl, sym, ap, ap₂, _∙_}
 use mathlib.Core.Logic.{_≢_, _⊎_, inl, inr}
 use mathlib.Core.List.{List, [], _∷_, _++_, map, map-append}
-use mathlib.Core.Bool.{Bool, true, false, not, cond, _||_, true≢false, false≢true}
-use Prim.Native.Nat.{ℕ, zero, suc, _+_, _*_, _-_, _/_, _%_, _≤_, _<_, _^_, min}
+use mathlib.Core.Bool.{Bool, true, false}
+use Prim.Native.Nat.{ℕ, zero, suc, _+_, _*_, _-_, _/_, _%_, _≤_, _<_, _^_}
 use native.Mathlib.Decide.{ℕ-discrete}
-use native.Mathlib.Nat.{add-zero, add-suc}
-use native.Mathlib.Numerals.{add-one}
+use native.Mathlib.Nat.{add-zero}
 use native.Mathlib.Omega.{arith}
-use borrow.Author.Tests.{lt-ltb, le-ltb, eq-eqb, ne-eqb}
-use lib.Dec.{ltb, eqb}
+use borrow.Author.Tests.{lt-ltb, le-ltb, eq-eqb}
+use lib.Dec.{ltb}
 use lib.ListN.{length, getD, take, length-append, length-map}
 use lib.Seq.{ext-getD}
 use Rattle.fold.specs.Sum.{only, sum, total}
 use Rattle.fold.specs.Collect.{collect}
 use Rattle.fold.specs.Rising.{rising}
 use Rattle.fold.proofs.Tests.{either}
-use Rattle.fold.proofs.Sums.{sum-none, sum-suc, sum-le, sum-eq, sum-split, sum-below, sum-term, sum-zeros, total-append}
+use Rattle.fold.proofs.Sums.{sum-none, sum-suc, sum-eq, sum-split, sum-below, sum-term, sum-zeros, total-append}
 use Rattle.fold.proofs.Lists.{rises, rising-more, rising-none, rising-from, rising-at, collect-front, collect-eq, map-at}
 use Rattle.limit.specs.Limit.{maxNodes, maxTolerance, maxTotal, limitOf}
-use Rattle.words.specs.Words.{words, encode, part}
-use Rattle.words.proofs.Words.{Below, below-none, below-cons, below-append, words-encode, encode-words, length-encode, part-first, part-second, take-three, record-split}
+use Rattle.words.specs.Words.{words, encode}
+use Rattle.words.proofs.Words.{Below, below-none, below-cons, below-append, words-encode, encode-words, part-first, part-second, take-three, record-split}
 use Rattle.sheet.specs.declared.CountSum.the-variants.{Sum}
 use Rattle.sheet.specs.declared.SheetAnswer.{SheetAnswer}
 use Rattle.sheet.specs.Sheet.{accepted, cellsOf, countsOf, cellFine, runningSum, readSheet}

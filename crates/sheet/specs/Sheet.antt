@@ -1,13 +1,12 @@
 -- Document 01, *Read sheet*: "gives N, t, E, P, L", and its refusals 1 to 7, from the list of a sheet's bytes.
 use Prim.Native.Nat.{ℕ, _+_, _*_, _/_, _%_}
 use mathlib.Core.List.{List, [], _∷_}
-use mathlib.Core.Bool.{Bool, true, false, cond, _||_, _&&_, not}
+use mathlib.Core.Bool.{Bool, cond, _||_, _&&_, not}
 use lib.ListN.{length, getD}
-use lib.Dec.{ltb, leb, eqb}
+use lib.Dec.{ltb, eqb}
 use Rattle.fold.specs.Rising.{rising}
 use Rattle.limit.specs.Limit.{maxNodes, maxTolerance, maxTotal, limitOf}
 use Rattle.words.specs.Words.{words, part}
-use Rattle.sheet.specs.declared.Sheet.{Sheet}
 use Rattle.sheet.specs.declared.SheetRefusal.{SheetRefusal}
 use Rattle.sheet.specs.declared.SheetRefusal.the-variants.{Short, Nodes, Tolerance, Entries, Length, Cell, Count}
 use Rattle.sheet.specs.declared.SheetReading.{SheetReading}

@@ -3,7 +3,7 @@
 use mathlib.Core.Path.{_≡_, refl, sym, ap, _∙_}
 use mathlib.Core.Logic.{_≢_}
 use mathlib.Core.Bool.{true}
-use Prim.Native.Nat.{ℕ, zero, suc, _-_, _≤_, _<_}
+use Prim.Native.Nat.{ℕ, zero, suc, _-_, _<_}
 use native.Mathlib.Numerals.{sub-one}
 use native.Mathlib.Omega.{arith}
 use lib.Dec.{leb}
@@ -71,10 +71,6 @@ module _ (nodes : ℕ) (h total : ℕ → ℕ) (limit : ℕ) where
       ∙ ap (λ (x : ℕ). total n - x)
       (helpers-eq nodes h n (λ k. limit - lst k) (spareWithin nodes h total limit depth)
       (λ k b e. ap (λ (x : ℕ). limit - x) (solved lst eqs depth k b (s k b e))))
-
-  pub least-total : (n : ℕ) → least nodes h total limit n ≤ total n
-  unfolding leastWithin
-  least-total n = omega arith
 
   -- what `holds` of the code says of the array of leasts
   pub holds-tabulated : all nodes (λ n. leb (at (tabulate nodes (least nodes h total limit)) n) limit) ≡ holds nodes h total limit

@@ -1,13 +1,12 @@
 -- Laws of stores into a lent buffer: runs of words, one after the other, and apart from each other. Assumes nothing.
 use mathlib.Core.Path.{_≡_, refl, sym, ap, _∙_}
-use mathlib.Core.Logic.{_≢_}
 use mathlib.Core.List.{List, [], _∷_, _++_}
-use Prim.Native.Nat.{ℕ, zero, suc, _+_, _*_, _≤_, _<_}
+use Prim.Native.Nat.{ℕ, suc, _+_, _*_, _≤_, _<_}
 use native.Mathlib.Nat.{suc-add, add-suc, add-zero, zero-add}
 use native.Mathlib.Numerals.{add-one, add-two, add-three}
 use native.Mathlib.Omega.{arith}
 use borrow.Author.Tests.{lt-ltb, le-ltb}
-use lib.ListN.{length, set, drop, length-set, length-append}
+use lib.ListN.{length, set, length-set, length-append}
 use lib.Seq.{sets, sets-eq, set-comm}
 use Rattle.words.specs.Words.{bytesOf, encode, putWord}
 use Rattle.words.specs.declared.Written.the-variants.{Bytes, Short}

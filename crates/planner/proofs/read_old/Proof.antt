@@ -1,7 +1,6 @@
 -- `planner::read_old` meets its contract: each way out gives the answer of the first check that decides. Assumes nothing.
 use borrow.Author.Needs.{needs}
 use mathlib.Core.Path.{_≡_, sym, ap, _∙_}
-use Prim.Native.Nat.{ℕ}
 use native.Mathlib.Omega.{arith}
 use denote.Ref.{now}
 use Rattle.plan.specs.declared.PlanAnswer.{PlanAnswer}

@@ -1,6 +1,6 @@
 -- `sheet::answer` meets its contract, case by case. Assumes nothing.
 use borrow.Author.Needs.{needs}
-use mathlib.Core.Path.{_≡_, sym, ap, _∙_}
+use mathlib.Core.Path.{sym, ap, _∙_}
 use Rattle.sheet.specs.Sheet.{refused, answerOf}
 use Rattle.sheet.proofs.answer.Statement.{statement}
 use Rattle.sheet.proofs.answer.Tie as tie

@@ -1,6 +1,6 @@
 -- `sheet::read_entries` meets its contract: each way out gives the answer of the first check that refuses. Assumes nothing.
 use borrow.Author.Needs.{needs}
-use mathlib.Core.Path.{_≡_, sym, ap, _∙_}
+use mathlib.Core.Path.{sym, _∙_}
 use native.Mathlib.Omega.{arith}
 use denote.Ref.{now}
 use Rattle.sheet.specs.Sheet.{countsOf}

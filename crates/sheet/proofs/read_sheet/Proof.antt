@@ -1,6 +1,6 @@
 -- `sheet::read_sheet` meets its contract: each way out gives the answer of the first check that refuses. Assumes nothing.
 use borrow.Author.Needs.{needs}
-use mathlib.Core.Path.{_≡_, refl, sym, ap, _∙_}
+use mathlib.Core.Path.{_≡_, sym, _∙_}
 use mathlib.Core.Bool.{not}
 use Prim.Native.Nat.{_+_, _*_}
 use lib.Dec.{ltb, eqb}

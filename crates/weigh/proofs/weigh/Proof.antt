@@ -1,7 +1,6 @@
 -- `weigh::weigh` meets its contract: the sheet's refusal, then the plan's, then what the pair of them gives. Assumes nothing.
 use borrow.Author.Needs.{needs}
 use mathlib.Core.Path.{_≡_, sym, ap, _∙_}
-use Prim.Native.Nat.{ℕ}
 use native.Mathlib.Omega.{arith}
 use lib.ListN.{length}
 use denote.Ref.{now}

@@ -1,6 +1,6 @@
 -- `words::put_words` meets its contract: after i turns the first i words are stored, as one run of bytes. Assumes nothing.
 use borrow.Author.Needs.{needs}
-use mathlib.Core.Path.{_≡_, refl, sym, ap, _∙_}
+use mathlib.Core.Path.{_≡_, refl, ap, _∙_}
 use mathlib.Core.List.{List}
 use Prim.Native.Nat.{ℕ, _+_, _*_, _-_, _≤_, _<_}
 use native.Mathlib.Omega.{arith}
@@ -9,7 +9,7 @@ use lib.Seq.{sets}
 use denote.Ref.{now}
 use Rattle.words.specs.Words.{encode, putWord}
 use Rattle.words.proofs.Words.{encode-more}
-use Rattle.words.proofs.Buffer.{put-behind, length-put}
+use Rattle.words.proofs.Buffer.{put-behind}
 use Rattle.words.proofs.put_words.Statement.{statement}
 use Rattle.words.proofs.put_words.Tie as tie
 

@@ -7,8 +7,7 @@ use native.Mathlib.Numerals.{unary-clauses}
 use native.Mathlib.Omega.{arith}
 use lib.ListN.{length, drop, replicate}
 use denote.Ref.{now}
-use Rattle.words.specs.Words.{words, part, padded}
-use Rattle.words.specs.Buffer.{placed}
+use Rattle.words.specs.Words.{words, part}
 use Rattle.words.proofs.words_64.Statement.{statement}
 use Rattle.words.proofs.words_64.Tie as tie
 

@@ -10,11 +10,10 @@ use lib.ListN.{length, getD, length-append, length-set, length-map}
 use lib.Seq.{sets}
 use denote.Ref.{now}
 use Rattle.fold.specs.Collect.{collect}
-use Rattle.fold.proofs.Lists.{collect-none, collect-grows}
 use Rattle.words.specs.Words.{encode, putWord}
 use Rattle.words.proofs.Buffer.{record-placed}
 use Rattle.sheet.specs.Write.{filled, sheetBytes}
-use Rattle.sheet.proofs.Filled.{counts, cell-more, cells-skip, cells-one, cells-le, store-one}
+use Rattle.sheet.proofs.Filled.{counts, cell-more, cells-skip, cells-one, store-one}
 use Rattle.sheet.proofs.write.put_sheet.Statement.{statement}
 use Rattle.sheet.proofs.write.put_sheet.Tie as tie
 
