@@ -1,35 +1,29 @@
 -- What carrying out needs of a sheet and moves that were accepted, the checks one by one, and the sheet that is written. Assumes
 -- nothing.
 use mathlib.Core.Path.{_≡_, refl, sym, ap, _∙_}
-use mathlib.Core.Bool.{Bool, true, false, cond, true≢false, false≢true}
+use mathlib.Core.Bool.{Bool, true, false, cond}
 use mathlib.Core.List.{List}
-use Prim.Native.Nat.{ℕ, _-_, _*_, _≤_, _<_, _^_}
-use native.Mathlib.Nat.{mul-le-mul}
+use Prim.Native.Nat.{ℕ, _*_, _≤_, _<_, _^_}
 use native.Mathlib.Omega.{arith}
 use borrow.Author.Tests.{lt-ltb, le-ltb, ltb-false, ltb-true, eq-eqb, ne-eqb}
 use lib.Dec.{ltb, eqb}
-use lib.ListN.{length, getD, take, drop, length-append}
-use lib.Seq.{take-at, getD-take}
-use Rattle.fold.specs.Sum.{sum}
-use Rattle.limit.specs.Limit.{maxNodes, maxTotal}
+use lib.ListN.{length}
+use Rattle.limit.specs.Limit.{maxNodes}
 use Rattle.words.specs.Buffer.{placed, written, writing}
 use Rattle.words.specs.declared.Written.the-variants.{Bytes, Short}
-use Rattle.plan.specs.Tree.{at}
 use Rattle.sheet.specs.declared.Sheet.{Sheet}
 use Rattle.sheet.specs.declared.SheetAnswer.{SheetAnswer}
 use Rattle.sheet.specs.Sheet.{readSheet, accepted as sheetAccepted}
 use Rattle.sheet.specs.Table.{tableOf}
 use Rattle.sheet.specs.Write.{sheetBytes}
 use Rattle.sheet.proofs.Accepted.{Accepted as AcceptedSheet, reading-accepted}
-use Rattle.sheet.proofs.Tables.{table-within}
+use Rattle.sheet.proofs.Tables.{length-table, table-within}
 use Rattle.sheet.proofs.Filled.{cells-le, length-sheet}
 use Rattle.moves.specs.declared.Moves.{Moves}
 use Rattle.moves.specs.declared.MovesAnswer.{MovesAnswer}
 use Rattle.moves.specs.Moves.{readMoves, routesOf, countsOf, accepted as movesAccepted}
-use Rattle.moves.proofs.Accepted.{Accepted as AcceptedMoves, moves-accepted, routes-are, counts-are}
-use Rattle.transfer.specs.Carry.{sendsWithin, carried, afterMoves, Acceptable}
-use Rattle.transfer.specs.declared.carry.AfterMoves.{AfterMoves}
-use Rattle.transfer.proofs.Kept.{acceptable-below}
+use Rattle.moves.proofs.Accepted.{Accepted as AcceptedMoves, moves-accepted, routes-are, counts-are, route-at}
+use Rattle.transfer.specs.Carry.{sendsWithin, carried, Acceptable, Ready}
 use Rattle.carry.specs.declared.CarryAnswer.{CarryAnswer}
 use Rattle.carry.specs.Carry.{refused, accepted, withinIn, nextTable, nextSheet, pairAnswer, carryAnswer, bytesAfter, pairNext, Read}
 
@@ -42,43 +36,34 @@ moves-acceptable m a k =
     let l = routes-are m a k in
     record { same = l ∙ sym (counts-are m a k); few = omega (arith, k .e-high); routes-fine = k .routes; counts-fine = k .counts }
 
--- an array of 4,096 holds them all
-pub moves-few : (m : List ℕ) (a : MovesAnswer) → AcceptedMoves m a → a .e ≤ 4096
-moves-few m a k =
-    let less : a .n - 1 ≤ 64 = omega (arith, k .n-high) in
-    omega (arith, mul-le-mul (k .n-high) less, k .e-high)
-
--- ---- an array whose first e entries are xs
-
-module _ (xs out ys : List ℕ) (e : ℕ) (l : length xs ≡ e) (q : ys ≡ placed xs out) where
-  pub front-is : take e ys ≡ xs
-  front-is = ap (take e) q ∙ take-at xs (drop (length xs) out) e l
-
-  pub front-long : e ≤ length ys
-  front-long = omega (arith, ap length q, length-append xs (drop (length xs) out))
-
-  pub front-at : (i : ℕ) → i < e → getD ys i 0 ≡ getD xs i 0
-  front-at i h = sym (getD-take e ys i 0 h) ∙ ap (λ (zs : List ℕ). getD zs i 0) front-is
-
 -- ---- what the inner functions ask
 
 module _ (s m : List ℕ) (h : Sheet) (q : Moves) (r : Read s m h q) where
   pub sheet-facts : AcceptedSheet s (sheetAccepted (h .n) (h .t) (h .e) (h .p) (h .limit))
   sheet-facts = reading-accepted s h (r .sheet)
 
-  pub moves-facts : AcceptedMoves m (movesAccepted (q .n) (q .e))
+  moves-facts : AcceptedMoves m (movesAccepted (q .n) (q .e))
   moves-facts = rw (r .moves) (moves-accepted m (ap (λ (a : MovesAnswer). a .refusal) (sym (r .moves))))
 
-  -- the table's sum does not wrap
-  pub sum-within : sum 4096 (at (tableOf s (h .e))) ≤ maxTotal
-  sum-within = table-within s (sheetAccepted (h .n) (h .t) (h .e) (h .p) (h .limit)) sheet-facts
+  -- ---- the sheet's table, as it is unpacked
 
-  -- each route is one of 64 × 4,096
-  pub route-below : (i : ℕ) → i < q .e → getD (routesOf m (q .e)) i 0 < 262144
-  route-below i l =
-      let a = movesAccepted (q .n) (q .e) in
-      acceptable-below (q .n) (moves-facts .n-high) (routesOf m (q .e)) (countsOf m (q .e)) (moves-acceptable m a moves-facts) i
-      (omega (arith, routes-are m a moves-facts))
+  module _ (table : List ℕ) (is : table ≡ tableOf s (h .e)) where
+    -- what testing and applying the moves ask
+    pub ready : Ready table m (q .e)
+    ready =
+        rw is
+        (record {
+          size = length-table s (h .e);
+          small = table-within s (sheetAccepted (h .n) (h .t) (h .e) (h .p) (h .limit)) sheet-facts;
+          long = omega (arith, moves-facts .size);
+          below = λ i l. omega (arith, route-at m (movesAccepted (q .n) (q .e)) moves-facts i l .subdomain-below, moves-facts .n-high);
+        })
+
+    pub within-is : sendsWithin table (routesOf m (q .e)) (countsOf m (q .e)) ≡ withinIn s m
+    within-is = rw (is, ← r .sheet, ← r .moves)
+
+    pub carried-is : carried table (routesOf m (q .e)) (countsOf m (q .e)) ≡ nextTable s m
+    carried-is = rw (is, ← r .sheet, ← r .moves)
 
   -- ---- one law for each way that the checks of a pair can go
 
@@ -103,29 +88,6 @@ module _ (s m : List ℕ) (h : Sheet) (q : Moves) (r : Read s m h q) where
           → pairAnswer s m size ≡ accepted (length (nextSheet s m))
       unfolding pairAnswer
       pair-carried w l = rw (same, w, le-ltb size (length (nextSheet s m)) l)
-
--- ---- the table after the moves
-
-module _ (table routes counts : List ℕ) (x : AfterMoves) (e : x ≡ afterMoves table routes counts) where
-  abbrev within : Bool
-  within = sendsWithin table routes counts
-
-  abbrev after : Bool → AfterMoves
-  after b = cond b (record { refused = false; table = carried table routes counts }) (record { refused = true; table = table })
-
-  pub after-refused : x .refused ≡ true → within ≡ false
-  after-refused y = go within refl e
-    where
-      go : (b : Bool) → within ≡ b → x ≡ after b → within ≡ false
-      go true w q = absurd (true≢false (sym y ∙ ap (λ (a : AfterMoves). a .refused) q))
-      go false w q = w
-
-  pub after-carried : x .refused ≡ false → (within ≡ true) × (x .table ≡ carried table routes counts)
-  after-carried y = go within refl e
-    where
-      go : (b : Bool) → within ≡ b → x ≡ after b → (within ≡ true) × (x .table ≡ carried table routes counts)
-      go true w q = (w, ap (λ (a : AfterMoves). a .table) q)
-      go false w q = absurd (false≢true (sym y ∙ ap (λ (a : AfterMoves). a .refused) q))
 
 -- ---- what is written
 

@@ -5,13 +5,10 @@ use moves::MovesRefusal;
 use sheet::Sheet;
 use sheet::SheetReading;
 use sheet::SheetRefusal;
-use transfer::carry::AfterMoves;
 use words::Written;
 ghost use mathlib.Core.Path.{_≡_};
 ghost use lib.ListN.{length};
-ghost use Rattle.sheet.specs.Table.{tableIn};
-ghost use Rattle.transfer.specs.Carry.{afterMoves};
-ghost use Rattle.carry.specs.Carry.{Read, routesIn, countsIn, pairAnswer, pairNext, carryAnswer, nextAfter, numberOf, answerOf};
+ghost use Rattle.carry.specs.Carry.{Read, pairAnswer, pairNext, carryAnswer, nextAfter, numberOf, answerOf};
 
 // Why carrying out is refused, in the order of the checks.
 pub enum CarryRefusal {
@@ -35,20 +32,6 @@ pub struct CarryAnswer {
     pub bytes: u32,
 }
 
-// The table after the moves, for a sheet and moves that were read, or that some cell sends too much.
-fn table_after(sheet: &[u8], moves: &[u8], s: Sheet, m: Moves) -> AfterMoves
-    requires { ⌜ Read (now sheet) (now moves) s m ⌝ }
-    ensures { λ r. ⌜ r ≡ afterMoves (tableIn (now (sheet .entry))) (routesIn (now (moves .entry))) (countsIn (now (moves .entry))) ⌝ }
-{
-    let e = m.e as usize;
-    let mut routes = [0u32; 4096];
-    words::get_words(moves, 2, e, &mut routes);
-    let mut counts = [0u32; 4096];
-    words::get_words(moves, 2 + e, e, &mut counts);
-    let table = sheet::table::unpack(sheet, s.e as usize);
-    transfer::carry::apply_moves(table, &routes, &counts, e)
-}
-
 // Carries out moves on a sheet, both read.
 fn carry_read(sheet: &[u8], moves: &[u8], s: Sheet, m: Moves, next: &mut [u8]) -> Carrying
     requires { ⌜ Read (now sheet) (now moves) s m ⌝ }
@@ -58,11 +41,13 @@ fn carry_read(sheet: &[u8], moves: &[u8], s: Sheet, m: Moves, next: &mut [u8]) -
     if s.n != m.n {
         return Carrying::Refused(CarryRefusal::NodesDiffer);
     }
-    let after = table_after(sheet, moves, s, m);
-    if after.refused {
+    let mut table = sheet::table::unpack(sheet, s.e as usize);
+    let e = m.e as usize;
+    if !transfer::carry::sends_within(&table, moves, e) {
         return Carrying::Refused(CarryRefusal::Sends);
     }
-    match sheet::write::write_sheet(next, s.n, s.t, &after.table) {
+    transfer::carry::apply_moves(&mut table, moves, e);
+    match sheet::write::write_sheet(next, s.n, s.t, &table) {
         Written::Bytes(size) => Carrying::Carried(size as u32),
         Written::Short => Carrying::Refused(CarryRefusal::Buffer),
     }

@@ -7,30 +7,20 @@ use mathlib.Core.List.{List, [], _∷_}
 use Prim.Native.Nat.{ℕ, zero, suc, _+_, _-_, _≤_, _<_}
 use native.Mathlib.Nat.{add-zero}
 use native.Mathlib.Decide.{ℕ-discrete, decLt}
-use native.Mathlib.Numerals.{add-one}
 use native.Mathlib.Omega.{arith}
 use borrow.Author.Tests.{le-leb, leb-true, eq-eqb, ne-eqb}
 use lib.Dec.{leb, eqb}
-use lib.ListN.{length, getD, set, take, drop, length-set, length-take, drop-of-length-le, List·getD-eq-default}
-use lib.Seq.{set-out, getD-set-same, getD-set-other, getD-take, drop-cons, ext-getD}
+use lib.ListN.{length, getD, set, drop, length-set, List·getD-eq-default}
+use lib.Seq.{set-out, getD-set-same, getD-set-other, ext-getD}
 use Rattle.fold.specs.Sum.{only, sum}
 use Rattle.fold.proofs.Tests.{either, and-left, and-right, and-both, only-is, only-not}
 use Rattle.fold.proofs.Sums.{sum-set}
+use Rattle.words.specs.Words.{words}
+use Rattle.words.proofs.Words.{part-more}
 use Rattle.plan.specs.Tree.{at}
-use Rattle.transfer.specs.Carry.{fromCell, intoCell, sends, receives, withinFrom, sendsWithin, carriedFrom, carried}
+use Rattle.moves.specs.Moves.{routesOf, countsOf}
+use Rattle.transfer.specs.Carry.{fromCell, intoCell, sends, receives, withinFrom, sendsWithin, carriedFrom, carried, Ready}
 use Rattle.transfer.proofs.Ends.{moved-none, moved-one, moved-here}
-
--- ---- the entries that are left of the first e
-
-pub left-more : (xs : List ℕ) (e i : ℕ) → i < e → e ≤ length xs → drop i (take e xs) ≡ getD xs i 0 ∷ drop (i + 1) (take e xs)
-left-more xs e i h l =
-    let b : i < length (take e xs) = simp length-take (omega arith) in
-    rw (add-one, drop-cons (take e xs) i 0, getD-take)
-
-pub left-end : (xs : List ℕ) (e i : ℕ) → e ≤ i → drop i (take e xs) ≡ []
-left-end xs e i h =
-    let b : length (take e xs) ≤ i = simp length-take (omega arith) in
-    drop-of-length-le (take e xs) b
 
 -- ---- cells
 
@@ -39,6 +29,23 @@ from-below route h = omega arith
 
 pub into-below : (route : ℕ) → route < 262144 → intoCell route < 4096
 into-below route h = omega arith
+
+-- ---- the entry that was read: the moves left begin with it
+
+pub record Entry (moves : List ℕ) (e i route count : ℕ) : Type 0 where
+  pub below : route < 262144
+  pub routes : drop i (routesOf moves e) ≡ route ∷ drop (i + 1) (routesOf moves e)
+  pub counts : drop i (countsOf moves e) ≡ count ∷ drop (i + 1) (countsOf moves e)
+
+pub entry-read : (table moves : List ℕ) (e i : ℕ) → Ready table moves e → i < e → (route count : ℕ)
+    → route ≡ getD (words moves) (2 + i) 0 → count ≡ getD (words moves) (2 + e + i) 0 → Entry moves e i route count
+entry-read table moves e i ready h route count is-route is-count =
+    rw (is-route, is-count)
+    (record {
+      below = ready .below i h;
+      routes = part-more moves 2 e i h (omega (arith, ready .long));
+      counts = part-more moves (2 + e) e i h (omega (arith, ready .long));
+    })
 
 -- ---- the table that follows
 

@@ -125,10 +125,6 @@ module _ (nodes : ℕ) (h64 : nodes ≤ maxNodes) (routes counts : List ℕ) (a 
   pub acceptable-fine : Fine nodes routes
   acceptable-fine = rising-at (routeFine nodes) 0 routes (a .routes-fine)
 
-  -- what the functions ask of a route
-  pub acceptable-below : (i : ℕ) → i < length routes → getD routes i 0 < 262144
-  acceptable-below i l = route-below nodes h64 (getD routes i 0) (acceptable-fine i l)
-
 -- THEOREM. Accepted moves that are not refused with 42 keep each subdomain's total.
 pub total-kept : (nodes : ℕ) (table routes counts : List ℕ) → nodes ≤ maxNodes → length table ≡ 4096 → Acceptable nodes routes counts
     → sendsWithin table routes counts ≡ true → (n : ℕ) → n < nodes → totalOf nodes (carried table routes counts) n ≡ totalOf nodes table n

@@ -1,14 +1,16 @@
 -- Document 01, *Carry out*: refusal 42 and the table that follows.
 use mathlib.Core.Path.{_≡_}
-use Prim.Native.Nat.{ℕ, _+_, _-_, _*_, _≤_}
+use Prim.Native.Nat.{ℕ, _+_, _-_, _*_, _≤_, _<_}
 use mathlib.Core.List.{List, [], _∷_}
-use mathlib.Core.Bool.{Bool, true, false, cond, _&&_}
+use mathlib.Core.Bool.{Bool, true, _&&_}
 use lib.Dec.{leb, eqb}
-use lib.ListN.{length}
-use Rattle.fold.specs.Sum.{only}
+use lib.ListN.{length, getD}
+use Rattle.fold.specs.Sum.{only, sum}
 use Rattle.fold.specs.All.{every}
 use Rattle.fold.specs.Rising.{rising}
-use Rattle.transfer.specs.declared.carry.AfterMoves.{AfterMoves}
+use Rattle.limit.specs.Limit.{maxTotal}
+use Rattle.words.specs.Words.{words}
+use Rattle.plan.specs.Tree.{at}
 use Rattle.moves.specs.Moves.{subdomain, sender, receiver, routeFine, countFine}
 
 -- "A cell is holder × 64 + subdomain.": the cell that a route leads from, and the cell that it leads to
@@ -49,14 +51,17 @@ carriedFrom routes counts c (x ∷ table) = (x - sends routes counts c + receive
 abbrev pub carried : List ℕ → List ℕ → List ℕ → List ℕ
 carried table routes counts = carriedFrom routes counts 0 table
 
--- the table after moves, or that they are refused with 42 and the table as it was
-abbrev pub afterMoves : List ℕ → List ℕ → List ℕ → AfterMoves
-afterMoves table routes counts =
-    cond (sendsWithin table routes counts) (record { refused = false; table = carried table routes counts }) (record { refused = true; table = table })
-
 -- routes and counts that pass *read moves*' checks 33, 35 and 36
 pub record Acceptable (nodes : ℕ) (routes counts : List ℕ) : Type 0 where
   pub same : length routes ≡ length counts
   pub few : length routes ≤ nodes * (nodes - 1)
   pub routes-fine : rising (routeFine nodes) 0 routes ≡ true
   pub counts-fine : every countFine counts ≡ true
+
+-- what testing and applying moves ask: a table whose sum is in range, and the bytes of moves with e entries, each route one of
+-- 64 × 4,096
+pub record Ready (table moves : List ℕ) (e : ℕ) : Type 0 where
+  pub size : length table ≡ 4096
+  pub small : sum 4096 (at table) ≤ maxTotal
+  pub long : 4 * (2 + 2 * e) ≤ length moves
+  pub below : (i : ℕ) → i < e → getD (words moves) (2 + i) 0 < 262144
