@@ -1,13 +1,13 @@
 -- Divisions, trees and due amounts look at the nodes' own helpands and shares alone: two pairs of functions that agree below N give the
 -- same. So an array and what a record has of it may stand for each other. Assumes nothing.
 use mathlib.Core.Path.{_≡_, refl, sym, ap, ap₂, _∙_}
-use mathlib.Core.Bool.{Bool, cond, _&&_, not}
-use Prim.Native.Nat.{ℕ, zero, suc, _+_, _-_, _≤_, _<_}
+use mathlib.Core.Bool.{_&&_, not}
+use Prim.Native.Nat.{ℕ, zero, suc, _+_, _-_, _<_}
 use native.Mathlib.Omega.{arith}
 use lib.Dec.{eqb}
 use Rattle.fold.specs.Sum.{only}
 use Rattle.fold.proofs.Sums.{sum-eq}
-use Rattle.plan.specs.Tree.{isRoot, walk, Tree}
+use Rattle.plan.specs.Tree.{walk, Tree}
 use Rattle.tree.specs.Family.{helps, overHelpers}
 use Rattle.tree.specs.Division.{Division, WithinLimit, OnTarget, load, ownOf}
 use Rattle.transfer.specs.Due.{dueWith, dueOf}

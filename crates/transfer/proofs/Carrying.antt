@@ -10,8 +10,7 @@ use native.Mathlib.Decide.{ℕ-discrete}
 use native.Mathlib.Omega.{arith}
 use borrow.Author.Tests.{eq-eqb, ne-eqb}
 use lib.Dec.{eqb}
-use lib.ListN.{length, getD, drop, length-append}
-use lib.Seq.{take-at}
+use lib.ListN.{length, getD}
 use Rattle.fold.specs.Sum.{only, sum}
 use Rattle.fold.specs.All.{every}
 use Rattle.fold.specs.Collect.{collect}
@@ -20,7 +19,6 @@ use Rattle.fold.proofs.Tests.{either, and-left, and-right, and-both, only-is, o
 use Rattle.fold.proofs.Sums.{sum-add, sum-eq, sum-only, sum-term}
 use Rattle.fold.proofs.Lists.{rises, rising-more, rising-none, rising-from}
 use Rattle.limit.specs.Limit.{maxNodes, maxTotal}
-use Rattle.words.specs.Buffer.{placed}
 use Rattle.words.proofs.Words.{Below, below-none, below-append, below-tail}
 use Rattle.sheet.specs.Sheet.{cellFine}
 use Rattle.sheet.proofs.Laws.{cell-holder, cell-subdomain}
@@ -28,7 +26,6 @@ use Rattle.plan.specs.Tree.{at}
 use Rattle.tree.specs.Totals.{held, totalOf, totalsOf}
 use Rattle.tree.proofs.Tabulate.{tabulate-at}
 use Rattle.moves.specs.Moves.{subdomain, routeFine, countFine}
-use Rattle.moves.proofs.RoundTrip.{Writable}
 use Rattle.transfer.specs.Due.{dueOf, Allotted}
 use Rattle.transfer.specs.Matching.{surplusOf, shortageOf, movesIn, allRoutes, allCounts}
 use Rattle.transfer.specs.Carry.{fromCell, intoCell, moved, sends, receives, sendsWithin, carried, Acceptable}
@@ -225,17 +222,3 @@ pub carries-totals : (nodes : ℕ) (table totals : List ℕ) (h share : ℕ → 
     → totals ≡ totalsOf nodes table → Allotted nodes h (at totals) share → Carries nodes table (dueOf nodes h (at totals) share)
 carries-totals nodes table totals h share h64 size small e =
     carries nodes table h (at totals) share h64 size small (λ n l. ap (λ (xs : List ℕ). at xs n) e ∙ tabulate-at nodes (totalOf nodes table) n l)
-
--- the two arrays that hold accepted moves at their front can be written as a record
-pub moves-writable : (nodes : ℕ) (routes counts routes₀ counts₀ : List ℕ) → 1 ≤ nodes → nodes ≤ maxNodes → Acceptable nodes routes counts
-    → Writable nodes (length routes) (placed routes routes₀) (placed counts counts₀)
-moves-writable nodes routes counts routes₀ counts₀ low high a =
-    record {
-      n-low = low;
-      n-high = high;
-      e-high = a .few;
-      routes-long = omega (arith, length-append routes (drop (length routes) routes₀));
-      counts-long = omega (arith, length-append counts (drop (length counts) counts₀), a .same);
-      routes-fine = rw (take-at routes (drop (length routes) routes₀) (length routes) refl) (a .routes-fine);
-      counts-fine = rw (take-at counts (drop (length counts) counts₀) (length routes) (sym (a .same))) (a .counts-fine);
-    }

@@ -12,12 +12,11 @@ use lib.Seq.{getD-set-same, getD-set-other}
 use borrow.Author.Tests.{eq-eqb, ne-eqb}
 use Rattle.fold.specs.Sum.{only, sum}
 use Rattle.fold.proofs.Tests.{only-is, only-not}
-use Rattle.fold.proofs.Sums.{sum-more, sum-eq, sum-add, sum-only, sum-split, sum-zeros}
+use Rattle.fold.proofs.Sums.{sum-more, sum-eq, sum-add, sum-only, sum-split}
 use Rattle.plan.specs.Tree.{at}
 use Rattle.tree.specs.Family.{helps, overHelpers}
 use Rattle.tree.proofs.Families.{helps-yes, helps-other, helps-self}
-use Rattle.tree.specs.Division.{Division}
-use Rattle.transfer.specs.Due.{dueWith, dueOf, Allotted}
+use Rattle.transfer.specs.Due.{dueWith, dueOf}
 
 module _ (h share : ℕ → ℕ) (own n k : ℕ) where
   pub due-owner : k ≡ n → dueWith h share own n k ≡ own
@@ -52,23 +51,6 @@ due-sum nodes h total share n l e =
       sum-add nodes (λ k. only (helps h n k) (share k)) (λ k. only (eqb k n) own),
       sum-only nodes (λ k. own) n l,
     )
-
--- ---- where no owner's helpers are given more than there is
-
--- in a division
-pub allotted-division : (nodes : ℕ) (h total own share : ℕ → ℕ) → ((k : ℕ) → k < nodes → h k < nodes) → Division nodes h total own share → Allotted nodes h total share
-allotted-division nodes h total own share inside d = record { inside = inside; enough = λ n l. omega (arith, d .parts n l) }
-
--- and where nobody helps, as in kind 0
-pub allotted-roots : (nodes : ℕ) (h total share : ℕ → ℕ) → ((k : ℕ) → k < nodes → h k ≡ k) → Allotted nodes h total share
-allotted-roots nodes h total share root =
-    record {
-      inside = λ k l. omega (arith, root k l);
-      enough = λ n l. omega (arith, sum-zeros nodes (λ k. only (helps h n k) (share k)) (λ k b. only-not (helps h n k) (share k) (alone n k b)));
-    }
-  where
-    alone : (n k : ℕ) → k < nodes → helps h n k ≡ false
-    alone n k b = elim (ℕ-discrete k n) [ yes e ↦ helps-self h n k e | no d ↦ helps-other h n k (λ e. d (sym (root k b) ∙ e)) ]
 
 -- ---- one more node in a sum over helpers
 

@@ -58,7 +58,6 @@ pub record Pending (nodes : ℕ) (surplus shortage : ℕ → ℕ) (n : ℕ) (rou
   pub s-le : s ≤ nodes
   pub r-le : r ≤ nodes
   pub left-is : s < nodes → sent + left ≡ surplus s
-  pub left-some : s < nodes → 0 < left
   pub missing-is : r < nodes → got + missing ≡ shortage r
   pub moves : Left n routes₀ counts₀ e whole routes counts entries (rest nodes surplus shortage s sent r got)
 
@@ -92,7 +91,6 @@ module _ (nodes : ℕ) (surplus shortage : ℕ → ℕ) where
         s-le = x .node-le;
         r-le = y .node-le;
         left-is = λ h. omega (arith, x .is h);
-        left-some = x .some;
         missing-is = λ h. omega (arith, y .is h);
         moves = rw q (left-all n routes counts e (rest nodes surplus shortage s 0 r 0));
       }
@@ -141,7 +139,6 @@ module _ (nodes : ℕ) (surplus shortage : ℕ → ℕ) where
               s-le = x .node-le;
               r-le = p .r-le;
               left-is = λ l. omega (arith, x .is l);
-              left-some = x .some;
               missing-is = λ l. omega (arith, p .missing-is hr);
               moves = behind (rest nodes surplus shortage (s + 1) 0 r (p .got + v)) (rest nodes surplus shortage s′ 0 r (p .got + v)) (sender-rest h) (to-sender (s + 1) s′ left′ r (p .got + v) hr x);
             }
@@ -155,7 +152,6 @@ module _ (nodes : ℕ) (surplus shortage : ℕ → ℕ) where
               s-le = p .s-le;
               r-le = y .node-le;
               left-is = λ l. omega (arith, p .left-is hs);
-              left-some = λ l. omega arith;
               missing-is = λ l. omega (arith, y .is l);
               moves = behind (rest nodes surplus shortage s (p .sent + v) (r + 1) 0) (rest nodes surplus shortage s (p .sent + v) r′ 0) (receiver-rest h)
                   (to-receiver s (p .sent + v) (r + 1) r′ missing′ (λ l. omega (arith, p .left-is hs)) y);
