@@ -50,14 +50,14 @@ pub fn sheet(bytes: &[u8]) -> Vec<u32> {
     let (n, t, e) = (number(&words, 0), number(&words, 1), number(&words, 2));
     let cells = stretch(&words, 3, e.unwrap_or(0));
     let counts = stretch(&words, 3 + e.unwrap_or(0), e.unwrap_or(0));
-    let no_node = |cell: u64| n.is_some_and(|n| cell / 64 >= n || cell % 64 >= n);
+    let no_node = |cell: u64| there_and(n, |n| cell / 64 >= n || cell % 64 >= n);
     let too_much = sum(counts) > u64::from(MOST_PARTICLES);
     holding(&[
         (1, bytes.len() < 12),
-        (2, n.is_some_and(|n| outside(n, NODES))),
-        (3, t.is_some_and(|t| outside(t, TOLERANCE))),
-        (4, n.zip(e).is_some_and(|(n, e)| e > square(n))),
-        (5, e.is_some_and(|e| bytes.len() as u64 != 4 * (3 + 2 * e))),
+        (2, there_and(n, |n| outside(n, NODES))),
+        (3, there_and(t, |t| outside(t, TOLERANCE))),
+        (4, there_and(n.zip(e), |(n, e)| e > square(n))),
+        (5, there_and(e, |e| bytes.len() as u64 != 4 * (3 + 2 * e))),
         (6, not_rising(cells) || any(cells, no_node)),
         (7, any(counts, |count| count == 0) || too_much),
     ])
@@ -72,15 +72,15 @@ pub fn plan(bytes: &[u8]) -> Vec<u32> {
     let alone = n == Some(1);
     // A shape can be seen once all helpands are there.
     let whole = limit.is_some() && n == Some(helpands.len() as u64);
-    let misshapen = kind.is_some_and(|kind| wrong_shape(kind, helpands));
-    let above = limit.is_some_and(|limit| any(shares, |share| share > limit));
+    let misshapen = there_and(kind, |kind| wrong_shape(kind, helpands));
+    let above = there_and(limit, |limit| any(shares, |share| share > limit));
     holding(&[
         (11, bytes.len() < 12),
-        (12, n.is_some_and(|n| outside(n, NODES))),
-        (13, kind.is_some_and(|kind| kind > 2 || alone && kind != 0)),
-        (14, limit.is_some_and(|limit| limit > u64::from(MOST_LIMIT))),
-        (15, n.is_some_and(|n| bytes.len() as u64 != 4 * (3 + 2 * n))),
-        (16, n.is_some_and(|n| any(helpands, |helpand| helpand >= n))),
+        (12, there_and(n, |n| outside(n, NODES))),
+        (13, there_and(kind, |kind| kind > 2 || alone && kind != 0)),
+        (14, there_and(limit, |limit| limit > u64::from(MOST_LIMIT))),
+        (15, there_and(n, |n| bytes.len() as u64 != 4 * (3 + 2 * n))),
+        (16, there_and(n, |n| any(helpands, |helpand| helpand >= n))),
         (17, whole && misshapen),
         (18, above || root_with_share(helpands, shares)),
     ])
@@ -96,13 +96,13 @@ pub fn moves(bytes: &[u8]) -> Vec<u32> {
     let bad_route = |route: u64| {
         let (sender, receiver) = (route / 64 % 64, route % 64);
         let highest = sender.max(receiver).max(route / 4096);
-        sender == receiver || n.is_some_and(|n| highest >= n)
+        sender == receiver || there_and(n, |n| highest >= n)
     };
     holding(&[
         (31, bytes.len() < 8),
-        (32, n.is_some_and(|n| outside(n, NODES))),
-        (33, n.zip(e).is_some_and(|(n, e)| e > square(n) - n)),
-        (34, e.is_some_and(|e| bytes.len() as u64 != 4 * (2 + 2 * e))),
+        (32, there_and(n, |n| outside(n, NODES))),
+        (33, there_and(n.zip(e), |(n, e)| e > square(n) - n)),
+        (34, there_and(e, |e| bytes.len() as u64 != 4 * (2 + 2 * e))),
         (35, not_rising(routes) || any(routes, bad_route)),
         (36, any(counts, |count| count == 0 || count > most)),
     ])
@@ -117,6 +117,11 @@ pub fn holding(checks: &[(u32, bool)]) -> Vec<u32> {
 /// The word at this place, if it is there.
 pub fn number(words: &[u32], index: usize) -> Option<u64> {
     words.get(index).map(|&word| u64::from(word))
+}
+
+/// Whether a value is there and has this fault.
+fn there_and<T>(value: Option<T>, faulty: impl FnOnce(T) -> bool) -> bool {
+    value.map_or(false, faulty)
 }
 
 /// `count` words from `from` on, as far as they are there.

@@ -1,7 +1,7 @@
 //! Bytes in memory of their own, with guard bytes before and behind, which
 //! nobody may write.
 
-use std::hint::black_box;
+use std::sync::atomic::{compiler_fence, Ordering};
 
 /// How many bytes on either side, at least.
 const GUARD: usize = 16;
@@ -41,8 +41,10 @@ impl Guarded {
 
     /// Whether the bytes are now these, and the guards as they were.
     pub fn check(&self, expected: &[u8]) -> Result<(), String> {
-        // Whoever was lent the bytes is not trusted, so look again.
-        let memory = black_box(&self.memory);
+        // Whoever was lent the bytes is not trusted: the compiler is to look at
+        // the memory again.
+        compiler_fence(Ordering::SeqCst);
+        let memory = &self.memory;
         let mut guards = memory[..self.start].iter().chain(&memory[self.end..]);
         if guards.any(|&byte| byte != self.guard) {
             return Err("the memory beside it was written".into());

@@ -28,6 +28,7 @@
 //! | `speed` | the benchmark |
 //! | `refused` | a small step for each refusal of *plan a step* |
 //! | `cases` | the input and output of the program that the gate runs |
+#![forbid(unsafe_code)]
 
 pub mod answers;
 pub mod bench_text;

@@ -4,6 +4,7 @@
 //!
 //! FIRROZKA_SEED gives another run, FIRROZKA_ROUNDS another number of mixed
 //! inputs for each operation. The tally is printed with `-- --nocapture`.
+#![forbid(unsafe_code)]
 
 use firrozka_tests::calls::{Operation, CARRY_OUT, PLAN_STEP, TREE_IN_FORCE, WEIGH};
 use firrozka_tests::operations::ARCHIVE;

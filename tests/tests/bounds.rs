@@ -1,6 +1,7 @@
 //! Every bound of document 01: the value at it is accepted, the value one past
 //! it is refused with the number that the paper gives. The numbers here are
 //! written down from the paper and shared with no other file.
+#![forbid(unsafe_code)]
 
 use firrozka_tests::answers::Answer;
 use firrozka_tests::compare::check;

@@ -1,4 +1,5 @@
 //! What the bench program prints, and the cases for the gate.
+#![forbid(unsafe_code)]
 
 use firrozka_tests::bench_text::{bench, text};
 use firrozka_tests::cases;

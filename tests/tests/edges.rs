@@ -1,5 +1,6 @@
 //! Calls at the edges, gone through one by one: every word of a record off,
 //! every length, 2^32 − 1 everywhere, and the largest records.
+#![forbid(unsafe_code)]
 
 use firrozka_tests::calls::check::check;
 use firrozka_tests::calls::drafts::{plan_or_none, Draft};

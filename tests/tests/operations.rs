@@ -1,6 +1,7 @@
 //! The operations on more than one record: every refusal with its number, in
 //! the order written, with buffers untouched; lengths at and one past each
 //! bound; and nothing written behind the record.
+#![forbid(unsafe_code)]
 
 use firrozka_tests::answers::{
     helpands, PartAnswer, StepAnswer, WeighedAnswer, WrittenAnswer, NOTHING,

@@ -1,6 +1,7 @@
 //! The benchmark's yardstick answers like the second implementation: some
 //! hundred calls of each operation that is measured, every refusal and every
 //! order of two faults among them.
+#![forbid(unsafe_code)]
 
 use firrozka_tests::calls::{Operation, CARRY_OUT, PLAN_STEP, WEIGH};
 use firrozka_tests::operations::PLAIN;

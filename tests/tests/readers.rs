@@ -3,6 +3,7 @@
 //!
 //! FIRROZKA_SEED gives another run, FIRROZKA_ROUNDS another number of mixed
 //! inputs for each reader. The tally is printed with `-- --nocapture`.
+#![forbid(unsafe_code)]
 
 use firrozka_tests::answers::Answer;
 use firrozka_tests::compare::check;

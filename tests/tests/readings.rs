@@ -1,5 +1,6 @@
 //! Small steps worked by hand, one for each rule of "Deciding" that a planner
 //! could read otherwise and that steps A to K leave open.
+#![forbid(unsafe_code)]
 
 use firrozka_tests::demands::{judged, Judged};
 use firrozka_tests::operations::ALL;

@@ -1,5 +1,6 @@
 //! The builders themselves: what they build is accepted, and they reach the
 //! corners of the input space. Without this a run could pass on easy inputs.
+#![forbid(unsafe_code)]
 
 use firrozka_tests::answers::Answer;
 use firrozka_tests::random::Random;

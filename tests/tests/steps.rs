@@ -4,6 +4,7 @@
 //!
 //! FIRROZKA_SEED gives another run, FIRROZKA_STEPS another number of steps. The
 //! counts are printed with `-- --nocapture`.
+#![forbid(unsafe_code)]
 
 use firrozka_tests::demands::{judged, Judged};
 use firrozka_tests::operations::{Operations, ALL};
@@ -216,7 +217,7 @@ const EACH_KIND: [Named; 9] = [
         step.sheet.n == 64 && old_depth(step) == Some(1)
     }),
     ("an old tree of middling depth", |step| {
-        old_depth(step).is_some_and(|depth| (3..30).contains(&depth))
+        old_depth(step).map_or(false, |depth| (3..30).contains(&depth))
     }),
     ("no moves", |step| step.moves.routes.is_empty()),
 ];

@@ -1,4 +1,5 @@
 //! The records that document 01 works out by hand, with the values it names.
+#![forbid(unsafe_code)]
 
 use firrozka_tests::answers::{MovesAnswer, PlanAnswer, SheetAnswer};
 use firrozka_tests::boundary;

@@ -1,5 +1,6 @@
 //! The tests can fail: whoever does an operation wrong, in ways that are
 //! plausible, is reported by the run, and a wrong planner by demand 3 as well.
+#![forbid(unsafe_code)]
 
 use firrozka_tests::answers::{self, PartAnswer, StepAnswer, WeighedAnswer, WrittenAnswer};
 use firrozka_tests::calls::{Operation, CARRY_OUT, OPERATIONS, PLAN_STEP, TREE_IN_FORCE, WEIGH};

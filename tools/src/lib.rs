@@ -9,6 +9,7 @@
 //! | `show` | a record as readable text |
 //! | `task` | what the tool can do, from bytes to bytes |
 //! | `arguments` | the command line |
+#![forbid(unsafe_code)]
 
 pub mod arguments;
 pub mod show;

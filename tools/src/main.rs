@@ -1,5 +1,6 @@
 //! `records`: text to records and back. Ends with 0 if all is well, 1 if the
 //! input is bad or refused and nothing is written, 2 if it is called wrongly.
+#![forbid(unsafe_code)]
 
 use firrozka_tools::arguments::{parse, Call, USAGE};
 use std::io::{self, Read, Write};
@@ -7,15 +8,15 @@ use std::process::ExitCode;
 use std::{env, fs};
 
 fn main() -> ExitCode {
-    let Some(call) = parse(env::args().skip(1)) else {
-        eprint!("{USAGE}");
-        return ExitCode::from(2);
-    };
-    match run(&call) {
-        Ok(()) => ExitCode::SUCCESS,
-        Err(message) => {
+    match parse(env::args().skip(1)).map(|call| run(&call)) {
+        Some(Ok(())) => ExitCode::SUCCESS,
+        Some(Err(message)) => {
             eprintln!("{message}");
             ExitCode::FAILURE
+        }
+        None => {
+            eprint!("{USAGE}");
+            ExitCode::from(2)
         }
     }
 }

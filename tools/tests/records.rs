@@ -1,4 +1,5 @@
 //! The tool from outside: what it writes, says and leaves alone.
+#![forbid(unsafe_code)]
 
 use std::fs;
 use std::io::Write;
@@ -206,10 +207,8 @@ fn fresh(name: &str) -> PathBuf {
 #[test]
 fn files_are_written_only_when_all_is_well() {
     let (input, output) = (fresh("bad-table"), fresh("bad-table.sheet"));
-    let names = [input.to_str(), output.to_str()];
-    let [Some(from), Some(to)] = names else {
-        panic!("the folder's name is no text");
-    };
+    let from = input.to_str().expect("the folder's name is text");
+    let to = output.to_str().expect("the folder's name is text");
     let call = |table: &str| {
         fs::write(&input, table).expect("the table is written");
         records(&[&TABLE[..], &["-o", to, from]].concat(), b"")

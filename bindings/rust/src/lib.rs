@@ -15,6 +15,8 @@
 //! assert_eq!(shares.iter().collect::<Vec<u32>>(), [0, 27, 29]);
 //! # Ok::<(), firrozka::Refusal>(())
 //! ```
+#![deny(unsafe_code)] // only ffi.rs, which calls the archive, lifts this
+#![warn(missing_docs)]
 
 pub mod ffi;
 mod operations;

@@ -75,8 +75,9 @@ fn rebuild(totals: &Nodes, old: Option<&Nodes>, n: usize, p: u32) -> Decision {
         let need = target(l) - loads[l];
         let fits = |&g: &usize| g != l && groups[g] == Group::B && loads[g] >= need;
         let old_helpand = old.map(|old| old[l] as usize).filter(fits);
-        let Some(g) = old_helpand.or_else(|| largest(&loads, &groups, n)) else {
-            break;
+        let g = match old_helpand.or_else(|| largest(&loads, &groups, n)) {
+            Some(g) => g,
+            None => break,
         };
         helpands[l] = g as u32;
         shares[l] = need;
@@ -103,7 +104,7 @@ fn rebuild(totals: &Nodes, old: Option<&Nodes>, n: usize, p: u32) -> Decision {
 fn smallest(loads: &Nodes, groups: &[Group; 64], n: usize) -> Option<usize> {
     let mut best: Option<usize> = None;
     for node in 0..n {
-        if groups[node] == Group::A && best.is_none_or(|best| loads[node] < loads[best]) {
+        if groups[node] == Group::A && !matches!(best, Some(best) if loads[best] <= loads[node]) {
             best = Some(node);
         }
     }
@@ -114,7 +115,7 @@ fn smallest(loads: &Nodes, groups: &[Group; 64], n: usize) -> Option<usize> {
 fn largest(loads: &Nodes, groups: &[Group; 64], n: usize) -> Option<usize> {
     let mut best: Option<usize> = None;
     for node in 0..n {
-        if groups[node] == Group::B && best.is_none_or(|best| loads[node] > loads[best]) {
+        if groups[node] == Group::B && !matches!(best, Some(best) if loads[best] >= loads[node]) {
             best = Some(node);
         }
     }

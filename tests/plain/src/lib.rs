@@ -32,7 +32,7 @@ pub fn plan_step(
         [] => None,
         bytes => Some(read_plan(bytes)?),
     };
-    if old.as_ref().is_some_and(|old| old.n != sheet.n) {
+    if old.as_ref().map_or(false, |old| old.n != sheet.n) {
         return Err(21);
     }
     let n = sheet.n as usize;

@@ -73,7 +73,8 @@ pub fn read_sheet(bytes: &[u8]) -> Result<Sheet, u32> {
 
 fn limit(p: u32, n: u32, t: u32) -> u32 {
     let loose = u64::from(p) * u64::from(100 + t) / u64::from(100 * n);
-    p.div_ceil(n).max(loose as u32)
+    let even = (p + n - 1) / n;
+    even.max(loose as u32)
 }
 
 pub fn read_plan(bytes: &[u8]) -> Result<Plan, u32> {

@@ -3,6 +3,7 @@
 //! 64 nodes, and for 64 nodes those of plain Rust and of a copy of the same
 //! bytes, with the archive's ratio to both. WORDs choose the rows that have
 //! them all. FIRROZKA_SAMPLES gives another number of samples.
+#![forbid(unsafe_code)]
 
 use firrozka_tests::settings::setting;
 use firrozka_tests::speed::table::{rows, HEAD};

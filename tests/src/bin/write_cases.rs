@@ -1,5 +1,6 @@
 //! `write_cases DIR SEED COUNT` writes DIR/stdin and DIR/stdout: cases for a
 //! program that the gate runs, the last COUNT of them random.
+#![forbid(unsafe_code)]
 
 use firrozka_tests::cases;
 use std::path::Path;
@@ -21,8 +22,9 @@ fn main() -> ExitCode {
 }
 
 fn run(arguments: &[String]) -> Result<String, String> {
-    let [folder, seed, count] = arguments else {
-        return Err("usage: write_cases DIR SEED COUNT".into());
+    let (folder, seed, count) = match arguments {
+        [folder, seed, count] => (folder, seed, count),
+        _ => return Err("usage: write_cases DIR SEED COUNT".into()),
     };
     let cases = cases::all(number(seed)?, number(count)?);
     let folder = Path::new(folder);

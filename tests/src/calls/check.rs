@@ -50,7 +50,7 @@ pub fn check(operation: &Operation, tested: &Operations, call: &Call) -> Result<
 fn noise(call: &Call, length: usize) -> Vec<u8> {
     let [first, second] = &call.records;
     let random = &mut Random::at(first.len() as u64, second.len() as u64);
-    let words = (0..length.div_ceil(8)).flat_map(|_| random.draw().to_le_bytes());
+    let words = (0..length / 8 + 1).flat_map(|_| random.draw().to_le_bytes());
     words.take(length).collect()
 }
 

@@ -64,7 +64,7 @@ pub fn tree_in_force(call: &Call) -> Vec<u32> {
 /// Whether both records have N and these differ.
 fn differ(call: &Call) -> bool {
     let [a, b] = [0, 1].map(|at| number(&to_words(&call.records[at]), 0));
-    a.zip(b).is_some_and(|(a, b)| a != b)
+    a.zip(b).map_or(false, |(a, b)| a != b)
 }
 
 fn kind(plan: &[u8]) -> Option<u64> {

@@ -83,8 +83,9 @@ fn too_many_routes(record: &mut Record, random: &mut Random) {
 
 /// A route that does not rise, names no node, or leads back. Takes an entry.
 fn bad_route(record: &mut Record, random: &mut Random) {
-    let Some(at) = spoil::some_entry(record, random) else {
-        return;
+    let at = match spoil::some_entry(record, random) {
+        Some(at) => at,
+        None => return,
     };
     let n = record.words[0];
     let old = record.first()[at];

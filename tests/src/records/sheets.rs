@@ -86,8 +86,9 @@ fn too_many_cells(record: &mut Record, random: &mut Random) {
 
 /// A cell that does not rise or names no node. Takes an entry.
 fn bad_cell(record: &mut Record, random: &mut Random) {
-    let Some(at) = spoil::some_entry(record, random) else {
-        return;
+    let at = match spoil::some_entry(record, random) {
+        Some(at) => at,
+        None => return,
     };
     let n = record.words[0];
     let (holder, subdomain) = (record.first()[at] / 64, record.first()[at] % 64);

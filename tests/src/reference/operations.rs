@@ -89,7 +89,7 @@ fn try_plan_step(
         bytes => Some(plan::read(bytes)?),
     };
     // "21"
-    if old.as_ref().is_some_and(|old| old.n != sheet.n) {
+    if old.as_ref().map_or(false, |old| old.n != sheet.n) {
         return Err(21);
     }
     let plan = deciding::plan(&sheet, old_tree(old.as_ref()));
@@ -132,9 +132,7 @@ fn try_carry_out(sheet: &[u8], moves: &[u8], next: &mut [u8]) -> Result<usize, u
         return Err(41);
     }
     // "42, some cell sends in all more than the old sheet gives it"
-    let Some(table) = transfer::apply(&moves, &Table::of(&sheet)) else {
-        return Err(42);
-    };
+    let table = transfer::apply(&moves, &Table::of(&sheet)).ok_or(42u32)?;
     // "same t"
     let record = table.sheet(sheet.t).bytes();
     // "43, buffer too short"
@@ -149,8 +147,9 @@ fn try_carry_out(sheet: &[u8], moves: &[u8], next: &mut [u8]) -> Result<usize, u
 /// back the helpand stretch of the old plan, otherwise that of the new".
 pub fn tree_in_force(old: &[u8], new: &[u8]) -> PartAnswer {
     // "It hands back an empty stretch of the new plan when either is refused"
-    let (Ok(old), Ok(new)) = (plan::read(old), plan::read(new)) else {
-        return answers::NOTHING;
+    let (old, new) = match (plan::read(old), plan::read(new)) {
+        (Ok(old), Ok(new)) => (old, new),
+        _ => return answers::NOTHING,
     };
     // "the N differ"
     if old.n != new.n {

@@ -96,7 +96,7 @@ impl Sheet {
 
 /// L: "the larger of P/N rounded up and P × (100+t) / (100 × N) rounded down".
 pub fn limit(p: u64, n: u64, t: u64) -> u64 {
-    let even = p.div_ceil(n);
+    let even = (p + n - 1) / n;
     let tolerated = p * (100 + t) / (100 * n);
     even.max(tolerated)
 }

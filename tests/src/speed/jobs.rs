@@ -4,7 +4,7 @@
 use super::inputs::{step, Filling, Outcome};
 use crate::operations::{Operations, MOVES_BYTES, PLAN_BYTES, REFERENCE, SHEET_BYTES};
 use crate::random::Random;
-use std::hint::black_box;
+use std::sync::atomic::{compiler_fence, Ordering};
 
 /// What is measured.
 #[derive(Clone, Copy, Debug, PartialEq, Eq)]
@@ -103,19 +103,19 @@ impl Job {
     /// All calls, done by somebody.
     pub fn run(&self, by: &Operations, buffers: &mut Buffers) {
         for call in &self.calls {
-            black_box(one(self.measured, by, black_box(call), buffers));
+            one(self.measured, by, call, buffers);
         }
     }
 
     /// For each call a copy of the bytes that it reads and of as many as it writes.
+    /// The fence keeps the compiler from leaving out a copy.
     pub fn copy(&self, scratch: &mut Buffers, buffers: &mut Buffers) {
         for call in &self.calls {
-            let call = black_box(call);
             for at in [0, 1] {
                 let (record, length) = (&call.records[at], call.written[at]);
                 scratch[0][..record.len()].copy_from_slice(record);
                 buffers[at][..length].copy_from_slice(&scratch[at][..length]);
-                black_box((&mut *scratch, &mut *buffers));
+                compiler_fence(Ordering::SeqCst);
             }
         }
     }

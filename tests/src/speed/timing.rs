@@ -5,11 +5,13 @@
 
 use super::jobs::Job;
 use crate::operations::{ARCHIVE, PLAIN};
-use std::hint::black_box;
+use std::sync::atomic::{compiler_fence, Ordering};
 use std::time::Instant;
 
-/// How many places the stack begins at: together more than a page.
-const DEPTHS: usize = 20;
+/// How many places the stack begins at, and how many levels lie between two. A
+/// level takes 16 bytes or more, so together they are more than a page.
+const PLACES: usize = 20;
+const LEVELS: usize = 13;
 
 /// Microseconds for one call.
 #[derive(Clone, Copy, Debug)]
@@ -27,7 +29,7 @@ pub fn time(job: &Job, samples: usize) -> Times {
     let (mut buffers, mut scratch) = (Job::buffers(), Job::buffers());
     let [mut archive, mut plain, mut copy] = [(); 3].map(|_| Vec::with_capacity(samples));
     for turn in 0..samples {
-        let depth = turn % DEPTHS;
+        let depth = turn % PLACES * LEVELS;
         archive.push(sample(job, depth, || job.run(&ARCHIVE, &mut buffers)));
         plain.push(sample(job, depth, || job.run(&PLAIN, &mut buffers)));
         copy.push(sample(job, depth, || job.copy(&mut scratch, &mut buffers)));
@@ -52,15 +54,15 @@ fn sample(job: &Job, depth: usize, mut run: impl FnMut()) -> f64 {
     elapsed * 1e6 / job.len() as f64
 }
 
-/// Runs something with the stack some hundred bytes lower for each level.
+/// Runs something with the stack lower by a small frame for each level. The
+/// fence keeps the compiler from making a jump of the call.
 #[inline(never)]
 fn at_depth(depth: usize, run: &mut dyn FnMut()) {
     if depth == 0 {
         return run();
     }
-    let lower = black_box([0u8; 192]);
     at_depth(depth - 1, run);
-    black_box(&lower);
+    compiler_fence(Ordering::SeqCst);
 }
 
 fn quartiles(mut samples: Vec<f64>) -> [f64; 3] {
