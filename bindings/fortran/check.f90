@@ -24,7 +24,7 @@ program check
     sheet = firrozka_read_sheet(d, size(d, kind=c_size_t))
     call same([sheet%refusal, sheet%n, sheet%t, sheet%e, sheet%p, sheet%limit], [0, 3, 10, 3, 100, 36])
     sheet = firrozka_read_sheet(d, 35_c_size_t)
-    call same([sheet%refusal, sheet%n, sheet%t, sheet%e, sheet%p, sheet%limit], [5, 0, 0, 0, 0, 0])
+    call same([sheet%refusal, sheet%n, sheet%t, sheet%e, sheet%p, sheet%limit], [firrozka_sheet_length, 0, 0, 0, 0, 0])
 
     read = firrozka_read_plan(chain, size(chain, kind=c_size_t))
     call same([read%refusal, read%n, read%kind, read%limit], [0, 3, firrozka_rebuilt, 36])
@@ -32,6 +32,8 @@ program check
     weighed = firrozka_weigh(h, size(h, kind=c_size_t), chain, size(chain, kind=c_size_t), least, firrozka_least_bytes)
     call same([weighed%refusal, weighed%holds], [0, 1])
     call same([word_at(least, 0), word_at(least, 1), word_at(least, 2)], [28, 36, 0])
+    weighed = firrozka_weigh(h, size(h, kind=c_size_t), chain, size(chain, kind=c_size_t), least, 11_c_size_t)
+    call same([weighed%refusal, weighed%holds], [firrozka_least_buffer, 0])
 
     step = firrozka_plan_step(d, size(d, kind=c_size_t), none, 0_c_size_t, plan, firrozka_plan_bytes, moves, firrozka_moves_bytes)
     call same([step%refusal, step%kind, step%limit, step%plan_bytes, step%moves_bytes], [0, firrozka_rebuilt, 36, 36, 24])

@@ -19,7 +19,46 @@ module firrozka
     ! The kind of a plan.
     integer(c_int32_t), parameter, public :: firrozka_primary = 0, firrozka_kept = 1, firrozka_rebuilt = 2
 
-    ! The answers: 0 or a refusal number (docs/FORMATS.md lists them), and the values named, all 0 in a refusal.
+    ! Why an operation refuses. Its checks run in the order of its numbers, those of the sheet and of the other record first.
+    integer(c_int32_t), parameter, public :: &
+        firrozka_accepted = 0, &
+        ! sheet
+        firrozka_sheet_short = 1, &     ! under 12 bytes
+        firrozka_sheet_nodes = 2, &     ! N is not 1 to 64
+        firrozka_sheet_tolerance = 3, & ! t is not 1 to 99
+        firrozka_sheet_entries = 4, &   ! E is above N × N
+        firrozka_sheet_length = 5, &    ! the length is not 4 × (3 + 2E) bytes
+        firrozka_sheet_cell = 6, &      ! a cell does not rise, or names a node not below N
+        firrozka_sheet_count = 7, &     ! a count is 0, or the running sum is above 1,000,000,000
+        ! plan
+        firrozka_plan_short = 11, &   ! under 12 bytes
+        firrozka_plan_nodes = 12, &   ! N is not 1 to 64
+        firrozka_plan_kind = 13, &    ! the kind is above 2, or not 0 with one node
+        firrozka_plan_limit = 14, &   ! the limit is above 1,990,000,000
+        firrozka_plan_length = 15, &  ! the length is not 4 × (3 + 2N) bytes
+        firrozka_plan_helpand = 16, & ! a helpand is not below N
+        firrozka_plan_shape = 17, &   ! the wrong shape: kind 0 has only roots; kinds 1 and 2 have one root,
+                                      ! which every chain of helpands reaches
+        firrozka_plan_share = 18, &   ! a share is above the limit, or not 0 at a root
+        ! weigh, plan a step
+        firrozka_plan_nodes_differ = 21, & ! the N of sheet and plan differ
+        firrozka_plan_buffer = 22, &       ! the plan's buffer is too short
+        firrozka_moves_buffer = 23, &      ! the moves' buffer is too short
+        firrozka_plan_primary = 24, &      ! the plan is kind 0 and has no tree
+        firrozka_least_buffer = 25, &      ! the buffer is under 4N bytes
+        ! moves
+        firrozka_moves_short = 31, &   ! under 8 bytes
+        firrozka_moves_nodes = 32, &   ! N is not 1 to 64
+        firrozka_moves_entries = 33, & ! E is above N × (N−1)
+        firrozka_moves_length = 34, &  ! the length is not 4 × (2 + 2E) bytes
+        firrozka_moves_route = 35, &   ! a route does not rise, names a node not below N, or has one node as sender and receiver
+        firrozka_moves_count = 36, &   ! a count is 0 or above 1,000,000,000
+        ! carry out
+        firrozka_moves_nodes_differ = 41, & ! the N of sheet and moves differ
+        firrozka_moves_sends = 42, &        ! some cell sends in all more than the old sheet gives it
+        firrozka_sheet_buffer = 43          ! the buffer is too short
+
+    ! The answers: 0 or a refusal number, and the values named, all 0 in a refusal.
     type, bind(c), public :: firrozka_sheet
         integer(c_int32_t) :: refusal, n, t, e, p, limit
     end type

@@ -13,7 +13,7 @@ program step_d
     no_plan = 0
     step = firrozka_plan_step(sheet, size(sheet, kind=c_size_t), no_plan, 0_c_size_t, &
                               plan, size(plan, kind=c_size_t), moves, size(moves, kind=c_size_t))
-    if (step%refusal /= 0) then
+    if (step%refusal /= firrozka_accepted) then
         print '("refused ", i0)', step%refusal
         stop 1
     end if

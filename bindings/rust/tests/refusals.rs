@@ -51,6 +51,17 @@ fn the_header_has_the_refusals() {
 }
 
 #[test]
+fn the_fortran_module_has_the_refusals() {
+    let text = part("bindings/fortran/firrozka.f90", "_accepted = 0, &", "\n\n");
+    // The last has no comma, and one reason goes on in a second line.
+    let text = text.replace(", &", "").replace(" !", "");
+    has_all(&text, " = ", |refusal| {
+        let name = c_name(refusal).to_lowercase();
+        format!("firrozka{name} = {} {}", refusal.number(), refusal.reason())
+    });
+}
+
+#[test]
 fn the_python_module_has_the_refusals() {
     let text = part("bindings/python/firrozka.py", "REFUSALS = {", "}");
     has_all(&text, ": (", |refusal| {
