@@ -3,6 +3,7 @@ pub mod Spaces
 pub mod FillLaws
 pub mod Amounts
 pub mod Levels
+pub mod Links
 pub mod Agree
 pub mod Walks
 pub mod Filling

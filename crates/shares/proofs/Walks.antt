@@ -1,8 +1,7 @@
 -- Laws of the walk down the tree, one for each way that a turn of its loop can go. Each node that is below n is n itself or below one of
 -- n's helpers, so when the helpers are passed all below n is done. Assumes nothing.
 use mathlib.Core.Path.{_≡_, refl, sym, ap, _∙_}
-use mathlib.Core.Logic.{_≢_}
-use mathlib.Core.Bool.{true, false, true≢false}
+use mathlib.Core.Bool.{true, true≢false}
 use mathlib.Core.List.{List}
 use Prim.Native.Nat.{ℕ, zero, suc, _+_, _≤_, _<_}
 use native.Mathlib.Decide.{ℕ-discrete, decLt}
@@ -13,7 +12,7 @@ use Rattle.plan.specs.Tree.{at, walk, Tree}
 use Rattle.plan.proofs.Trees.{walk-inside}
 use Rattle.tree.specs.Totals.{tabulate}
 use Rattle.tree.specs.Family.{helps}
-use Rattle.shares.specs.Walk.{Walked}
+use Rattle.shares.specs.Walk.{Next, Walked}
 use Rattle.tree.proofs.Tabulate.{length-tabulate, tabulate-behind, zeros-at}
 use Rattle.shares.proofs.Families.{helps-yes}
 
@@ -37,12 +36,13 @@ module _ {nodes : ℕ} {h right : ℕ → ℕ} {depth n : ℕ} {before : ℕ →
   pub passed-none : Passed nodes h right depth n before 0 before
   passed-none = record { stays = λ k e. e; made = λ i l. absurd (omega arith) }
 
-  pub passed-other : {m : ℕ} {out : ℕ → ℕ} → Passed nodes h right depth n before m out → helps h n m ≡ false → Passed nodes h right depth n before (m + 1) out
-  passed-other {m} p f = record {
+  -- from one helper to the next
+  pub passed-next : {m to : ℕ} {out : ℕ → ℕ} → Passed nodes h right depth n before m out → Next nodes h n m to → Passed nodes h right depth n before to out
+  passed-next {m} p x = record {
     stays = p .stays;
-    made = λ i l y. elim (ℕ-discrete i m) [
-      | yes e ↦ absurd (true≢false (sym y ∙ ap (helps h n) e ∙ f))
-      | no d ↦ p .made i (omega arith) y
+    made = λ i l y. elim (decLt i m) [
+      | yes b ↦ p .made i b y
+      | no d ↦ absurd (true≢false (sym y ∙ x .between i (omega arith) l))
     ];
   }
 
@@ -78,11 +78,6 @@ module _ {nodes : ℕ} {h right : ℕ → ℕ} {depth n : ℕ} {before : ℕ →
             p .made (walk h steps k) (walk-inside h nodes inside steps k l) (helps-yes h n (walk h steps k) d (sym (walk-suc h steps k) ∙ q))
             steps k (omega arith) l refl
       ]
-
--- nobody helps n
-pub walked-leaf : {nodes : ℕ} {h right : ℕ → ℕ} {depth n : ℕ} {out : ℕ → ℕ} → ((k : ℕ) → k < nodes → h k < nodes)
-    → ((k : ℕ) → k < nodes → helps h n k ≡ false) → out n ≡ right n → Walked nodes h right (suc depth) n out out
-walked-leaf inside none e = passed-all inside (record { stays = λ k q. q; made = λ i l y. absurd (true≢false (sym y ∙ none i l)) }) e
 
 -- no level below
 pub walked-none : {nodes : ℕ} {h right : ℕ → ℕ} {n : ℕ} {out : ℕ → ℕ} → out n ≡ right n → Walked nodes h right 0 n out out

@@ -3,33 +3,31 @@ mod family;
 mod fill;
 
 ghost use mathlib.Core.Path.{_≡_};
-ghost use Prim.Native.Nat.{_≤_, _<_};
-ghost use mathlib.Core.Bool.{not};
+ghost use Prim.Native.Nat.{ℕ, _≤_, _<_};
 ghost use lib.ListN.{length};
-ghost use Rattle.fold.specs.All.{all};
-ghost use Rattle.tree.specs.Family.{helps};
 ghost use Rattle.limit.specs.Limit.{maxNodes};
 ghost use Rattle.plan.specs.Tree.{at, Tree};
 ghost use Rattle.tree.specs.Totals.{held, totalsOf};
 ghost use Rattle.shares.specs.Shares.{sharesOf};
-ghost use Rattle.shares.specs.Walk.{Fine, sharesIn, Walked};
+ghost use Rattle.shares.specs.Walk.{Fine, Linked, sharesIn, Walked};
 
-// Whether nobody helps n.
-fn is_leaf(helpands: &[u32; 64], nodes: usize, n: usize) -> bool
-    requires { ⌜ (nodes ≤ maxNodes) × (n < nodes) ⌝ }
-    ensures { λ r. ⌜ r ≡ all nodes (λ k. not (helps (at (now (helpands .entry))) n k)) ⌝ }
+// Links from helper to helper, so that nobody searches all nodes for the helpers of one: at n the lowest helper of n, at 64 + k the
+// next after k of the node that k helps, and the number of nodes where there is none.
+fn helper_links(helpands: &[u32; 64], nodes: usize) -> [usize; 128]
+    requires { ⌜ (nodes ≤ maxNodes) × ((k : ℕ) → k < nodes → at (now helpands) k < nodes) ⌝ }
+    ensures { λ r. ⌜ Linked nodes (at (now (helpands .entry))) r ⌝ }
 {
-    let owner = n as u32;
-    let mut k = 0;
-    while k < nodes {
-        if helpands[k] == owner {
-            if k != n {
-                return false;
-            }
+    let mut links = [nodes; 128];
+    let mut k = nodes;
+    while k > 0 {
+        k -= 1;
+        let helpand = helpands[k] as usize;
+        if helpand != k {
+            links[64 + k] = links[helpand];
+            links[helpand] = k;
         }
-        k += 1;
     }
-    true
+    links
 }
 
 // Divides the families of n and of all below it, so many levels down, and notes the shares. The share of n stands already.
@@ -38,6 +36,7 @@ fn divide_below(
     totals: &[u32; 64],
     leasts: &[u32; 64],
     helpands: &[u32; 64],
+    links: &[usize; 128],
     nodes: usize,
     limit: u32,
     depth: usize,
@@ -45,7 +44,8 @@ fn divide_below(
     shares: &mut [u32; 64],
 )
     requires { ⌜
-        (Fine nodes (now helpands) (now totals) (now table)) × (n < nodes) × (length (now shares) ≡ 64)
+        (Fine nodes (now helpands) (now totals) (now table)) × (Linked nodes (at (now helpands)) (now links)) × (n < nodes)
+        × (length (now shares) ≡ 64)
         × (at (now shares) n ≡ at (sharesIn nodes limit (now helpands) (now leasts) (now totals) (now table)) n) ⌝ }
     ensures { λ _. ⌜
         (length (now (shares .exit)) ≡ 64)
@@ -56,7 +56,8 @@ fn divide_below(
     if depth == 0 {
         return;
     }
-    if is_leaf(helpands, nodes, n) {
+    let mut k = links[n];
+    if k == nodes {
         return;
     }
     let amounts = family::divide_family(
@@ -69,26 +70,21 @@ fn divide_below(
         shares[n],
         n,
     );
-    let owner = n as u32;
-    let mut k = 0;
     while k < nodes {
-        if k != n {
-            if helpands[k] == owner {
-                shares[k] = amounts[k];
-                divide_below(
-                    table,
-                    totals,
-                    leasts,
-                    helpands,
-                    nodes,
-                    limit,
-                    depth - 1,
-                    k,
-                    shares,
-                );
-            }
-        }
-        k += 1;
+        shares[k] = amounts[k];
+        divide_below(
+            table,
+            totals,
+            leasts,
+            helpands,
+            links,
+            nodes,
+            limit,
+            depth - 1,
+            k,
+            shares,
+        );
+        k = links[64 + k];
     }
 }
 
@@ -106,12 +102,14 @@ pub fn shares(
     ensures { λ r. ⌜ r ≡ sharesOf nodes (at helpands) limit (at leasts) (at totals) (held (now (table .entry))) ⌝ }
 {
     let levels = nodes;
+    let links = helper_links(&helpands, nodes);
     let mut out = [0u32; 64];
     divide_below(
         table,
         &totals,
         &leasts,
         &helpands,
+        &links,
         nodes,
         limit,
         levels,

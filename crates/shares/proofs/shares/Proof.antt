@@ -1,7 +1,5 @@
 -- `shares::shares` meets its contract: a walk from the root reaches each node. Assumes nothing.
-use borrow.Author.Needs.{needs}
-use mathlib.Core.Path.{_≡_, refl, sym, _∙_}
-use lib.ListN.{length}
+use mathlib.Core.Path.{refl, sym, _∙_}
 use denote.Ref.{now}
 use Rattle.plan.specs.Tree.{at}
 use Rattle.tree.specs.Totals.{held}
@@ -14,11 +12,13 @@ use Rattle.shares.proofs.shares.Tie as tie
 
 divide-below-requires : tie.Need-divide-below-requires
 divide-below-requires c κs =
-    let start = c .before .before .before .before in
+    let links = c .before .before .before .before .before in
+    let start = links .before .before in
     let a = start .args in
     let t = start .pre .1 in
     let d = array-described (a .nodes) (at (a .t4)) (a .limit) (at (a .t3)) (at (a .t2)) (held (now (a .table))) (a .root) t in (
       record { few = start .pre .0; rooted = (a .root, t); counted = start .pre .2 },
+      links .helper-links .ensures,
       t .root,
       refl,
       zeros-at 64 (a .root) ∙ sym (d .root (a .root) (t .root) (t .own)),
@@ -26,10 +26,13 @@ divide-below-requires c κs =
 
 returns : tie.Need-returns
 returns c =
-    let start = c .before .before .before .before .before in
+    let start = c .before .before .before .before .before .before .before .before in
     let a = start .args in
     let s = shareOf (a .nodes) (at (a .t4)) (a .limit) (at (a .t3)) (at (a .t2)) (held (now (a .table))) in
-    walked-root s (c .divide-below .last .1 .1 .1 .1 .1 .1 .1 .1 .0) (start .pre .1) (start .pre .0) (c .divide-below .ensures .0) (c .divide-below .ensures .1)
+    walked-root s (c .divide-below .last .1 .1 .1 .1 .1 .1 .1 .1 .1 .0) (start .pre .1) (start .pre .0) (c .divide-below .ensures .0) (c .divide-below .ensures .1)
 
 pub shares-spec : {M : Type 1} → statement M
-shares-spec = tie.close (tie.spec divide-below-requires returns)
+shares-spec = tie.close (tie.spec
+    (λ c κs. (c .before .pre .0, c .before .pre .1 .inside))  -- helper-links-requires
+    divide-below-requires
+    returns)

@@ -1,0 +1,98 @@
+-- Laws of the links from helper to helper, which are made from the last node down. Assumes nothing.
+use mathlib.Core.Path.{_≡_, refl, sym, ap, _∙_}
+use mathlib.Core.Logic.{_≢_}
+use mathlib.Core.Bool.{false}
+use mathlib.Core.List.{List}
+use Prim.Native.Nat.{ℕ, _+_, _≤_, _<_}
+use native.Mathlib.Decide.{ℕ-discrete}
+use native.Mathlib.Omega.{arith}
+use lib.ListN.{length, set, replicate, length-set, getD-replicate}
+use lib.Seq.{getD-set-same, getD-set-other}
+use Rattle.plan.specs.Tree.{at}
+use Rattle.tree.specs.Family.{helps}
+use Rattle.shares.specs.Walk.{Next, Linked}
+use Rattle.shares.proofs.Families.{helps-yes, helps-own, helps-no}
+
+-- the links once node m, which helps g, is put before g's other helpers
+abbrev linkTo : List ℕ → ℕ → ℕ → List ℕ
+linkTo links g m = set (set links (64 + m) (at links g)) g m
+
+-- the links among the nodes from m on
+pub record Linking (nodes : ℕ) (h : ℕ → ℕ) (m : ℕ) (links : List ℕ) : Type 0 where
+  pub first : (n : ℕ) → n < nodes → Next nodes h n m (at links n)
+  pub next : (k : ℕ) → m ≤ k → k < nodes → h k ≢ k → Next nodes h (h k) (k + 1) (at links (64 + k))
+
+module _ {nodes : ℕ} {h : ℕ → ℕ} where
+  -- with a node more in front, that is no helper of n or the first one
+  next-other : {n m to : ℕ} → Next nodes h n (m + 1) to → helps h n m ≡ false → Next nodes h n m to
+  next-other {n} {m} x f = record {
+    ahead = omega (arith, x .ahead);
+    most = x .most;
+    helper = x .helper;
+    between = λ k b l. elim (ℕ-discrete k m) [
+      | yes e ↦ ap (helps h n) e ∙ f
+      | no d ↦ x .between k (omega arith) l
+    ];
+  }
+
+  next-here : {n m : ℕ} → m < nodes → m ≢ n → h m ≡ n → Next nodes h n m m
+  next-here {n} {m} l d e = record {
+    ahead = omega arith;
+    most = omega arith;
+    helper = λ _. helps-yes h n m d e;
+    between = λ k b c. absurd (omega arith);
+  }
+
+  -- before the loop, and for each way that a turn of it can go
+
+  pub linking-none : nodes ≤ 64 → Linking nodes h nodes (replicate 128 nodes)
+  linking-none b = record {
+    first = λ n l. rw (getD-replicate 128 n nodes 0 (omega arith)) (record {
+      ahead = omega arith;
+      most = omega arith;
+      helper = λ c. absurd (omega arith);
+      between = λ k c d. absurd (omega arith);
+    });
+    next = λ k c l. absurd (omega arith);
+  }
+
+  pub linking-root : {m : ℕ} {links : List ℕ} → Linking nodes h (m + 1) links → h m ≡ m → Linking nodes h m links
+  linking-root {m} x e = record {
+    first = λ n l. next-other (x .first n l) (elim (ℕ-discrete (h m) n) [
+      | yes q ↦ helps-own h n m (sym e ∙ q)
+      | no d ↦ helps-no h n m d
+    ]);
+    next = λ k b l d. x .next k (elim (ℕ-discrete k m) [
+      | yes q ↦ absurd (d (rw q e))
+      | no c ↦ omega arith
+    ]) l d;
+  }
+
+  -- a helper has the link that its helpand had, and its helpand a link to it
+  pub linking-helper : {m : ℕ} {links : List ℕ} → Linking nodes h (m + 1) links → length links ≡ 128 → nodes ≤ 64 → m < nodes → h m < nodes → h m ≢ m
+      → Linking nodes h m (linkTo links (h m) m)
+  linking-helper {m} {links} x e b l i d = record {
+    first = λ n ln. elim (ℕ-discrete n (h m)) [
+      | yes q ↦ rw (q, own) (next-here l (λ p. d (sym p)) refl)
+      | no c ↦ rw (other n c (λ p. absurd (omega arith))) (next-other (x .first n ln) (helps-no h n m (λ p. c (sym p))))
+    ];
+    next = λ k c lk dk. elim (ℕ-discrete k m) [
+      | yes q ↦ rw (q, after) (x .first (h m) i)
+      | no f ↦ rw (other (64 + k) (λ p. absurd (omega arith)) (λ p. f (omega arith))) (x .next k (omega arith) lk dk)
+    ];
+  }
+    where
+      own : at (linkTo links (h m) m) (h m) ≡ m
+      own = getD-set-same (set links (64 + m) (at links (h m))) (h m) m 0 (rw (length-set links (64 + m) (at links (h m)), e) (omega arith))
+
+      other : (j : ℕ) → j ≢ h m → j ≢ 64 + m → at (linkTo links (h m) m) j ≡ at links j
+      other j c f = getD-set-other (set links (64 + m) (at links (h m))) (h m) j m 0 c ∙ getD-set-other links (64 + m) j (at links (h m)) 0 f
+
+      after : at (linkTo links (h m) m) (64 + m) ≡ at links (h m)
+      after =
+          getD-set-other (set links (64 + m) (at links (h m))) (h m) (64 + m) m 0 (λ p. absurd (omega arith))
+          ∙ getD-set-same links (64 + m) (at links (h m)) 0 (rw e (omega arith))
+
+  -- after it
+  pub linked-all : {links : List ℕ} → Linking nodes h 0 links → Linked nodes h links
+  linked-all x = record { first = x .first; next = λ k l d. x .next k (omega arith) l d }
