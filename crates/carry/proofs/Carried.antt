@@ -22,8 +22,9 @@ use Rattle.sheet.proofs.Filled.{cells-le, length-sheet}
 use Rattle.moves.specs.declared.Moves.{Moves}
 use Rattle.moves.specs.declared.MovesAnswer.{MovesAnswer}
 use Rattle.moves.specs.Moves.{readMoves, routesOf, countsOf, accepted as movesAccepted}
-use Rattle.moves.proofs.Accepted.{Accepted as AcceptedMoves, moves-accepted, routes-are, counts-are, route-at}
-use Rattle.transfer.specs.Carry.{sendsWithin, carried, Acceptable, Ready}
+use Rattle.moves.proofs.Accepted.{Accepted as AcceptedMoves, reading-accepted as moves-reading, routes-are, counts-are, route-at}
+use Rattle.transfer.specs.Carry.{sendsWithin, carried, Ready}
+use Rattle.transfer.proofs.Acceptable.{Acceptable}
 use Rattle.carry.specs.declared.CarryAnswer.{CarryAnswer}
 use Rattle.carry.specs.Carry.{refused, accepted, withinIn, nextTable, nextSheet, pairAnswer, carryAnswer, bytesAfter, pairNext, Read}
 
@@ -43,7 +44,7 @@ module _ (s m : List ℕ) (h : Sheet) (q : Moves) (r : Read s m h q) where
   sheet-facts = reading-accepted s h (r .sheet)
 
   moves-facts : AcceptedMoves m (movesAccepted (q .n) (q .e))
-  moves-facts = rw (r .moves) (moves-accepted m (ap (λ (a : MovesAnswer). a .refusal) (sym (r .moves))))
+  moves-facts = moves-reading m q (r .moves)
 
   -- ---- the sheet's table, as it is unpacked
 

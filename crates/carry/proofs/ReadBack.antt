@@ -22,7 +22,7 @@ use Rattle.sheet.proofs.Tables.{length-table, table-outside, table-sum}
 use Rattle.sheet.proofs.RoundTrip.{Writable, read-written, table-written}
 use Rattle.moves.specs.Moves.{readMoves}
 use Rattle.moves.proofs.Accepted.{moves-accepted}
-use Rattle.transfer.specs.Carry.{Acceptable}
+use Rattle.transfer.proofs.Acceptable.{Acceptable}
 use Rattle.transfer.proofs.Applied.{within-at}
 use Rattle.transfer.proofs.Kept.{acceptable-fine, sum-kept, writable-kept}
 use Rattle.sheet.specs.Table.{tableIn}

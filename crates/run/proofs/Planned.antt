@@ -28,7 +28,7 @@ use Rattle.moves.proofs.RoundTrip.{read-written}
 use Rattle.tree.specs.Family.{helps, overHelpers}
 use Rattle.transfer.specs.Due.{Allotted}
 use Rattle.transfer.specs.Matching.{allRoutes, allCounts}
-use Rattle.transfer.specs.Carry.{Acceptable}
+use Rattle.transfer.proofs.Acceptable.{Acceptable}
 use Rattle.weigh.specs.Weigh.{totalsIn}
 use Rattle.decide.specs.declared.Decision.{Decision}
 use Rattle.decide.proofs.Decided.{Fine}

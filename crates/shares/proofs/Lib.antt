@@ -4,7 +4,6 @@ pub mod FillLaws
 pub mod Amounts
 pub mod Levels
 pub mod Links
-pub mod Agree
 pub mod Walks
 pub mod Filling
 pub mod KeptShares

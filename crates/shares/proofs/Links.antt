@@ -1,7 +1,6 @@
 -- Laws of the links from helper to helper, which are made from the last node down. Assumes nothing.
-use mathlib.Core.Path.{_≡_, refl, sym, ap, _∙_}
+use mathlib.Core.Path.{_≡_, refl, sym, _∙_}
 use mathlib.Core.Logic.{_≢_}
-use mathlib.Core.Bool.{false}
 use mathlib.Core.List.{List}
 use Prim.Native.Nat.{ℕ, _+_, _≤_, _<_}
 use native.Mathlib.Decide.{ℕ-discrete}
@@ -10,7 +9,9 @@ use lib.ListN.{length, set, replicate, length-set, getD-replicate}
 use lib.Seq.{getD-set-same, getD-set-other}
 use Rattle.plan.specs.Tree.{at}
 use Rattle.tree.specs.Family.{helps}
-use Rattle.shares.specs.Walk.{Next, Linked}
+use Rattle.fold.specs.First.{FirstFrom}
+use Rattle.fold.proofs.First.{first-end, first-here, first-later}
+use Rattle.shares.specs.Walk.{Linked}
 use Rattle.shares.proofs.Families.{helps-yes, helps-own, helps-no}
 
 -- the links once node m, which helps g, is put before g's other helpers
@@ -19,46 +20,21 @@ linkTo links g m = set (set links (64 + m) (at links g)) g m
 
 -- the links among the nodes from m on
 pub record Linking (nodes : ℕ) (h : ℕ → ℕ) (m : ℕ) (links : List ℕ) : Type 0 where
-  pub first : (n : ℕ) → n < nodes → Next nodes h n m (at links n)
-  pub next : (k : ℕ) → m ≤ k → k < nodes → h k ≢ k → Next nodes h (h k) (k + 1) (at links (64 + k))
+  pub first : (n : ℕ) → n < nodes → FirstFrom nodes (helps h n) m (at links n)
+  pub next : (k : ℕ) → m ≤ k → k < nodes → h k ≢ k → FirstFrom nodes (helps h (h k)) (k + 1) (at links (64 + k))
 
 module _ {nodes : ℕ} {h : ℕ → ℕ} where
-  -- with a node more in front, that is no helper of n or the first one
-  next-other : {n m to : ℕ} → Next nodes h n (m + 1) to → helps h n m ≡ false → Next nodes h n m to
-  next-other {n} {m} x f = record {
-    ahead = omega (arith, x .ahead);
-    most = x .most;
-    helper = x .helper;
-    between = λ k b l. elim (ℕ-discrete k m) [
-      | yes e ↦ ap (helps h n) e ∙ f
-      | no d ↦ x .between k (omega arith) l
-    ];
-  }
-
-  next-here : {n m : ℕ} → m < nodes → m ≢ n → h m ≡ n → Next nodes h n m m
-  next-here {n} {m} l d e = record {
-    ahead = omega arith;
-    most = omega arith;
-    helper = λ _. helps-yes h n m d e;
-    between = λ k b c. absurd (omega arith);
-  }
-
   -- before the loop, and for each way that a turn of it can go
 
   pub linking-none : nodes ≤ 64 → Linking nodes h nodes (replicate 128 nodes)
   linking-none b = record {
-    first = λ n l. rw (getD-replicate 128 n nodes 0 (omega arith)) (record {
-      ahead = omega arith;
-      most = omega arith;
-      helper = λ c. absurd (omega arith);
-      between = λ k c d. absurd (omega arith);
-    });
+    first = λ n l. rw (getD-replicate 128 n nodes 0 (omega arith)) (first-end nodes (helps h n));
     next = λ k c l. absurd (omega arith);
   }
 
   pub linking-root : {m : ℕ} {links : List ℕ} → Linking nodes h (m + 1) links → h m ≡ m → Linking nodes h m links
-  linking-root {m} x e = record {
-    first = λ n l. next-other (x .first n l) (elim (ℕ-discrete (h m) n) [
+  linking-root {m} {links} x e = record {
+    first = λ n l. first-later nodes (helps h n) m (at links n) (x .first n l) (elim (ℕ-discrete (h m) n) [
       | yes q ↦ helps-own h n m (sym e ∙ q)
       | no d ↦ helps-no h n m d
     ]);
@@ -73,8 +49,8 @@ module _ {nodes : ℕ} {h : ℕ → ℕ} where
       → Linking nodes h m (linkTo links (h m) m)
   linking-helper {m} {links} x e b l i d = record {
     first = λ n ln. elim (ℕ-discrete n (h m)) [
-      | yes q ↦ rw (q, own) (next-here l (λ p. d (sym p)) refl)
-      | no c ↦ rw (other n c (λ p. absurd (omega arith))) (next-other (x .first n ln) (helps-no h n m (λ p. c (sym p))))
+      | yes q ↦ rw (q, own) (first-here nodes (helps h (h m)) m l (helps-yes h (h m) m (λ p. d (sym p)) refl))
+      | no c ↦ rw (other n c (λ p. absurd (omega arith))) (first-later nodes (helps h n) m (at links n) (x .first n ln) (helps-no h n m (λ p. c (sym p))))
     ];
     next = λ k c lk dk. elim (ℕ-discrete k m) [
       | yes q ↦ rw (q, after) (x .first (h m) i)

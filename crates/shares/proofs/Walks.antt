@@ -12,7 +12,8 @@ use Rattle.plan.specs.Tree.{at, walk, Tree}
 use Rattle.plan.proofs.Trees.{walk-inside}
 use Rattle.tree.specs.Totals.{tabulate}
 use Rattle.tree.specs.Family.{helps}
-use Rattle.shares.specs.Walk.{Next, Walked}
+use Rattle.fold.specs.First.{FirstFrom}
+use Rattle.shares.specs.Walk.{Walked}
 use Rattle.tree.proofs.Tabulate.{length-tabulate, tabulate-behind, zeros-at}
 use Rattle.shares.proofs.Families.{helps-yes}
 
@@ -37,12 +38,12 @@ module _ {nodes : ℕ} {h right : ℕ → ℕ} {depth n : ℕ} {before : ℕ →
   passed-none = record { stays = λ k e. e; made = λ i l. absurd (omega arith) }
 
   -- from one helper to the next
-  pub passed-next : {m to : ℕ} {out : ℕ → ℕ} → Passed nodes h right depth n before m out → Next nodes h n m to → Passed nodes h right depth n before to out
+  pub passed-next : {m to : ℕ} {out : ℕ → ℕ} → Passed nodes h right depth n before m out → FirstFrom nodes (helps h n) m to → Passed nodes h right depth n before to out
   passed-next {m} p x = record {
     stays = p .stays;
     made = λ i l y. elim (decLt i m) [
       | yes b ↦ p .made i b y
-      | no d ↦ absurd (true≢false (sym y ∙ x .between i (omega arith) l))
+      | no d ↦ absurd (true≢false (sym y ∙ x .none i (omega arith) l))
     ];
   }
 

@@ -35,8 +35,8 @@ amount nodes h limit least total held r n k =
 
 -- ---- the tree
 
--- the share of node k, document 01's term for what it holds of its helpand's subdomain: 0 for the root, and for each other node what it gets of its helpand's subdomain, once its helpand's share is
--- known. The root is looked for so many levels up.
+-- the share of node k, document 01's term for what it holds of its helpand's subdomain: 0 for the root, and for each other node what
+-- it gets of its helpand's subdomain, once its helpand's share is known. The root is looked for so many levels up.
 unfoldable pub shareWithin : ℕ → (ℕ → ℕ) → ℕ → (ℕ → ℕ) → (ℕ → ℕ) → (ℕ → ℕ → ℕ) → ℕ → ℕ → ℕ
 shareWithin nodes h limit least total held zero k = 0
 shareWithin nodes h limit least total held (suc depth) k =

@@ -1,9 +1,9 @@
 -- The walk from the root of a weighed tree down, which divides each family that it meets and notes the helpers' shares.
 use mathlib.Core.Path.{_≡_}
 use mathlib.Core.Logic.{_≢_}
-use mathlib.Core.Bool.{true, false}
 use mathlib.Core.List.{List}
 use Prim.Native.Nat.{ℕ, _+_, _≤_, _<_}
+use Rattle.fold.specs.First.{FirstFrom}
 use Rattle.limit.specs.Limit.{maxNodes}
 use Rattle.plan.specs.Tree.{at, walk, Tree}
 use Rattle.tree.specs.Totals.{held, tabulate, totalsOf}
@@ -16,18 +16,11 @@ pub record Fine (nodes : ℕ) (helpands totals table : List ℕ) : Type 0 where
   pub rooted : (r : ℕ) × Tree nodes (at helpands) r
   pub counted : totals ≡ totalsOf nodes table
 
--- `to` is the next helper of n from node `from` on, or the end of the nodes where there is none
-pub record Next (nodes : ℕ) (h : ℕ → ℕ) (n from to : ℕ) : Type 0 where
-  pub ahead : from ≤ to
-  pub most : to ≤ nodes
-  pub helper : to < nodes → helps h n to ≡ true
-  pub between : (k : ℕ) → from ≤ k → k < to → helps h n k ≡ false
-
 -- an array of links from helper to helper, "by rising number": at n stands the first helper of n, and at 64 + k the next after k of the
--- node that k helps
+-- node that k helps; the number of nodes where there is none
 pub record Linked (nodes : ℕ) (h : ℕ → ℕ) (links : List ℕ) : Type 0 where
-  pub first : (n : ℕ) → n < nodes → Next nodes h n 0 (at links n)
-  pub next : (k : ℕ) → k < nodes → h k ≢ k → Next nodes h (h k) (k + 1) (at links (64 + k))
+  pub first : (n : ℕ) → n < nodes → FirstFrom nodes (helps h n) 0 (at links n)
+  pub next : (k : ℕ) → k < nodes → h k ≢ k → FirstFrom nodes (helps h (h k)) (k + 1) (at links (64 + k))
 
 -- what each node gets of subdomain n, whose owner has share r
 abbrev pub amountsIn : ℕ → ℕ → List ℕ → List ℕ → List ℕ → List ℕ → ℕ → ℕ → List ℕ

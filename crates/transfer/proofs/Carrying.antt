@@ -28,7 +28,8 @@ use Rattle.tree.proofs.Tabulate.{tabulate-at}
 use Rattle.moves.specs.Moves.{subdomain, routeFine, countFine}
 use Rattle.transfer.specs.Due.{dueOf, Allotted}
 use Rattle.transfer.specs.Matching.{surplusOf, shortageOf, movesIn, allRoutes, allCounts}
-use Rattle.transfer.specs.Carry.{fromCell, intoCell, moved, sends, receives, sendsWithin, carried, Acceptable}
+use Rattle.transfer.specs.Carry.{fromCell, intoCell, moved, sends, receives, sendsWithin, carried}
+use Rattle.transfer.proofs.Acceptable.{Acceptable}
 use Rattle.transfer.proofs.Dues.{due-sum}
 use Rattle.transfer.proofs.Ends.{moved-absent, moved-collect}
 use Rattle.transfer.proofs.Matched.{surplus-apart, moves-few, routes-rise, routes-in, counts-fine, sends-surplus, receives-shortage}

@@ -10,6 +10,7 @@ use lib.ListN.{length, length-append, length-map}
 use lib.Seq.{sets, length-sets}
 use Rattle.words.proofs.Buffer.{sets-append}
 use Rattle.transfer.specs.Matching.{Move, moveOf, matched, NextFrom, routeOf, countOf}
+use Rattle.transfer.proofs.Next.{next-none, next-some}
 use Rattle.transfer.proofs.Turns.{turn-stop, rest-sender, rest-receiver, rest, senders-passed, receivers-passed}
 
 -- `rest` is left of `whole`, which began at entry e of the arrays routes₀ and counts₀
@@ -65,8 +66,8 @@ module _ (nodes : ℕ) (surplus shortage : ℕ → ℕ) where
   -- the next sender, and the next receiver, have the same moves before them
   to-sender : (s s′ count r got : ℕ) → r < nodes → NextFrom nodes surplus s s′ count → rest nodes surplus shortage s 0 r got ≡ rest nodes surplus shortage s′ 0 r got
   to-sender s s′ count r got hr x =
-      let q : s + (s′ - s) ≡ s′ = omega (arith, x .from-le) in
-      rw q at (senders-passed nodes surplus shortage (s′ - s) s r got (omega (arith, x .from-le, x .node-le)) hr (λ k a b. x .passed k a (omega (arith, x .from-le))))
+      let q : s + (s′ - s) ≡ s′ = omega (arith, x .first .from-le) in
+      rw q at (senders-passed nodes surplus shortage (s′ - s) s r got (omega (arith, x .first .from-le, x .first .to-le)) hr (λ k a b. next-none x k a (omega (arith, x .first .from-le))))
 
   to-receiver : (s sent r r′ count : ℕ) → (s < nodes → 0 < surplus s - sent) → NextFrom nodes shortage r r′ count
       → rest nodes surplus shortage s sent r 0 ≡ rest nodes surplus shortage s sent r′ 0
@@ -74,8 +75,8 @@ module _ (nodes : ℕ) (surplus shortage : ℕ → ℕ) where
     | yes l ↦ turn-stop nodes surplus shortage (2 * nodes - (s + r)) s sent r 0 (inl l) ∙ sym (turn-stop nodes surplus shortage (2 * nodes - (s + r′)) s sent r′ 0 (inl l))
     | no d ↦
         let hs : s < nodes = omega (arith, d) in
-        let q : r + (r′ - r) ≡ r′ = omega (arith, x .from-le) in
-        rw q at (receivers-passed nodes surplus shortage (r′ - r) s sent r hs (h hs) (omega (arith, x .from-le, x .node-le)) (λ k a b. x .passed k a (omega (arith, x .from-le))))
+        let q : r + (r′ - r) ≡ r′ = omega (arith, x .first .from-le) in
+        rw q at (receivers-passed nodes surplus shortage (r′ - r) s sent r hs (h hs) (omega (arith, x .first .from-le, x .first .to-le)) (λ k a b. next-none x k a (omega (arith, x .first .from-le))))
   ]
 
   pub begin : (n : ℕ) (routes counts : List ℕ) (e s left r missing : ℕ) → 0 < nodes → NextFrom nodes surplus 0 s left → NextFrom nodes shortage 0 r missing
@@ -84,12 +85,12 @@ module _ (nodes : ℕ) (surplus shortage : ℕ → ℕ) where
       let z : 2 * nodes - 0 ≡ 2 * nodes = omega arith in
       let all : matched nodes surplus shortage (2 * nodes) 0 0 0 0 ≡ rest nodes surplus shortage 0 0 0 0 = rw z in
       let q : matched nodes surplus shortage (2 * nodes) 0 0 0 0 ≡ rest nodes surplus shortage s 0 r 0 =
-      all ∙ to-sender 0 s left 0 0 some x ∙ to-receiver s 0 0 r missing (λ h. omega (arith, x .some h, x .is h)) y in
+      all ∙ to-sender 0 s left 0 0 some x ∙ to-receiver s 0 0 r missing (λ h. omega (arith, next-some x h)) y in
       record {
         sent = 0;
         got = 0;
-        s-le = x .node-le;
-        r-le = y .node-le;
+        s-le = x .first .to-le;
+        r-le = y .first .to-le;
         left-is = λ h. omega (arith, x .is h);
         missing-is = λ h. omega (arith, y .is h);
         moves = rw q (left-all n routes counts e (rest nodes surplus shortage s 0 r 0));
@@ -136,7 +137,7 @@ module _ (nodes : ℕ) (surplus shortage : ℕ → ℕ) where
             record {
               sent = 0;
               got = p .got + v;
-              s-le = x .node-le;
+              s-le = x .first .to-le;
               r-le = p .r-le;
               left-is = λ l. omega (arith, x .is l);
               missing-is = λ l. omega (arith, p .missing-is hr);
@@ -150,7 +151,7 @@ module _ (nodes : ℕ) (surplus shortage : ℕ → ℕ) where
               sent = p .sent + v;
               got = 0;
               s-le = p .s-le;
-              r-le = y .node-le;
+              r-le = y .first .to-le;
               left-is = λ l. omega (arith, p .left-is hs);
               missing-is = λ l. omega (arith, y .is l);
               moves = behind (rest nodes surplus shortage s (p .sent + v) (r + 1) 0) (rest nodes surplus shortage s (p .sent + v) r′ 0) (receiver-rest h)

@@ -22,7 +22,8 @@ use Rattle.plan.specs.Tree.{at}
 use Rattle.tree.specs.Totals.{held, totalOf}
 use Rattle.moves.specs.Moves.{subdomain, sender, receiver, routeFine}
 use Rattle.moves.proofs.Laws.{route-is}
-use Rattle.transfer.specs.Carry.{fromCell, intoCell, sends, receives, sendsWithin, carried, Acceptable}
+use Rattle.transfer.specs.Carry.{fromCell, intoCell, sends, receives, sendsWithin, carried}
+use Rattle.transfer.proofs.Acceptable.{Acceptable}
 use Rattle.transfer.proofs.Ends.{moved-absent}
 use Rattle.transfer.proofs.Applied.{applied, applied-length, applied-at, applied-sum, applied-enough, applied-within, carried-at, length-carried, carried-none, carried-more, within-at}
 

@@ -5,6 +5,7 @@ pub mod Ends
 pub mod Matched
 pub mod Entries
 pub mod Subdomains
+pub mod Acceptable
 pub mod Applied
 pub mod Kept
 pub mod Carrying

@@ -1,9 +1,12 @@
 -- The first node from a node on that has an amount, looked for one by one. Assumes nothing.
 use mathlib.Core.Path.{_≡_, subst}
 use mathlib.Core.Logic.{_≢_}
+use mathlib.Core.Bool.{false}
 use Prim.Native.Nat.{ℕ, _+_, _≤_, _<_}
 use native.Mathlib.Decide.{ℕ-discrete}
 use native.Mathlib.Omega.{arith}
+use borrow.Author.Tests.{lt-ltb, le-ltb, ltb-true, ltb-false}
+use lib.Dec.{ltb}
 use Rattle.transfer.specs.Matching.{NextFrom}
 
 -- all nodes before k have none
@@ -28,15 +31,33 @@ module _ (nodes : ℕ) (amount : ℕ → ℕ) (from : ℕ) where
           ];
         }
 
+    -- no node before k has one
+    none : (j : ℕ) → from ≤ j → j < k → ltb 0 (amount j) ≡ false
+    none j a b = le-ltb 0 (amount j) (omega (arith, p .passed j a b))
+
     pub found : (count : ℕ) → count ≡ amount k → count ≢ 0 → NextFrom nodes amount from k count
-    found count e d = record { from-le = p .from-le; node-le = p .k-le; passed = p .passed; some = λ h. omega (arith, d); is = λ h. e }
+    found count e d =
+        record {
+          first = record { from-le = p .from-le; to-le = p .k-le; passes = λ h. lt-ltb 0 (amount k) (omega (arith, e, d)); none = none };
+          is = λ h. e;
+        }
 
     pub found-none : (count : ℕ) → nodes ≤ k → NextFrom nodes amount from nodes count
     found-none count h =
         record {
-          from-le = omega (arith, p .from-le, p .k-le);
-          node-le = omega arith;
-          passed = λ j a b. p .passed j a (omega arith);
-          some = λ l. absurd (omega arith);
+          first = record {
+            from-le = omega (arith, p .from-le, p .k-le);
+            to-le = omega arith;
+            passes = λ l. absurd (omega arith);
+            none = λ j a b. none j a (omega arith);
+          };
           is = λ l. absurd (omega arith);
         }
+
+-- what the next one says of the amounts
+module _ {nodes : ℕ} {amount : ℕ → ℕ} {from node count : ℕ} (x : NextFrom nodes amount from node count) where
+  pub next-none : (k : ℕ) → from ≤ k → k < node → amount k ≡ 0
+  next-none k a b = omega (arith, ltb-false 0 (amount k) (x .first .none k a b))
+
+  pub next-some : node < nodes → 0 < amount node
+  next-some h = ltb-true 0 (amount node) (x .first .passes h)

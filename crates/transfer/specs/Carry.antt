@@ -6,12 +6,10 @@ use mathlib.Core.Bool.{Bool, true, _&&_}
 use lib.Dec.{leb, eqb}
 use lib.ListN.{length, getD}
 use Rattle.fold.specs.Sum.{only, sum}
-use Rattle.fold.specs.All.{every}
-use Rattle.fold.specs.Rising.{rising}
 use Rattle.limit.specs.Limit.{maxTotal}
 use Rattle.words.specs.Words.{words}
 use Rattle.plan.specs.Tree.{at}
-use Rattle.moves.specs.Moves.{subdomain, sender, receiver, routeFine, countFine}
+use Rattle.moves.specs.Moves.{subdomain, sender, receiver}
 
 -- "A cell is holder × 64 + subdomain.": the cell that a route leads from, and the cell that it leads to
 abbrev pub fromCell : ℕ → ℕ
@@ -50,13 +48,6 @@ carriedFrom routes counts c (x ∷ table) = (x - sends routes counts c + receive
 
 abbrev pub carried : List ℕ → List ℕ → List ℕ → List ℕ
 carried table routes counts = carriedFrom routes counts 0 table
-
--- routes and counts that pass *read moves*' checks 33, 35 and 36
-pub record Acceptable (nodes : ℕ) (routes counts : List ℕ) : Type 0 where
-  pub same : length routes ≡ length counts
-  pub few : length routes ≤ nodes * (nodes - 1)
-  pub routes-fine : rising (routeFine nodes) 0 routes ≡ true
-  pub counts-fine : every countFine counts ≡ true
 
 -- what testing and applying moves ask: a table whose sum is in range, and the bytes of moves with e entries, each route one of
 -- 64 × 4,096

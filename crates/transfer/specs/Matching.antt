@@ -1,9 +1,10 @@
 -- Document 01, 'Moves': who sends how many particles to whom, in one subdomain and then in all of them.
 use mathlib.Core.Path.{_≡_}
-use Prim.Native.Nat.{ℕ, zero, suc, _+_, _-_, _*_, _≤_, _<_, min}
+use Prim.Native.Nat.{ℕ, zero, suc, _+_, _-_, _*_, _<_, min}
 use mathlib.Core.List.{List, [], _∷_, _++_, map}
 use mathlib.Core.Bool.{cond, _&&_}
 use lib.Dec.{ltb, leb, eqb}
+use Rattle.fold.specs.First.{FirstFrom}
 use Rattle.fold.specs.Collect.{collect}
 use Rattle.tree.specs.Totals.{held}
 
@@ -40,13 +41,9 @@ matched nodes surplus shortage (suc turns) s sent r got =
     let moves = moveOf s r m ++ rest in
     cond (ltb s nodes && ltb r nodes) moves []
 
--- a step of going through nodes "by rising number": from a node on, the first with an amount is this one; past the last such node,
--- it is the number of nodes
+-- a step of going through nodes "by rising number": the first node from `from` on with an amount, and the amount
 pub record NextFrom (nodes : ℕ) (amount : ℕ → ℕ) (from node count : ℕ) : Type 0 where
-  pub from-le : from ≤ node
-  pub node-le : node ≤ nodes
-  pub passed : (k : ℕ) → from ≤ k → k < node → amount k ≡ 0
-  pub some : node < nodes → 0 < count
+  pub first : FirstFrom nodes (λ k. ltb 0 (amount k)) from node
   pub is : node < nodes → count ≡ amount node
 
 -- the moves of a subdomain, from what each node holds of it and what it is due

@@ -6,7 +6,7 @@ use native.Mathlib.Nat.{suc-add, add-suc, add-zero, zero-add}
 use native.Mathlib.Numerals.{add-one, add-two, add-three}
 use native.Mathlib.Omega.{arith}
 use borrow.Author.Tests.{lt-ltb, le-ltb}
-use lib.ListN.{length, set, length-set, length-append}
+use lib.ListN.{length, set, length-append}
 use lib.Seq.{sets, sets-eq, set-comm}
 use Rattle.words.specs.Words.{bytesOf, encode, putWord}
 use Rattle.words.specs.declared.Written.the-variants.{Bytes, Short}
@@ -21,9 +21,6 @@ sets-append l i (u ∷ us) vs = sets-append (set l i u) (suc i) us vs ∙ rw (su
 -- a word is a run of four stores
 pub put-sets : (l : List ℕ) (i w : ℕ) → putWord l i w ≡ sets l i (bytesOf w)
 put-sets l i w = rw (add-one i, add-two i, add-three i)
-
-pub length-put : (l : List ℕ) (i w : ℕ) → length (putWord l i w) ≡ length l
-length-put l i w = simp length-set
 
 -- a word right behind a run of words
 pub put-behind : (l : List ℕ) (i : ℕ) (ws : List ℕ) (w : ℕ) → putWord (sets l i (encode ws)) (i + 4 * length ws) w ≡ sets l i (encode ws ++ bytesOf w)

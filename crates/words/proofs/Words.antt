@@ -92,15 +92,6 @@ encode-words (a ∷ b ∷ c ∷ d ∷ s) (suc k) h e =
     rw (e₁, e₂, e₃, f₀, f₁, f₂)
     (ap (λ (l : List ℕ). a ∷ b ∷ c ∷ d ∷ l) (encode-words s k (λ i l. h (suc (suc (suc (suc i)))) (omega arith)) (omega arith)))
 
-pub words-below : (s : List ℕ) → Below 256 s → Below (2 ^ 32) (words s)
-unfolding words
-words-below [] h i l = absurd (omega arith)
-words-below (a ∷ []) h i l = absurd (omega arith)
-words-below (a ∷ b ∷ []) h i l = absurd (omega arith)
-words-below (a ∷ b ∷ c ∷ []) h i l = absurd (omega arith)
-words-below (a ∷ b ∷ c ∷ d ∷ s) h zero l = omega (arith, h 0 (omega arith), h 1 (omega arith), h 2 (omega arith), h 3 (omega arith))
-words-below (a ∷ b ∷ c ∷ d ∷ s) h (suc i) l = words-below s (λ j m. h (suc (suc (suc (suc j)))) (omega arith)) i (omega arith)
-
 pub encode-append : (us vs : List ℕ) → encode (us ++ vs) ≡ encode us ++ encode vs
 unfolding encode
 encode-append [] vs = refl

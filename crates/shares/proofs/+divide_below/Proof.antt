@@ -15,7 +15,8 @@ use Rattle.plan.specs.Tree.{at}
 use Rattle.tree.specs.Totals.{held}
 use Rattle.tree.specs.Family.{helps}
 use Rattle.shares.specs.Shares.{amount}
-use Rattle.shares.specs.Walk.{Next, sharesIn}
+use Rattle.fold.specs.First.{FirstFrom}
+use Rattle.shares.specs.Walk.{sharesIn}
 use Rattle.tree.proofs.Tabulate.{tabulate-at}
 use Rattle.shares.proofs.Families.{helps-of, helps-ne, helper-below}
 use Rattle.shares.proofs.Levels.{array-helper}
@@ -76,7 +77,7 @@ module _ (t : ℕ) where
   onward : (c : lts.In-loop (family.Asked, family.Learnt, Deeper t, reads.Post) (Here t) reads.Post Inv μ) →
       let l = c .before in
       let a = l .before .before .before .before .before .before .args in
-      Next (a .nodes) (at (now (a .helpands))) (a .n) (l .loop .k + 1) (at (now (a .links)) (64 + l .loop .k))
+      FirstFrom (a .nodes) (helps (at (now (a .helpands))) (a .n)) (l .loop .k + 1) (at (now (a .links)) (64 + l .loop .k))
   onward c =
       let l = c .before in
       let b = l .before .before .before .before .before .before in
@@ -114,7 +115,7 @@ module _ (t : ℕ) where
   loop-holds c =
       let p = c .before .before .before .before .before .pre .1 in
       let x = p .1 .first (c .before .before .before .before .before .args .n) (p .2) in
-      (x .most, x .helper, p .3, passed-next passed-none x)
+      (x .to-le, x .passes, p .3, passed-next passed-none x)
 
   loop-again : lts.Need-loop-again (family.Asked, family.Learnt, Deeper t, reads.Post) (Here t) reads.Post Inv μ
   loop-again c =
@@ -125,7 +126,7 @@ module _ (t : ℕ) where
       let v = at (l .before .divide-family .result) k in
       let x = onward i in
       let d = c .before .divide-below .ensures in
-      (x .most, x .helper, d .0, passed-next (passed-helper v (l .loop .shares) (l .loop .inv .3) (omega (arith, p .0 .few)) (noted i) (d .1)) x)
+      (x .to-le, x .passes, d .0, passed-next (passed-helper v (l .loop .shares) (l .loop .inv .3) (omega (arith, p .0 .few)) (noted i) (d .1)) x)
 
   returns-3 : lts.Need-returns-3 (family.Asked, family.Learnt, Deeper t, reads.Post) (Here t) reads.Post Inv μ
   returns-3 c =
@@ -159,6 +160,6 @@ pub +divide-below-spec : {M : Type 1} → statement M
     (λ c. search needs)  -- add-k
     (λ c. search needs)  -- mul-k-2
     (λ c. search needs)  -- element-copy-out-k-2
-    (λ c. omega (arith, onward t (c .before .before .before) .ahead))  -- loop-less
+    (λ c. omega (arith, onward t (c .before .before .before) .from-le))  -- loop-less
     (loop-again t)
     (returns-3 t)

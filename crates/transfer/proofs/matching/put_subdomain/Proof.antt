@@ -82,6 +82,11 @@ put-move-requires c κs =
     let q = c .before .before in
     (omega arith, omega (arith, sender-lt q), omega (arith, receiver-lt q), has-room q .0, has-room q .1)
 
+next-sender-requires-2 : tie.Need-next-sender-requires-2 Inv-loop μ-loop
+next-sender-requires-2 c κs =
+    let q = c .before .before .before .before .before .before .before .before .before .before .before .before in
+    (start q .pre .0, start q .pre .1, omega (arith, sender-lt q))
+
 next-receiver-requires-2 : tie.Need-next-receiver-requires-2 Inv-loop μ-loop
 next-receiver-requires-2 c κs =
     let q = c .before .before .before .before .before .before .before .before .before .before .before .before in
@@ -148,7 +153,7 @@ put-subdomain-spec =
     put-move-requires
     (λ c. search needs)  -- sub-r
     (λ c. search needs)  -- add-next-sender
-    (λ c κs. search needs)  -- next-sender-requires-2
+    next-sender-requires-2
     (λ c. search needs)  -- loop-less
     loop-again
     (λ c. search needs)  -- sub-s
