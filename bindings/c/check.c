@@ -1,4 +1,4 @@
-/* Calls each function once as C or as C++, also with null pointers, and stops at the first answer that is not document 01's. */
+/* Calls each function as C or as C++, also with null pointers, and stops at the first answer that is not document 01's. */
 #include <stdio.h>
 #include <stdlib.h>
 #include "firrozka.h"

@@ -1,4 +1,4 @@
-! Calls each function once through the module and stops at the first answer that is not document 01's.
+! Calls each function through the module and stops at the first answer that is not document 01's.
 program check
     use, intrinsic :: iso_c_binding, only: c_int8_t, c_int32_t, c_size_t
     use firrozka

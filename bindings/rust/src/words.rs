@@ -28,11 +28,6 @@ impl<'a> Words<'a> {
         self.0.chunks_exact(4).map(word)
     }
 
-    /// The word at a place.
-    pub fn get(self, place: usize) -> Option<u32> {
-        self.iter().nth(place)
-    }
-
     /// `count` words from the word `from` on, or panics where there are fewer.
     pub(crate) fn part(self, from: usize, count: usize) -> Words<'a> {
         Words(&self.0[4 * from..][..4 * count])

@@ -135,13 +135,13 @@ fn refusals_leave_the_buffers_untouched() {
         buffers.plan_step(&sheet, &two),
         Err(Refusal::PlanNodesDiffer)
     );
-    assert_eq!(buffers.plan, [0xa5; PLAN_BYTES]);
-    assert_eq!(buffers.moves, [0xa5; MOVES_BYTES]);
     let Buffers { plan, moves } = &mut buffers;
     let step = plan_step(&sheet, NO_PLAN, &mut plan[..35], moves);
     assert_eq!(step, Err(Refusal::PlanBuffer));
     let step = plan_step(&sheet, NO_PLAN, plan, &mut moves[..23]);
     assert_eq!(step, Err(Refusal::MovesBuffer));
+    assert_eq!(buffers.plan, [0xa5; PLAN_BYTES]);
+    assert_eq!(buffers.moves, [0xa5; MOVES_BYTES]);
     assert_eq!(weigh(&sheet, &old, &mut []), Err(Refusal::LeastBuffer));
     let roots = to_bytes(&[3, 0, 36, 0, 1, 2, 0, 0, 0]);
     assert_eq!(weigh(&sheet, &roots, &mut []), Err(Refusal::PlanPrimary));
