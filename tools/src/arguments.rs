@@ -2,6 +2,7 @@
 
 use crate::show::Record;
 use crate::task::Task;
+use crate::text::Piece;
 
 /// How the tool is called.
 pub const USAGE: &str = "\
@@ -10,7 +11,7 @@ records write sheet|plan|moves [-o OUT] [IN]   words to a record; one that is re
 records write any [-o OUT] [IN]                words to bytes, whatever they are
 records show sheet|plan|moves [-o OUT] [IN]    a record to readable text
 records words [-o OUT] [IN]                    any bytes to words
-Without IN the input is read, without OUT the output is written.
+Without IN the standard input is read, without OUT the standard output is written.
 ";
 
 /// What the tool is called for: file names where there are any.
@@ -61,7 +62,7 @@ pub fn parse(arguments: impl IntoIterator<Item = String>) -> Option<Call> {
     let numbers = (given.n, given.t);
     let (task, files) = match (plain.as_slice(), &numbers) {
         (["table", files @ ..], (Some(n), Some(t))) => {
-            let (n, t) = (n.parse().ok()?, t.parse().ok()?);
+            let (n, t) = (number(n)?, number(t)?);
             (Task::Table { n, t }, files)
         }
         (["write", "any", files @ ..], (None, None)) => (Task::Write(None), files),
@@ -83,4 +84,10 @@ pub fn parse(arguments: impl IntoIterator<Item = String>) -> Option<Call> {
         input,
         output,
     })
+}
+
+/// The number of an option, written as in a text.
+fn number(text: &str) -> Option<u32> {
+    let (line, column) = (1, 1);
+    Piece { line, column, text }.number().ok()
 }

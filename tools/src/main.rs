@@ -1,14 +1,19 @@
 //! `records`: text to records and back. Ends with 0 if all is well, 1 if the
-//! input is bad or refused and nothing is written, 2 if it is called wrongly.
+//! input is bad or refused or a file cannot be read or written, 2 if it is
+//! called wrongly.
 #![forbid(unsafe_code)]
 
 use firrozka_tools::arguments::{parse, Call, USAGE};
+use std::ffi::OsString;
 use std::io::{self, Read, Write};
 use std::process::ExitCode;
 use std::{env, fs};
 
 fn main() -> ExitCode {
-    match parse(env::args().skip(1)).map(|call| run(&call)) {
+    let arguments = env::args_os().skip(1);
+    // All are text, or there is no such call.
+    let arguments: Result<Vec<String>, OsString> = arguments.map(OsString::into_string).collect();
+    match arguments.ok().and_then(parse).map(|call| run(&call)) {
         Some(Ok(())) => ExitCode::SUCCESS,
         Some(Err(message)) => {
             eprintln!("{message}");

@@ -21,6 +21,15 @@ impl Record {
         }
     }
 
+    /// Whether the library accepts these bytes as such a record, or why not.
+    pub fn check(self, bytes: &[u8]) -> Result<(), Refusal> {
+        match self {
+            Record::Sheet => read_sheet(bytes).map(drop),
+            Record::Plan => read_plan(bytes).map(drop),
+            Record::Moves => read_moves(bytes).map(drop),
+        }
+    }
+
     /// The record in these bytes as text, or why the library refuses it.
     pub fn show(self, bytes: &[u8]) -> Result<String, Refusal> {
         let lines = match self {
@@ -69,10 +78,10 @@ fn node(node: Node) -> String {
 fn moves(bytes: &[u8]) -> Result<Vec<String>, Refusal> {
     let moves = read_moves(bytes)?;
     let head = format!("moves: {} nodes, {} moves", moves.n, moves.e);
-    Ok(lines(head, moves.entries().map(route)))
+    Ok(lines(head, moves.entries().map(one_move)))
 }
 
-fn route(
+fn one_move(
     Move {
         subdomain,
         sender,

@@ -2,9 +2,12 @@
 //! The first line may be these three words.
 
 use crate::text::{Fault, Piece};
-use std::collections::btree_map::{BTreeMap, Entry};
+use std::collections::BTreeMap;
 
 const COLUMNS: [&str; 3] = ["holder", "subdomain", "count"];
+
+/// "at most 1,000,000,000" particles on a sheet.
+const MOST_PARTICLES: u64 = 1_000_000_000;
 
 /// The words of the sheet of N and t with these counts. Counts of 0 are left
 /// out: "Cells absent from the sheet count as 0." N is at most 64.
@@ -23,15 +26,18 @@ pub fn sheet(n: u32, t: u32, text: &str) -> Result<Vec<u32>, Fault> {
 /// The counts by cell: "A cell is holder × 64 + subdomain."
 fn counts(n: u32, text: &str) -> Result<BTreeMap<u32, u32>, Fault> {
     let mut counts = BTreeMap::new();
+    let mut total = 0;
     for fields in rows(text) {
         let [holder, subdomain, count] = three(&fields)?;
         let cell = node(holder, n)? * 64 + node(subdomain, n)?;
-        match counts.entry(cell) {
-            Entry::Vacant(place) => place.insert(count.number()?),
-            Entry::Occupied(_) => {
-                return Err(holder.fault("this holder and subdomain stand above already"));
-            }
-        };
+        let number = count.number()?;
+        if counts.insert(cell, number).is_some() {
+            return Err(holder.fault("this holder and subdomain stand above already"));
+        }
+        total += u64::from(number);
+        if total > MOST_PARTICLES {
+            return Err(count.fault("this count brings the total above 1,000,000,000"));
+        }
     }
     Ok(counts)
 }
@@ -40,8 +46,8 @@ fn counts(n: u32, text: &str) -> Result<BTreeMap<u32, u32>, Fault> {
 fn rows(text: &str) -> impl Iterator<Item = Vec<Piece<'_>>> {
     let lines = Piece::lines(text).filter(|line| !line.text.trim().is_empty());
     let rows = lines.map(|line| line.split(|c| c == ',').collect::<Vec<Piece>>());
-    let named = |(place, row): &(usize, Vec<Piece>)| *place > 0 || !is_header(row);
-    rows.enumerate().filter(named).map(|(_, row)| row)
+    let is_data = |(place, row): &(usize, Vec<Piece>)| *place > 0 || !is_header(row);
+    rows.enumerate().filter(is_data).map(|(_, row)| row)
 }
 
 fn is_header(fields: &[Piece]) -> bool {

@@ -84,6 +84,6 @@ impl Task {
 
 /// The bytes, if the library accepts them as such a record.
 fn accepted(bytes: Vec<u8>, record: Record) -> Result<Vec<u8>, Failure> {
-    record.show(&bytes)?;
+    record.check(&bytes)?;
     Ok(bytes)
 }

@@ -22,9 +22,11 @@ impl fmt::Display for Fault {
     }
 }
 
-/// The text that these bytes are, in UTF-8. A mark of byte order is left out.
+/// The text that these bytes are, in UTF-8. A mark of byte order is left out
+/// and has no column.
 pub fn of_bytes(bytes: &[u8]) -> Result<&str, Fault> {
-    let text = str::from_utf8(bytes).map_err(|error| {
+    let bytes = bytes.strip_prefix(b"\xef\xbb\xbf").unwrap_or(bytes);
+    str::from_utf8(bytes).map_err(|error| {
         let good = String::from_utf8_lossy(&bytes[..error.valid_up_to()]);
         let last = good.rsplit('\n').next().unwrap_or("");
         Fault {
@@ -32,8 +34,7 @@ pub fn of_bytes(bytes: &[u8]) -> Result<&str, Fault> {
             column: 1 + last.chars().count(),
             what: String::from("this is no UTF-8 text"),
         }
-    })?;
-    Ok(text.strip_prefix('\u{feff}').unwrap_or(text))
+    })
 }
 
 /// A part of a line, and where it stands.

@@ -1,13 +1,16 @@
 //! The tool from outside: what it writes, says and leaves alone.
 #![forbid(unsafe_code)]
 
+use std::ffi::OsStr;
+use std::fmt::Debug;
 use std::fs;
 use std::io::Write;
+use std::os::unix::ffi::OsStrExt;
 use std::path::PathBuf;
 use std::process::{Command, Output, Stdio};
 
 /// The tool with this input.
-fn records(arguments: &[&str], input: &[u8]) -> Output {
+fn records(arguments: &[impl AsRef<OsStr>], input: &[u8]) -> Output {
     let mut child = Command::new(env!("CARGO_BIN_EXE_records"))
         .args(arguments)
         .stdin(Stdio::piped())
@@ -109,7 +112,7 @@ fn a_table_becomes_a_sheet() {
 
 #[test]
 fn bad_words_are_refused_with_line_and_column() {
-    let cases: [(&[u8], &str); 7] = [
+    let cases: [(&[u8], &str); 9] = [
         (b"3 10 x", "line 1, column 6: this is no digit"),
         (b"3 10\n 1,000", "line 2, column 3: this is no digit"),
         (b"3\n\n  -1", "line 3, column 3: this is no digit"),
@@ -123,6 +126,12 @@ fn bad_words_are_refused_with_line_and_column() {
             "line 2, column 4: this is no digit",
         ),
         (b"3 10\n3 \xff", "line 2, column 3: this is no UTF-8 text"),
+        // A mark of byte order is no column.
+        (
+            b"\xef\xbb\xbf3 \xff",
+            "line 1, column 3: this is no UTF-8 text",
+        ),
+        (b"\xef\xbb\xbf3 x", "line 1, column 3: this is no digit"),
     ];
     for (text, message) in cases {
         assert_eq!(said(&["write", "any"], text), message);
@@ -176,6 +185,27 @@ fn bad_tables_are_refused_with_line_and_column() {
 }
 
 #[test]
+fn a_table_above_the_largest_total_is_refused_where_it_passes_it() {
+    let most = written(&["write", "any"], b"3 10 2 0 65 400000000 600000000");
+    assert_eq!(written(&TABLE, b"1,1,600000000\n0,0,400000000"), most);
+    let above = "this count brings the total above 1,000,000,000";
+    let cases = [
+        ("0,0,1000000001", "line 1, column 5"),
+        ("0,0,4294967295\n0,1,1", "line 1, column 5"),
+        // The sheet has the cells in another order.
+        ("2,2,600000000\n1,1,400000000\n0,0, 1\n", "line 3, column 6"),
+        (
+            "0,0,1000000000\n0,1,0\n0,2,4294967295\n",
+            "line 3, column 5",
+        ),
+    ];
+    for (text, place) in cases {
+        let message = format!("{place}: {above}");
+        assert_eq!(said(&TABLE, text.as_bytes()), message);
+    }
+}
+
+#[test]
 fn refusals_are_explained() {
     let words = |words: &str| written(&["write", "any"], words.as_bytes());
     let cases = [
@@ -188,8 +218,6 @@ fn refusals_are_explained() {
         assert_eq!(said(&["show", record], &words(text)), message);
         assert_eq!(said(&["write", record], text.as_bytes()), message);
     }
-    let too_many = "refused 7: sheet: a count is 0, or the running sum is above 1,000,000,000";
-    assert_eq!(said(&TABLE, b"0,0,1000000000\n0,1,1"), too_many);
     let nodes = "refused 2: sheet: N is not 1 to 64";
     assert_eq!(said(&["table", "-n", "65", "-t", "10"], b"x"), nodes);
     let tolerance = "refused 3: sheet: t is not 1 to 99";
@@ -233,25 +261,42 @@ fn files_are_written_only_when_all_is_well() {
 
 #[test]
 fn a_wrong_call_gets_the_usage() {
-    let calls: [&[&str]; 10] = [
+    let calls: [&[&str]; 12] = [
         &[],
         &["show"],
         &["show", "trees"],
         &["table", "-n", "3"],
         &["table", "-n", "3", "-t"],
         &["table", "-n", "three", "-t", "10"],
+        &["table", "-n", "+3", "-t", "10"],
+        &["table", "-n", "3", "-t", ""],
         &["table", "-n", "3", "-n", "3", "-t", "10"],
         &["words", "-n", "3"],
         &["words", "-x"],
         &["words", "a", "b"],
     ];
     for call in calls {
-        let output = records(call, b"");
-        assert_eq!(output.status.code(), Some(2), "{call:?}");
-        assert_eq!(output.stdout, b"");
-        assert!(output.stderr.starts_with(b"records table "));
+        gets_the_usage(call);
     }
+    // One that is no text.
+    let no_text = OsStr::from_bytes(b"\xff");
+    gets_the_usage(&[no_text]);
+    gets_the_usage(&[OsStr::new("words"), no_text]);
+}
+
+fn gets_the_usage<T: AsRef<OsStr> + Debug>(call: &[T]) {
+    let output = records(call, b"");
+    assert_eq!(output.status.code(), Some(2), "{call:?}");
+    assert_eq!(output.stdout, b"");
+    assert!(output.stderr.starts_with(b"records table "));
+}
+
+#[test]
+fn a_file_that_cannot_be_read_or_written_is_named() {
     let missing = records(&["words", "no-such-file"], b"");
     assert_eq!(missing.status.code(), Some(1));
     assert!(missing.stderr.starts_with(b"no-such-file: "));
+    let unwritten = records(&["write", "any", "-o", "no-such-folder/file"], b"3 10 0");
+    assert_eq!(unwritten.status.code(), Some(1));
+    assert!(unwritten.stderr.starts_with(b"no-such-folder/file: "));
 }
