@@ -12,7 +12,8 @@
 
 enum { NODES = 64, STACK = 1 << 20, PAINT = 0xa5 };
 
-static uint8_t sheet[32780], old[524], plan[524], moves[32264], next[32780], least[256];
+static uint8_t sheet[FIRROZKA_SHEET_BYTES], next[FIRROZKA_SHEET_BYTES], old[FIRROZKA_PLAN_BYTES], plan[FIRROZKA_PLAN_BYTES];
+static uint8_t moves[FIRROZKA_MOVES_BYTES], least[FIRROZKA_LEAST_BYTES];
 static size_t moves_len;
 static uint32_t kind;
 static uint8_t *stack, *frame;
@@ -23,7 +24,7 @@ static void put(uint8_t *record, size_t index, uint32_t word)
         record[4 * index + byte] = (uint8_t)(word >> (8 * byte));
 }
 
-/* All cells are filled. Most of subdomain `crowded` is held by its owner, who has `count` of it. */
+/* Every cell has 100, but the owner of `crowded` has `count` of it. */
 static void make_sheet(uint32_t crowded, uint32_t count)
 {
     put(sheet, 0, NODES);
@@ -41,7 +42,7 @@ static void make_sheet(uint32_t crowded, uint32_t count)
 static void make_chain(void)
 {
     put(old, 0, NODES);
-    put(old, 1, 2);
+    put(old, 1, FIRROZKA_REBUILT);
     put(old, 2, 0);
     for (uint32_t k = 0; k < NODES; k++) {
         put(old, 3 + k, k == 0 ? 0 : k - 1);
@@ -102,7 +103,7 @@ int main(void)
     make_chain();
     make_sheet(0, 3000);
     measure("plan a step, kept", plan_step);
-    expect(1);
+    expect(FIRROZKA_KEPT);
     measure("weigh", weigh);
     measure("carry out", carry_out);
     measure("read sheet", read_sheet);
@@ -111,11 +112,11 @@ int main(void)
     measure("tree in force", tree_in_force);
     make_sheet(NODES - 1, 100000);
     measure("plan a step, rebuilt, old tree", plan_step);
-    expect(2);
+    expect(FIRROZKA_REBUILT);
     measure("plan a step, rebuilt, no old tree", plan_first);
-    expect(2);
+    expect(FIRROZKA_REBUILT);
     make_sheet(0, 100);
     measure("plan a step, primary", plan_step);
-    expect(0);
+    expect(FIRROZKA_PRIMARY);
     return 0;
 }
