@@ -4,6 +4,7 @@
 
 #include <stdint.h>
 #include <stdio.h>
+#include <stdlib.h>
 
 /* The largest record, a sheet of 4,096 cells, and one byte more, so that a longer file is seen to be too long. */
 enum { LARGEST = 4 * (3 + 2 * 4096) + 1 };
@@ -13,16 +14,16 @@ struct record {
     size_t len;
 };
 
-/* The record in a file; a file that cannot be read has no bytes. */
+/* The record in a file. A file that cannot be read ends the program: an empty record is something else. */
 static void read_record(struct record *r, const char *name)
 {
     FILE *f = fopen(name, "rb");
-    r->len = 0;
-    if (!f) {
+    if (f)
+        r->len = fread(r->bytes, 1, LARGEST, f);
+    if (!f || ferror(f)) {
         perror(name);
-        return;
+        exit(2);
     }
-    r->len = fread(r->bytes, 1, LARGEST, f);
     fclose(f);
 }
 
