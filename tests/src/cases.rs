@@ -12,7 +12,6 @@
 
 use crate::bench_text::{bench, text};
 use crate::operations::{PLAN_BYTES, SHEET_BYTES};
-use crate::records::sheets;
 use crate::steps::{self, Size, Step};
 use crate::{refused, worked};
 
@@ -33,7 +32,11 @@ pub fn all(seed: u64, count: u64) -> Cases {
     let refused = refused::all().into_iter().map(|(_, step)| step);
     let random = (0..count).map(|index| steps::at(seed, index, size(index)));
     let mut cases = Cases::default();
-    for step in worked.chain(refused).chain(random).chain([largest()]) {
+    for step in worked
+        .chain(refused)
+        .chain(random)
+        .chain([steps::largest()])
+    {
         cases.add(&step);
     }
     cases
@@ -46,19 +49,6 @@ fn size(index: u64) -> Size {
         0 => Size::Few(64),
         5 => Size::Few(9 + index as u32 * 7 % 55),
         _ => Size::Small,
-    }
-}
-
-/// 64 nodes, each of which holds some of every subdomain, and an old chain that
-/// is kept: the longest records that there are.
-fn largest() -> Step {
-    let cells: Vec<u32> = (0..4_096).collect();
-    let crowded = |cell: u32| if cell % 64 == 7 { 12 } else { 10 };
-    let counts: Vec<u32> = cells.iter().map(|&cell| crowded(cell)).collect();
-    let chain: Vec<u32> = (0..64u32).map(|node| node.saturating_sub(1)).collect();
-    Step {
-        sheet: sheets::sheet(64, 10, &cells, &counts).bytes(),
-        old: worked::old(&chain),
     }
 }
 

@@ -3,6 +3,7 @@
 
 use crate::answers::{PartAnswer, StepAnswer, WeighedAnswer, WrittenAnswer};
 use crate::bounds::NODES;
+use crate::records::to_words;
 use crate::{boundary, plain, reference};
 
 const MOST_NODES: usize = *NODES.end() as usize;
@@ -100,8 +101,7 @@ impl Operations {
         if answer.refusal != 0 {
             return Err(answer.refusal);
         }
-        let n = (plan.len() / 4 - 3) / 2;
-        let word = |k: usize| u32::from_le_bytes([0, 1, 2, 3].map(|byte| least[4 * k + byte]));
-        Ok(((0..n).map(word).collect(), answer.holds == 1))
+        let n = to_words(plan)[0] as usize;
+        Ok((to_words(&least[..4 * n]), answer.holds == 1))
     }
 }

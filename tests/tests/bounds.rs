@@ -7,8 +7,8 @@ use firrozka_tests::answers::Answer;
 use firrozka_tests::compare::check;
 use firrozka_tests::readers::{Reader, MOVES, PLAN, SHEET};
 use firrozka_tests::records::moves::{moves, route};
-use firrozka_tests::records::plans::plan;
-use firrozka_tests::records::sheets::{cell, sheet};
+use firrozka_tests::records::plans::{chain, plan};
+use firrozka_tests::records::sheets::{all_cells, cell, sheet};
 use firrozka_tests::records::{shown, to_bytes, Record};
 
 const MOST: u32 = 1_000_000_000;
@@ -50,8 +50,8 @@ fn expect_lengths<A: Answer>(reader: &Reader<A>, record: Record, sizes: usize, r
 
 /// A sheet of all N × N cells, and then `more` cells above them.
 fn full_sheet(n: u32, more: u32) -> Record {
-    let all = (0..n * n).map(|k| cell(k / n, k % n));
-    let cells: Vec<u32> = all.chain((0..more).map(|k| cell(n, k))).collect();
+    let more = (0..more).map(|k| cell(n, k));
+    let cells: Vec<u32> = all_cells(n).into_iter().chain(more).collect();
     sheet(n, 10, &cells, &vec![1; cells.len()])
 }
 
@@ -168,11 +168,6 @@ fn sheet_limit() {
 
 fn roots(n: u32) -> Vec<u32> {
     (0..n).collect()
-}
-
-/// Node 0 is the root and every node helps the one before it.
-fn chain(n: u32) -> Vec<u32> {
-    (0..n).map(|k| k.saturating_sub(1)).collect()
 }
 
 /// The last node is the root and every node helps the one behind it.

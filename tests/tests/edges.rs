@@ -107,14 +107,13 @@ fn the_highest_word_everywhere() {
     changed(|operation, records, which| {
         let [first, second] = records;
         let mut draft = Draft::new(first, second);
+        let words = draft.records[which].words.clone();
         draft.records[which].words.fill(u32::MAX);
         expect(operation, &draft);
         // Sizes as they should be, entries not.
         for sizes in 1..=3 {
-            let words = small(operation).remove(1)[which].words.clone();
-            let kept = sizes.min(words.len());
-            draft.records[which].words = words;
-            draft.records[which].words[kept..].fill(u32::MAX);
+            draft.records[which].words.clone_from(&words);
+            draft.records[which].words[sizes.min(words.len())..].fill(u32::MAX);
             expect(operation, &draft);
         }
         draft.records[1 - which].words.fill(u32::MAX);
@@ -128,7 +127,7 @@ fn the_highest_word_everywhere() {
 #[test]
 fn the_largest_records() {
     for n in [1, 2, 3, 63, 64] {
-        let cells: Vec<u32> = (0..n * n).map(|k| sheets::cell(k / n, k % n)).collect();
+        let cells = sheets::all_cells(n);
         let each = MOST / (n * n);
         let mut counts = vec![each; cells.len()];
         // One cell has the rest, and then nearly all.
@@ -137,9 +136,9 @@ fn the_largest_records() {
         let even = sheets::sheet(n, 1, &cells, &counts).bytes();
         counts.fill(1);
         counts[last] = MOST - (n * n - 1);
-        let heap = sheets::sheet(n, 99, &cells, &counts).bytes();
-        for sheet in [even, heap] {
-            for helpands in [chain(n), vec![0; n as usize]] {
+        let uneven = sheets::sheet(n, 99, &cells, &counts).bytes();
+        for sheet in [even, uneven] {
+            for helpands in [plans::chain(n), vec![0; n as usize]] {
                 let old = match n {
                     1 => Vec::new(),
                     _ => worked::old(&helpands),
@@ -153,11 +152,6 @@ fn the_largest_records() {
             }
         }
     }
-}
-
-/// Each node helps the one before it.
-fn chain(n: u32) -> Vec<u32> {
-    (0..n).map(|node| node.saturating_sub(1)).collect()
 }
 
 /// Every cell sends all it can, to one node or to all others, up to
@@ -182,7 +176,7 @@ fn the_most_moves() {
             &Draft::new(sheet, moves::moves(n, &all, &counts)),
         );
         // Every holder of subdomains 0 and up sends to its neighbour.
-        let cells: Vec<u32> = (0..n * n).map(|k| sheets::cell(k / n, k % n)).collect();
+        let cells = sheets::all_cells(n);
         let route = |k: u32| {
             let (subdomain, sender) = (k / n, k % n);
             moves::route(subdomain, sender, (sender + 1) % n)

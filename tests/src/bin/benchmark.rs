@@ -15,7 +15,7 @@ fn main() {
     let mut worst: f64 = 0.0;
     println!("{HEAD}");
     for row in rows() {
-        let name = format!("{row:?}").to_lowercase();
+        let name = row.name();
         if words.iter().all(|word| name.contains(word)) {
             let times = row.times(samples);
             println!("{}", row.line(&times));

@@ -212,8 +212,11 @@ pub fn tree_in_force(random: &mut Random) -> Draft {
     }
 }
 
-/// Mostly a small step.
+/// Mostly a small step, and now and then the largest.
 fn some_step(random: &mut Random) -> Step {
+    if random.chance(1, 400) {
+        return steps::largest();
+    }
     let size = match random.below(24) {
         0..=2 => Size::Any,
         3 | 4 => Size::Few(64),
@@ -252,8 +255,7 @@ fn tree_plan(kind: u32, n: u32, random: &mut Random) -> Record {
 fn allowed(sheet: &mut Record, random: &mut Random) -> Record {
     let n = sheet.words[0];
     let mut sends = BTreeMap::new();
-    let (cells, counts) = (sheet.first().to_vec(), sheet.second().to_vec());
-    for (cell, count) in cells.into_iter().zip(counts) {
+    for (cell, count) in pairs(sheet) {
         let mut left = count;
         for _ in 0..random.one_of(&[0, 0, 1, 1, 3]) {
             let (holder, receiver) = (cell / 64, random.below(n));

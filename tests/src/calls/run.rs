@@ -96,13 +96,18 @@ impl Operation {
         )
     }
 
-    /// What a run should have met and has not.
+    /// The refusals and orders of two faults that a run should have met and has not.
     pub fn gaps(&self, met: &Met) -> Vec<String> {
+        met.coverage.gaps(self.numbers, &self.pairs())
+    }
+
+    /// The corners that no accepted call of a run has met.
+    pub fn corners_unmet(&self, met: &Met) -> Vec<String> {
         let corners = self.corners().zip(&met.corners);
         let unmet = corners.filter(|(_, &times)| times == 0);
-        let unmet = unmet.map(|((what, _), _)| format!("no call with {what}"));
-        let gaps = met.coverage.gaps(self.numbers, &self.pairs());
-        gaps.into_iter().chain(unmet).collect()
+        unmet
+            .map(|((what, _), _)| format!("no call with {what}"))
+            .collect()
     }
 }
 

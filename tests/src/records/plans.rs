@@ -52,6 +52,11 @@ pub fn tree(n: u32, random: &mut Random) -> Vec<u32> {
     helpands
 }
 
+/// Node 0 is the root, and every other node helps the one before it.
+pub fn chain(n: u32) -> Vec<u32> {
+    (0..n).map(|node| node.saturating_sub(1)).collect()
+}
+
 /// Shares up to the limit, 0 at roots: all 0, all at the limit, or mixed.
 fn shares(helpands: &[u32], limit: u32, random: &mut Random) -> Vec<u32> {
     let form = random.below(3);

@@ -10,6 +10,11 @@ pub fn cell(holder: u32, subdomain: u32) -> u32 {
     holder.wrapping_mul(64).wrapping_add(subdomain)
 }
 
+/// All N × N cells, rising.
+pub fn all_cells(n: u32) -> Vec<u32> {
+    (0..n * n).map(|k| cell(k / n, k % n)).collect()
+}
+
 /// A sheet of words from its parts.
 pub fn sheet(n: u32, t: u32, cells: &[u32], counts: &[u32]) -> Record {
     Record::new(2, &[n, t, cells.len() as u32], cells, counts)

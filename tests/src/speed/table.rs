@@ -54,21 +54,29 @@ impl Row {
         })
     }
 
-    /// The row as it is printed.
-    pub fn line(&self, times: &[Times; 4]) -> String {
-        let [a, b, c, last] = times;
+    /// What the row is of: operation, sheet, outcome and inputs, as printed.
+    pub fn name(&self) -> String {
         let inputs = if self.changing {
             "changing"
         } else {
             "repeated"
         };
-        let sizes = [a, b, c, last].map(|times| format!("{:6.2}", times.archive));
         format!(
-            "{:12} {:7} {:18} {:9} | {} | {:5.2} {:6.2} | {:6.2} {:6.1} {:5.1}% | {:5.2}",
+            "{:12} {:7} {:18} {:9}",
             self.measured.name(),
             format!("{:?}", self.filling).to_lowercase(),
             self.outcome.name(),
             inputs,
+        )
+    }
+
+    /// The row as it is printed.
+    pub fn line(&self, times: &[Times; 4]) -> String {
+        let [a, b, c, last] = times;
+        let sizes = [a, b, c, last].map(|times| format!("{:6.2}", times.archive));
+        format!(
+            "{} | {} | {:5.2} {:6.2} | {:6.2} {:6.1} {:5.1}% | {:5.2}",
+            self.name(),
             sizes.join(" "),
             last.plain,
             last.copy,

@@ -17,7 +17,7 @@ mod totals;
 mod walk;
 
 use crate::random::Random;
-use crate::records::{plans, shown};
+use crate::records::{plans, sheets, shown};
 use crate::reference::table::Table;
 use setting::Setting;
 use std::fmt;
@@ -65,6 +65,18 @@ pub fn some(size: Size, random: &mut Random) -> Step {
         6 | 7 => pairs::tree(size, random).either(random),
         8 => pairs::primary(size, random).either(random),
         _ => walk::walk(size, random),
+    }
+}
+
+/// 64 nodes, each of which holds some of every subdomain, and an old chain that
+/// is kept: the longest records that there are.
+pub fn largest() -> Step {
+    let cells = sheets::all_cells(64);
+    let crowded = |cell: &u32| if cell % 64 == 7 { 12 } else { 10 };
+    let counts: Vec<u32> = cells.iter().map(crowded).collect();
+    Step {
+        sheet: sheets::sheet(64, 10, &cells, &counts).bytes(),
+        old: plans::plan(2, 36, &plans::chain(64), &[0; 64]).bytes(),
     }
 }
 
