@@ -8,10 +8,37 @@ pub use firrozka::ffi::{
     MovesAnswer, PartAnswer, PlanAnswer, SheetAnswer, StepAnswer, WeighedAnswer, WrittenAnswer,
 };
 
-/// What the answer of every reader has.
-pub trait Answer: Copy + Debug + PartialEq {
+/// What the answer of every operation that can refuse has.
+pub trait Answer: Copy + Debug + Default + PartialEq {
     /// 0, or the refusal number.
     fn refusal(&self) -> u32;
+
+    /// "A refusal's other values are all 0".
+    fn refused(refusal: u32) -> Self;
+}
+
+/// *Weigh* "says whether the tree holds."
+pub fn weighed(holds: bool) -> WeighedAnswer {
+    WeighedAnswer {
+        refusal: 0,
+        holds: u32::from(holds),
+    }
+}
+
+/// *Plan a step* "gives kind, L and both lengths in bytes."
+pub fn planned([kind, limit, plan_bytes, moves_bytes]: [u32; 4]) -> StepAnswer {
+    StepAnswer {
+        refusal: 0,
+        kind,
+        limit,
+        plan_bytes,
+        moves_bytes,
+    }
+}
+
+/// *Carry out* "gives its length in bytes."
+pub fn written(bytes: u32) -> WrittenAnswer {
+    WrittenAnswer { refusal: 0, bytes }
 }
 
 /// "an empty stretch of the new plan"
@@ -31,13 +58,27 @@ pub fn helpands(source: u32, n: u32) -> PartAnswer {
 }
 
 macro_rules! answers {
-    ($($answer:ty),*) => {
+    ($($answer:ident),*) => {
         $(impl Answer for $answer {
             fn refusal(&self) -> u32 {
                 self.refusal
+            }
+
+            fn refused(refusal: u32) -> $answer {
+                $answer {
+                    refusal,
+                    ..$answer::default()
+                }
             }
         })*
     };
 }
 
-answers!(SheetAnswer, PlanAnswer, MovesAnswer);
+answers!(
+    SheetAnswer,
+    PlanAnswer,
+    MovesAnswer,
+    WeighedAnswer,
+    StepAnswer,
+    WrittenAnswer
+);

@@ -1,6 +1,7 @@
 //! "The bench program": what it prints.
 
-use crate::operations::{Planned, REFERENCE};
+use crate::implementations::{Planned, REFERENCE};
+use crate::records::to_words;
 use crate::reference::moves::{self, parts};
 use crate::reference::plan;
 use crate::reference::sheet;
@@ -24,8 +25,8 @@ fn split(input: &[u8]) -> Result<(&[u8], &[u8]), u32> {
     if let Err(refusal @ 1..=4) = sheet::read(input) {
         return Err(refusal);
     }
-    let e = u32::from_le_bytes([input[8], input[9], input[10], input[11]]);
-    let length = 4 * (3 + 2 * e as usize);
+    let e = to_words(&input[..12])[2] as usize;
+    let length = 4 * (3 + 2 * e);
     Ok(input.split_at(length.min(input.len())))
 }
 

@@ -11,7 +11,7 @@
 //! other, with nothing between them.
 
 use crate::bench_text::{bench, text};
-use crate::operations::{PLAN_BYTES, SHEET_BYTES};
+use crate::implementations::{PLAN_BYTES, SHEET_BYTES};
 use crate::steps::{self, Size, Step};
 use crate::{refused, worked};
 

@@ -18,7 +18,7 @@ pub fn check<A: Answer>(reader: &Reader<A>, bytes: &[u8]) -> Result<Vec<u32>, St
     // Other guards each time: who reads beside the input may answer otherwise.
     for (offset, guard) in [(1, 0x00), (2, 0xa5), (3, 0xff)] {
         let answer = guarded(reader.tested, bytes, offset, guard)?;
-        same(expected, answer, "at an odd address")?;
+        same(expected, answer, "at an unaligned address")?;
     }
     same(expected, exact(reader.tested, bytes)?, "in exact memory")?;
     Ok(faults)

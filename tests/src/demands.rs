@@ -3,7 +3,7 @@
 //! *weigh* writes them; tests/rival.rs looks into these by flow.
 
 use crate::division::Division;
-use crate::operations::{Operations, Planned};
+use crate::implementations::{Implementation, Planned};
 use crate::reference::moves::{self, Moves};
 use crate::reference::plan::{self, Plan};
 use crate::reference::sheet::{self, Sheet};
@@ -27,21 +27,21 @@ pub struct Judged {
 }
 
 /// The step planned and judged; panics if something is wrong.
-pub fn judged(operations: &Operations, step: &Step, place: &str) -> Judged {
-    judge(operations, step)
-        .unwrap_or_else(|wrong| panic!("{}: {place}: {wrong}\n{step}", operations.name))
+pub fn judged(implementation: &Implementation, step: &Step, place: &str) -> Judged {
+    judge(implementation, step)
+        .unwrap_or_else(|wrong| panic!("{}: {place}: {wrong}\n{step}", implementation.name))
 }
 
 /// Plans a step that should be accepted and judges it: what was found, or what
 /// is wrong.
-pub fn judge(operations: &Operations, step: &Step) -> Result<Judged, String> {
-    let planned = operations.planned(&step.sheet, &step.old);
+pub fn judge(implementation: &Implementation, step: &Step) -> Result<Judged, String> {
+    let planned = implementation.planned(&step.sheet, &step.old);
     let planned = planned.map_err(|refusal| format!("refused with {refusal}"))?;
     let judged = take_apart(step, &planned)?;
     judged.kind()?;
     judged.division()?;
     if judged.old.is_some() {
-        let weighed = operations.weighed(&step.sheet, &step.old);
+        let weighed = implementation.weighed(&step.sheet, &step.old);
         let weighed = weighed.map_err(|refusal| format!("weigh refuses with {refusal}"))?;
         let (leasts, holds) = weighed;
         ensure(holds == judged.rival, "weigh and the flow disagree")?;
@@ -50,7 +50,7 @@ pub fn judge(operations: &Operations, step: &Step) -> Result<Judged, String> {
         }
     }
     judged.moves()?;
-    let next = operations.carried_out(&step.sheet, &planned.moves);
+    let next = implementation.carried_out(&step.sheet, &planned.moves);
     let next = next.map_err(|refusal| format!("carry out refuses with {refusal}"))?;
     judged.carried_out(&next)?;
     Ok(judged)

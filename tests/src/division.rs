@@ -42,7 +42,13 @@ impl Division {
 
     /// "with every load at most L"
     pub fn is_within(&self, limit: u64) -> bool {
-        self.loads().iter().all(|&load| load <= limit)
+        self.fits(&vec![limit; self.own.len()])
+    }
+
+    /// Whether no load is above its node's room.
+    pub fn fits(&self, rooms: &[u64]) -> bool {
+        let mut loads = self.loads().into_iter().zip(rooms);
+        loads.all(|(load, &room)| load <= room)
     }
 
     /// "with every load equal to the node's target"
@@ -65,6 +71,15 @@ impl Division {
             0
         }
     }
+}
+
+/// All members of the families of these owners, by rising number.
+pub fn members(helpands: &[u32], owners: &[usize]) -> Vec<usize> {
+    let is_member =
+        |node: usize| owners.contains(&node) || owners.contains(&(helpands[node] as usize));
+    (0..helpands.len())
+        .filter(|&node| is_member(node))
+        .collect()
 }
 
 /// What all helpers of an owner get of its subdomain.

@@ -47,7 +47,7 @@ pub fn pairs(numbers: &[u32]) -> Vec<(u32, u32)> {
 /// The faults of a sheet, rising.
 pub fn sheet(bytes: &[u8]) -> Vec<u32> {
     let words = to_words(bytes);
-    let (n, t, e) = (number(&words, 0), number(&words, 1), number(&words, 2));
+    let (n, t, e) = (word_at(&words, 0), word_at(&words, 1), word_at(&words, 2));
     let cells = stretch(&words, 3, e.unwrap_or(0));
     let counts = stretch(&words, 3 + e.unwrap_or(0), e.unwrap_or(0));
     let no_node = |cell: u64| there_and(n, |n| cell / 64 >= n || cell % 64 >= n);
@@ -66,7 +66,7 @@ pub fn sheet(bytes: &[u8]) -> Vec<u32> {
 /// The faults of a plan, rising.
 pub fn plan(bytes: &[u8]) -> Vec<u32> {
     let words = to_words(bytes);
-    let (n, kind, limit) = (number(&words, 0), number(&words, 1), number(&words, 2));
+    let (n, kind, limit) = (word_at(&words, 0), word_at(&words, 1), word_at(&words, 2));
     let helpands = stretch(&words, 3, n.unwrap_or(0));
     let shares = stretch(&words, 3 + n.unwrap_or(0), n.unwrap_or(0));
     let alone = n == Some(1);
@@ -89,7 +89,7 @@ pub fn plan(bytes: &[u8]) -> Vec<u32> {
 /// The faults of moves, rising.
 pub fn moves(bytes: &[u8]) -> Vec<u32> {
     let words = to_words(bytes);
-    let (n, e) = (number(&words, 0), number(&words, 1));
+    let (n, e) = (word_at(&words, 0), word_at(&words, 1));
     let routes = stretch(&words, 2, e.unwrap_or(0));
     let counts = stretch(&words, 2 + e.unwrap_or(0), e.unwrap_or(0));
     let most = u64::from(MOST_PARTICLES);
@@ -115,7 +115,7 @@ pub fn holding(checks: &[(u32, bool)]) -> Vec<u32> {
 }
 
 /// The word at this place, if it is there.
-pub fn number(words: &[u32], index: usize) -> Option<u64> {
+pub fn word_at(words: &[u32], index: usize) -> Option<u64> {
     words.get(index).map(|&word| u64::from(word))
 }
 

@@ -4,7 +4,7 @@
 use crate::faults;
 use crate::random::Random;
 use crate::readers::Reader;
-use crate::records::damage::{damage, muddle, some_bytes};
+use crate::records::mutation::{mutate, mutate_once, some_bytes};
 
 /// How many inputs a run has for each fault and each pair of faults.
 const FOR_EACH: usize = 100;
@@ -66,7 +66,7 @@ fn with_faults<A>(reader: &Reader<A>, faults: &[u32], random: &mut Random) -> Ve
     first_with(faults, || {
         let mut record = (reader.build)(random);
         for &fault in faults {
-            (reader.spoil)(&mut record, fault, random);
+            (reader.inject)(&mut record, fault, random);
         }
         let bytes = record.bytes();
         let found = (reader.faults)(&bytes);
@@ -74,16 +74,16 @@ fn with_faults<A>(reader: &Reader<A>, faults: &[u32], random: &mut Random) -> Ve
     })
 }
 
-/// Some record: whole, damaged, spoilt, or never one.
+/// Some record: whole, mutated, with a fault, or never one.
 fn mixed<A>(reader: &Reader<A>, random: &mut Random) -> Vec<u8> {
     let mut record = (reader.build)(random);
     match random.below(20) {
         0..=5 => (),
-        6..=14 => muddle(&mut record, random),
+        6..=14 => mutate(&mut record, random),
         15..=18 => {
-            (reader.spoil)(&mut record, random.one_of(reader.refusals), random);
+            (reader.inject)(&mut record, random.one_of(reader.refusals), random);
             if random.chance(1, 4) {
-                damage(&mut record, random);
+                mutate_once(&mut record, random);
             }
         }
         _ => {

@@ -6,11 +6,12 @@
 //! | `bounds` | the largest and smallest values of document 01 |
 //! | `answers` | what the operations answer |
 //! | `reference` | the second implementation |
+//! | `exhaustive` | all small rows and trees |
 //! | `faults` | every check of document 01 looked at on its own |
 //! | `boundary` | the archive under test, as the Rust wrapper declares it |
 //! | `random` | the seeded generator |
 //! | `settings` | numbers from the environment |
-//! | `records` | valid records, and ways to spoil them |
+//! | `records` | valid records, fault injection and mutations |
 //! | `readers` | for each reader, all of the above side by side |
 //! | `inputs` | which input stands at which index of a run |
 //! | `compare` | one input, all answers |
@@ -18,13 +19,13 @@
 //! | `guarded` | bytes with guards before and behind |
 //! | `steps` | seeded whole steps |
 //! | `worked` | the steps that document 01 works by hand |
-//! | `operations` | the operations on more than one record, side by side |
+//! | `implementations` | who does the operations on more than one record, side by side |
 //! | `calls` | the differential run over these |
 //! | `division` | what a division along a tree is |
 //! | `rival` | whether there is one, found in other ways |
 //! | `demands` | what must hold of a planned step, however it was found |
 //! | `bench_text` | what the bench program prints |
-//! | `plain` | the benchmark's yardstick |
+//! | `plain` | the benchmark's baseline |
 //! | `speed` | the benchmark |
 //! | `refused` | a small step for each refusal of *plan a step* |
 //! | `cases` | the input and output of the program that the gate runs |
@@ -39,10 +40,11 @@ pub mod compare;
 pub mod coverage;
 pub mod demands;
 pub mod division;
+pub mod exhaustive;
 pub mod faults;
 pub mod guarded;
+pub mod implementations;
 pub mod inputs;
-pub mod operations;
 pub mod plain;
 pub mod random;
 pub mod readers;

@@ -1,5 +1,5 @@
 //! For each of the three readers: the archive, the second implementation, the
-//! faults, the builder and the spoiler, side by side.
+//! faults, the builder and the fault injection, side by side.
 
 use crate::answers::{MovesAnswer, PlanAnswer, SheetAnswer};
 use crate::random::Random;
@@ -20,7 +20,7 @@ pub struct Reader<A> {
     /// Some valid record.
     pub build: fn(&mut Random) -> Record,
     /// Brings a fault into a record.
-    pub spoil: fn(&mut Record, u32, &mut Random),
+    pub inject: fn(&mut Record, u32, &mut Random),
 }
 
 pub const SHEET: Reader<SheetAnswer> = Reader {
@@ -30,7 +30,7 @@ pub const SHEET: Reader<SheetAnswer> = Reader {
     reference: reference::read_sheet,
     faults: faults::sheet,
     build: sheets::build,
-    spoil: sheets::spoil,
+    inject: sheets::inject,
 };
 
 pub const PLAN: Reader<PlanAnswer> = Reader {
@@ -40,7 +40,7 @@ pub const PLAN: Reader<PlanAnswer> = Reader {
     reference: reference::read_plan,
     faults: faults::plan,
     build: plans::build,
-    spoil: plans::spoil,
+    inject: plans::inject,
 };
 
 pub const MOVES: Reader<MovesAnswer> = Reader {
@@ -50,5 +50,5 @@ pub const MOVES: Reader<MovesAnswer> = Reader {
     reference: reference::read_moves,
     faults: faults::moves,
     build: moves::build,
-    spoil: moves::spoil,
+    inject: moves::inject,
 };

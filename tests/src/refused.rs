@@ -7,43 +7,40 @@ use crate::worked;
 
 /// The refusal numbers and their steps.
 pub fn all() -> Vec<(u32, Step)> {
-    let sheets = bad_sheets().into_iter();
-    let plans = bad_plans().into_iter();
+    let sheets = sheets().into_iter().map(|(refusal, sheet)| {
+        // "A refused sheet ends planning before the old plan is looked at": where
+        // the sheet's end can be told, a bad old plan stands behind it.
+        let old = match refusal {
+            1 | 5 => Vec::new(),
+            _ => vec![0; 12],
+        };
+        (refusal, Step { sheet, old })
+    });
+    let two_nodes = plans::plan(2, 36, &[0, 0], &[0, 27]).bytes();
+    let plans = plans().into_iter().chain([(21, two_nodes)]);
     let with_plan = |(refusal, old): (u32, Vec<u8>)| (refusal, Step { old, ..worked::d() });
     sheets.chain(plans.map(with_plan)).collect()
 }
 
-/// "A refused sheet ends planning before the old plan is looked at": where the
-/// sheet's end can be told, a bad old plan stands behind it.
-fn bad_sheets() -> Vec<(u32, Step)> {
-    let no_plan = Vec::new;
-    let bad_plan = || vec![0; 12];
+/// Sheets, 1 to 7.
+pub fn sheets() -> Vec<(u32, Vec<u8>)> {
     let cells = [0, 65, 130];
     let good = || sheets::sheet(3, 10, &cells, &[90, 6, 4]);
     let ten: Vec<u32> = (0..10).collect();
-    [
-        (1, cut(good(), 11), no_plan()),
-        (2, sheets::sheet(65, 10, &[], &[]).bytes(), bad_plan()),
-        (3, sheets::sheet(3, 100, &[], &[]).bytes(), bad_plan()),
-        (4, sheets::sheet(3, 10, &ten, &[1; 10]).bytes(), bad_plan()),
-        (5, cut(good(), 35), no_plan()),
-        (
-            6,
-            sheets::sheet(3, 10, &[0, 65, 131], &[90, 6, 4]).bytes(),
-            bad_plan(),
-        ),
-        (
-            7,
-            sheets::sheet(3, 10, &cells, &[90, 0, 4]).bytes(),
-            bad_plan(),
-        ),
+    let beyond = sheets::sheet(3, 10, &[0, 65, 131], &[90, 6, 4]);
+    vec![
+        (1, cut(good(), 11)),
+        (2, sheets::sheet(65, 10, &[], &[]).bytes()),
+        (3, sheets::sheet(3, 100, &[], &[]).bytes()),
+        (4, sheets::sheet(3, 10, &ten, &[1; 10]).bytes()),
+        (5, cut(good(), 35)),
+        (6, beyond.bytes()),
+        (7, sheets::sheet(3, 10, &cells, &[90, 0, 4]).bytes()),
     ]
-    .map(|(refusal, sheet, old)| (refusal, Step { sheet, old }))
-    .into()
 }
 
-/// Old plans for the sheet of step D.
-fn bad_plans() -> Vec<(u32, Vec<u8>)> {
+/// Old plans for the sheet of step D, 11 to 18.
+pub fn plans() -> Vec<(u32, Vec<u8>)> {
     let star = [0, 0, 0];
     let shares = [0, 27, 29];
     let good = || plans::plan(2, 36, &star, &shares);
@@ -56,7 +53,6 @@ fn bad_plans() -> Vec<(u32, Vec<u8>)> {
         (16, plans::plan(2, 36, &[0, 0, 3], &shares).bytes()),
         (17, plans::plan(2, 36, &[0, 2, 1], &shares).bytes()),
         (18, plans::plan(2, 28, &star, &shares).bytes()),
-        (21, plans::plan(2, 36, &[0, 0], &[0, 27]).bytes()),
     ]
 }
 

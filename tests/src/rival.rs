@@ -1,9 +1,10 @@
 //! The rival: "one along the old tree with every load at most L, however it was
 //! found". Decided here without least and spare, and either way with a proof
-//! that is easy to check: a division, or subdomains for which there is no room.
+//! that is easy to check: a division, or a set of subdomains that violates Hall's
+//! condition.
 //! Each node has a room of its own, so that leasts can be looked into as well.
 
-use crate::division::Division;
+use crate::division::{members, Division};
 use std::collections::VecDeque;
 
 /// Whether there is a division along a tree in which no load is above its room.
@@ -11,9 +12,9 @@ use std::collections::VecDeque;
 pub enum Verdict {
     /// There is this one.
     Division(Division),
-    /// There is none: these subdomains have more particles than all members of
-    /// their families together have room for.
-    Crowded(Vec<usize>),
+    /// There is none: these subdomains violate Hall's condition. They have more
+    /// particles than all members of their families together have room for.
+    HallViolation(Vec<usize>),
 }
 
 impl Verdict {
@@ -21,16 +22,12 @@ impl Verdict {
     pub fn is_proven(&self, helpands: &[u32], totals: &[u64], rooms: &[u64]) -> bool {
         match self {
             Verdict::Division(division) => {
-                let mut loads = division.loads().into_iter().zip(rooms);
-                division.is_along(helpands, totals) && loads.all(|(load, &room)| load <= room)
+                division.is_along(helpands, totals) && division.fits(rooms)
             }
-            Verdict::Crowded(crowd) => {
-                let sum: u64 = crowd.iter().map(|&subdomain| totals[subdomain]).sum();
-                let works = |node: usize| {
-                    crowd.contains(&node) || crowd.contains(&(helpands[node] as usize))
-                };
-                let members = (0..helpands.len()).filter(|&node| works(node));
-                sum > members.map(|node| rooms[node]).sum()
+            Verdict::HallViolation(subdomains) => {
+                let particles: u64 = subdomains.iter().map(|&owner| totals[owner]).sum();
+                let members = members(helpands, subdomains).into_iter();
+                particles > members.map(|node| rooms[node]).sum()
             }
         }
     }
@@ -41,11 +38,9 @@ pub fn by_trying(helpands: &[u32], totals: &[u64], rooms: &[u64]) -> Option<Divi
     let n = helpands.len();
     let mut share = vec![0; n];
     loop {
-        if let Some(division) = with_shares(&share, helpands, totals) {
-            let mut loads = division.loads().into_iter().zip(rooms);
-            if loads.all(|(load, &room)| load <= room) {
-                return Some(division);
-            }
+        let division = with_shares(&share, helpands, totals);
+        if let Some(division) = division.filter(|division| division.fits(rooms)) {
+            return Some(division);
         }
         // The next shares, counted up like a number whose first digit is the lowest.
         let most = |node: usize| match helpands[node] as usize {
@@ -69,7 +64,7 @@ fn with_shares(share: &[u64], helpands: &[u32], totals: &[u64]) -> Option<Divisi
     Some(Division { own, share })
 }
 
-/// The verdict by the largest flow: particles flow from the source to their
+/// The verdict by a maximum flow: particles flow from the source to their
 /// subdomain, on to the members of its family, and as far as a member has room
 /// to the sink. There is a division if they all arrive.
 pub fn by_flow(helpands: &[u32], totals: &[u64], rooms: &[u64]) -> Verdict {
@@ -77,90 +72,91 @@ pub fn by_flow(helpands: &[u32], totals: &[u64], rooms: &[u64]) -> Verdict {
     let subdomain = |k: usize| k;
     let node = |k: usize| n + k;
     let (source, sink) = (2 * n, 2 * n + 1);
-    let mut net = Net::new(2 * n + 2);
+    let mut network = Network::new(2 * n + 2);
     let enter: Vec<usize> = (0..n)
-        .map(|k| net.pipe(source, subdomain(k), totals[k]))
+        .map(|k| network.add_edge(source, subdomain(k), totals[k]))
         .collect();
     let own: Vec<usize> = (0..n)
-        .map(|k| net.pipe(subdomain(k), node(k), u64::MAX))
+        .map(|k| network.add_edge(subdomain(k), node(k), u64::MAX))
         .collect();
     let helping = (0..n).map(|k| match helpands[k] as usize {
         helpand if helpand == k => None,
-        helpand => Some(net.pipe(subdomain(helpand), node(k), u64::MAX)),
+        helpand => Some(network.add_edge(subdomain(helpand), node(k), u64::MAX)),
     });
     let share: Vec<Option<usize>> = helping.collect();
     for (k, &room) in rooms.iter().enumerate() {
-        net.pipe(node(k), sink, room);
+        network.add_edge(node(k), sink, room);
     }
-    let reached = net.fill(source, sink);
-    if enter.iter().all(|&pipe| net.left[pipe] == 0) {
-        let flow = |pipe: usize| net.flow(pipe);
+    let reached = network.maximise_flow(source, sink);
+    if enter.iter().all(|&edge| network.residual[edge] == 0) {
+        let flow = |edge: usize| network.flow(edge);
         return Verdict::Division(Division {
             own: own.into_iter().map(flow).collect(),
-            share: share.into_iter().map(|pipe| pipe.map_or(0, flow)).collect(),
+            share: share.into_iter().map(|edge| edge.map_or(0, flow)).collect(),
         });
     }
-    // What the source still reaches has nowhere to go.
-    Verdict::Crowded((0..n).filter(|&k| reached[subdomain(k)]).collect())
+    // The source's side of a minimum cut.
+    Verdict::HallViolation((0..n).filter(|&k| reached[subdomain(k)]).collect())
 }
 
-/// Points joined by pipes. Pipes come in pairs: behind each stands the one back.
-struct Net {
-    /// The pipes that leave a point.
-    pipes: Vec<Vec<usize>>,
-    /// The point where a pipe ends.
+/// A flow network. Edges come in pairs: behind each stands its reverse.
+struct Network {
+    /// The edges that leave a vertex.
+    edges: Vec<Vec<usize>>,
+    /// The vertex where an edge ends.
     end: Vec<usize>,
-    /// How much more fits through a pipe. What has gone through the first of a
-    /// pair can go back through the second.
-    left: Vec<u64>,
+    /// The residual capacity of an edge. What flows along the first of a pair
+    /// can flow back along the second.
+    residual: Vec<u64>,
 }
 
-impl Net {
-    fn new(points: usize) -> Net {
-        Net {
-            pipes: vec![Vec::new(); points],
+impl Network {
+    fn new(vertices: usize) -> Network {
+        Network {
+            edges: vec![Vec::new(); vertices],
             end: Vec::new(),
-            left: Vec::new(),
+            residual: Vec::new(),
         }
     }
 
-    /// Lays a pipe and the one back, and gives its number.
-    fn pipe(&mut self, from: usize, to: usize, room: u64) -> usize {
+    /// Adds an edge and its reverse, and gives the edge's number.
+    fn add_edge(&mut self, from: usize, to: usize, capacity: u64) -> usize {
         let number = self.end.len();
-        self.pipes[from].push(number);
-        self.pipes[to].push(number + 1);
+        self.edges[from].push(number);
+        self.edges[to].push(number + 1);
         self.end.extend([to, from]);
-        self.left.extend([room, 0]);
+        self.residual.extend([capacity, 0]);
         number
     }
 
-    /// What has gone through a pipe.
-    fn flow(&self, pipe: usize) -> u64 {
-        self.left[pipe + 1]
+    /// The flow along an edge.
+    fn flow(&self, edge: usize) -> u64 {
+        self.residual[edge + 1]
     }
 
-    /// Sends as much as possible, on a shortest way each time, and gives the
-    /// points that the source can still reach.
-    fn fill(&mut self, source: usize, sink: usize) -> Vec<bool> {
+    /// Makes the flow maximum by shortest augmenting paths, and gives the
+    /// vertices that the source still reaches in the residual network.
+    fn maximise_flow(&mut self, source: usize, sink: usize) -> Vec<bool> {
         loop {
             let into = self.search(source);
             if into[sink].is_none() {
-                let reached = |point: usize| point == source || into[point].is_some();
+                let reached = |vertex: usize| vertex == source || into[vertex].is_some();
                 return (0..into.len()).map(reached).collect();
             }
-            self.push(&way(&into, &self.end, sink));
+            self.augment(&path(&into, &self.end, sink));
         }
     }
 
-    /// For each point that the source can reach, the pipe that leads into it.
+    /// For each vertex that the source reaches in the residual network, the edge
+    /// that leads into it on a shortest path.
     fn search(&self, source: usize) -> Vec<Option<usize>> {
-        let mut into = vec![None; self.pipes.len()];
+        let mut into = vec![None; self.edges.len()];
         let mut queue = VecDeque::from([source]);
-        while let Some(point) = queue.pop_front() {
-            for &pipe in &self.pipes[point] {
-                let end = self.end[pipe];
-                if self.left[pipe] > 0 && end != source && into[end].is_none() {
-                    into[end] = Some(pipe);
+        while let Some(vertex) = queue.pop_front() {
+            for &edge in &self.edges[vertex] {
+                let end = self.end[edge];
+                if self.residual[edge] > 0 && end != source && into[end].is_none() {
+                    into[end] = Some(edge);
                     queue.push_back(end);
                 }
             }
@@ -168,18 +164,18 @@ impl Net {
         into
     }
 
-    /// Sends what the narrowest of these pipes lets through.
-    fn push(&mut self, way: &[usize]) {
-        let amount = way.iter().map(|&pipe| self.left[pipe]).min();
-        for &pipe in way {
-            self.left[pipe] -= amount.unwrap_or(0);
-            self.left[pipe ^ 1] += amount.unwrap_or(0);
+    /// Adds to the flow along a path what its least residual capacity allows.
+    fn augment(&mut self, path: &[usize]) {
+        let amount = path.iter().map(|&edge| self.residual[edge]).min();
+        for &edge in path {
+            self.residual[edge] -= amount.unwrap_or(0);
+            self.residual[edge ^ 1] += amount.unwrap_or(0);
         }
     }
 }
 
-/// The pipes from the source to a point, the last one first.
-fn way(into: &[Option<usize>], end: &[usize], point: usize) -> Vec<usize> {
-    let next = |&pipe: &usize| into[end[pipe ^ 1]];
-    std::iter::successors(into[point], next).collect()
+/// The edges of the path from the source to a vertex, the last one first.
+fn path(into: &[Option<usize>], end: &[usize], vertex: usize) -> Vec<usize> {
+    let next = |&edge: &usize| into[end[edge ^ 1]];
+    std::iter::successors(into[vertex], next).collect()
 }

@@ -2,6 +2,14 @@
 
 use std::str::FromStr;
 
+/// The usual seed.
+pub const SEED: u64 = 20_251_115;
+
+/// The seed in FIRROZKA_SEED, or the usual one.
+pub fn seed() -> u64 {
+    setting("FIRROZKA_SEED", SEED)
+}
+
 /// The number in an environment variable, or the usual one.
 pub fn setting<T: FromStr>(name: &str, usual: T) -> T {
     match std::env::var(name) {

@@ -7,10 +7,9 @@
 #![forbid(unsafe_code)]
 
 use firrozka_tests::calls::{Operation, CARRY_OUT, PLAN_STEP, TREE_IN_FORCE, WEIGH};
-use firrozka_tests::operations::ARCHIVE;
-use firrozka_tests::settings::setting;
+use firrozka_tests::implementations::ARCHIVE;
+use firrozka_tests::settings::{seed, setting};
 
-const SEED: u64 = 20_251_115;
 const ROUNDS: usize = 8_000;
 
 #[test]
@@ -34,7 +33,7 @@ fn tree_in_force() {
 }
 
 fn run(operation: &Operation) {
-    let seed = setting("FIRROZKA_SEED", SEED);
+    let seed = seed();
     let rounds = setting("FIRROZKA_ROUNDS", ROUNDS);
     let met = operation.run(&ARCHIVE, seed, rounds);
     let met = met.unwrap_or_else(|wrong| panic!("{wrong}"));

@@ -3,9 +3,9 @@
 #![forbid(unsafe_code)]
 
 use firrozka_tests::calls::check::check;
-use firrozka_tests::calls::drafts::{plan_or_none, Draft};
+use firrozka_tests::calls::drafts::Draft;
 use firrozka_tests::calls::{Operation, CARRY_OUT, OPERATIONS};
-use firrozka_tests::operations::{ARCHIVE, REFERENCE};
+use firrozka_tests::implementations::ARCHIVE;
 use firrozka_tests::records::{moves, plans, sheets, shown, Record};
 use firrozka_tests::steps::Step;
 use firrozka_tests::worked;
@@ -22,19 +22,6 @@ fn expect(operation: &Operation, draft: &Draft) {
     }
 }
 
-/// The records that an operation would be handed at a step.
-fn records_of(operation: &Operation, step: &Step) -> [Record; 2] {
-    let planned = REFERENCE.planned(&step.sheet, &step.old);
-    let planned = planned.expect("the step is accepted");
-    let sheet = sheets::of(&step.sheet);
-    let old = plan_or_none(&step.old);
-    match operation.name {
-        "weigh" | "plan a step" => [sheet, old],
-        "carry out" => [sheet, moves::of(&planned.moves)],
-        _ => [old, plans::of(&planned.plan)],
-    }
-}
-
 /// Small calls, most of them accepted.
 fn small(operation: &Operation) -> Vec<[Record; 2]> {
     let steps = [
@@ -44,10 +31,7 @@ fn small(operation: &Operation) -> Vec<[Record; 2]> {
         worked::h(),
         worked::i(),
     ];
-    steps
-        .iter()
-        .map(|step| records_of(operation, step))
-        .collect()
+    steps.iter().map(|step| (operation.records)(step)).collect()
 }
 
 /// Each small call with one of its two records changed in every such way.
@@ -64,8 +48,7 @@ fn changed(change: impl Fn(&Operation, [Record; 2], usize)) {
 #[test]
 fn every_word() {
     changed(|operation, records, which| {
-        let [first, second] = records;
-        let mut draft = Draft::new(first, second);
+        let mut draft = Draft::new(records);
         for at in 0..draft.records[which].words.len() {
             let word = draft.records[which].words[at];
             let (less, more) = (word.wrapping_sub(1), word.wrapping_add(1));
@@ -90,8 +73,7 @@ fn every_word() {
 #[test]
 fn every_length() {
     changed(|operation, records, which| {
-        let [first, second] = records;
-        let mut draft = Draft::new(first, second);
+        let mut draft = Draft::new(records);
         draft.records[which].tail = vec![1; 9];
         let longest = 4 * draft.records[which].words.len() + 9;
         for length in 0..=longest {
@@ -105,8 +87,7 @@ fn every_length() {
 #[test]
 fn the_highest_word_everywhere() {
     changed(|operation, records, which| {
-        let [first, second] = records;
-        let mut draft = Draft::new(first, second);
+        let mut draft = Draft::new(records);
         let words = draft.records[which].words.clone();
         draft.records[which].words.fill(u32::MAX);
         expect(operation, &draft);
@@ -146,8 +127,7 @@ fn the_largest_records() {
                 let sheet = sheet.clone();
                 let step = Step { sheet, old };
                 for operation in OPERATIONS {
-                    let [first, second] = records_of(operation, &step);
-                    expect(operation, &Draft::new(first, second));
+                    expect(operation, &Draft::new((operation.records)(&step)));
                 }
             }
         }
@@ -167,13 +147,13 @@ fn the_most_moves() {
         let mut counts = vec![1; all.len()];
         expect(
             &CARRY_OUT,
-            &Draft::new(sheet, moves::moves(n, &all, &counts)),
+            &Draft::new([sheet, moves::moves(n, &all, &counts)]),
         );
         counts[0] = 2;
         let sheet = sheets::sheet(n, 1, &[0], &[others]);
         expect(
             &CARRY_OUT,
-            &Draft::new(sheet, moves::moves(n, &all, &counts)),
+            &Draft::new([sheet, moves::moves(n, &all, &counts)]),
         );
         // Every holder of subdomains 0 and up sends to its neighbour.
         let cells = sheets::all_cells(n);
@@ -185,7 +165,7 @@ fn the_most_moves() {
         for count in [1, 2, 3] {
             let sheet = sheets::sheet(n, 1, &cells, &vec![2; cells.len()]);
             let sends = moves::moves(n, &routes, &vec![count; routes.len()]);
-            expect(&CARRY_OUT, &Draft::new(sheet, sends));
+            expect(&CARRY_OUT, &Draft::new([sheet, sends]));
         }
     }
 }

@@ -6,15 +6,14 @@
 use firrozka_tests::answers::{
     helpands, PartAnswer, StepAnswer, WeighedAnswer, WrittenAnswer, NOTHING,
 };
-use firrozka_tests::operations::ALL;
+use firrozka_tests::implementations::IMPLEMENTATIONS;
 use firrozka_tests::records::moves::{moves, route};
 use firrozka_tests::records::plans::plan;
 use firrozka_tests::records::sheets::{cell, sheet};
 use firrozka_tests::records::to_words;
+use firrozka_tests::settings::SEED;
 use firrozka_tests::steps::{self, Size, Step};
 use firrozka_tests::{refused, worked};
-
-const SEED: u64 = 20_251_115;
 
 /// What untouched bytes look like.
 const FILL: u8 = 0xa5;
@@ -34,21 +33,6 @@ fn some_steps() -> Vec<Step> {
     worked.chain(seeded).collect()
 }
 
-/// Plans with one fault each, or two, and the first fault's number.
-fn bad_plans() -> Vec<(u32, Vec<u8>)> {
-    let bad = refused::all().into_iter();
-    bad.filter(|(refusal, _)| (11..=18).contains(refusal))
-        .map(|(refusal, step)| (refusal, step.old))
-        .collect()
-}
-
-fn bad_sheets() -> Vec<(u32, Vec<u8>)> {
-    let bad = refused::all().into_iter();
-    bad.filter(|(refusal, _)| (1..=7).contains(refusal))
-        .map(|(refusal, step)| (refusal, step.sheet))
-        .collect()
-}
-
 /// Moves for three nodes with a fault each.
 fn bad_moves() -> Vec<(u32, Vec<u8>)> {
     let seven: Vec<u32> = (0..7).map(|k| route(k / 2, 0, 1 + k % 2)).collect();
@@ -66,12 +50,12 @@ fn bad_moves() -> Vec<(u32, Vec<u8>)> {
 
 /// A refusal, with buffers of any length untouched.
 fn weigh_refuses(sheet: &[u8], plan: &[u8], lengths: &[usize], refusal: u32) {
-    for operations in ALL {
+    for implementation in IMPLEMENTATIONS {
         for &length in lengths {
             let mut least = buffer(length);
-            let answer = (operations.weigh)(sheet, plan, &mut least);
+            let answer = (implementation.weigh)(sheet, plan, &mut least);
             let expected = WeighedAnswer { refusal, holds: 0 };
-            assert_eq!(answer, expected, "{}", operations.name);
+            assert_eq!(answer, expected, "{}", implementation.name);
             assert!(untouched(&least));
         }
     }
@@ -82,12 +66,12 @@ fn weigh_refuses(sheet: &[u8], plan: &[u8], lengths: &[usize], refusal: u32) {
 #[test]
 fn weigh_refusals() {
     let good = worked::d().sheet;
-    for (refusal, sheet) in bad_sheets() {
+    for (refusal, sheet) in refused::sheets() {
         weigh_refuses(&sheet, &worked::d_plan(), &[0, 12, 99], refusal);
         // Everything else is wrong too.
         weigh_refuses(&sheet, &[], &[0, 12, 99], refusal);
     }
-    for (refusal, plan) in bad_plans() {
+    for (refusal, plan) in refused::plans() {
         weigh_refuses(&good, &plan, &[0, 12, 99], refusal);
         weigh_refuses(&worked::b().sheet, &plan, &[0, 12, 99], refusal);
     }
@@ -122,11 +106,11 @@ fn weigh_writes() {
         ([28, 36, 0], 1),
         ([27, 37, 0], 0),
     ];
-    for operations in ALL {
+    for implementation in IMPLEMENTATIONS {
         for (step, (words, holds)) in trees.iter().zip(expected) {
             for length in [12, 13, 99] {
                 let mut least = buffer(length);
-                let answer = (operations.weigh)(&step.sheet, &step.old, &mut least);
+                let answer = (implementation.weigh)(&step.sheet, &step.old, &mut least);
                 assert_eq!(answer, WeighedAnswer { refusal: 0, holds });
                 assert_eq!(to_words(&least[..12]), words);
                 assert!(untouched(&least[12..]));
@@ -139,14 +123,14 @@ fn weigh_writes() {
 
 /// A refusal with buffers of these lengths, both untouched.
 fn plan_refuses(step: &Step, lengths: [usize; 2], refusal: u32) {
-    for operations in ALL {
+    for implementation in IMPLEMENTATIONS {
         let [mut plan, mut moves] = lengths.map(buffer);
-        let answer = (operations.plan_step)(&step.sheet, &step.old, &mut plan, &mut moves);
+        let answer = (implementation.plan_step)(&step.sheet, &step.old, &mut plan, &mut moves);
         let expected = StepAnswer {
             refusal,
             ..StepAnswer::default()
         };
-        assert_eq!(answer, expected, "{}:\n{step}", operations.name);
+        assert_eq!(answer, expected, "{}:\n{step}", implementation.name);
         assert!(untouched(&plan) && untouched(&moves));
     }
 }
@@ -165,13 +149,13 @@ fn plan_step_refusals() {
     for (refusal, step) in refused::all() {
         plan_refuses_inputs(&step.sheet, &step.old, refusal);
     }
-    for (refusal, sheet) in bad_sheets() {
-        for (_, old) in bad_plans() {
+    for (refusal, sheet) in refused::sheets() {
+        for (_, old) in refused::plans() {
             plan_refuses_inputs(&sheet, &old, refusal);
         }
         plan_refuses_inputs(&sheet, &[], refusal);
     }
-    for (refusal, old) in bad_plans() {
+    for (refusal, old) in refused::plans() {
         // Of other N too, and where the old tree would play no part.
         plan_refuses_inputs(&worked::b().sheet, &old, refusal);
         plan_refuses_inputs(&worked::j().sheet, &old, refusal);
@@ -189,11 +173,9 @@ fn plan_step_refusals() {
 /// is just long enough will do, one that is longer keeps its end.
 #[test]
 fn plan_step_buffers() {
-    for operations in ALL {
+    for implementation in IMPLEMENTATIONS {
         for step in some_steps() {
-            let planned = operations
-                .planned(&step.sheet, &step.old)
-                .expect("accepted");
+            let planned = implementation.plan(&step);
             let (plan, moves) = (planned.plan.len(), planned.moves.len());
             for short in [
                 [plan - 1, moves - 1],
@@ -208,7 +190,7 @@ fn plan_step_buffers() {
             }
             for more in [0, 1, 50] {
                 let [mut plan_buffer, mut moves_buffer] = [plan + more, moves + more].map(buffer);
-                let answer = (operations.plan_step)(
+                let answer = (implementation.plan_step)(
                     &step.sheet,
                     &step.old,
                     &mut plan_buffer,
@@ -232,12 +214,12 @@ fn plan_step_buffers() {
 // Carry out.
 
 fn carry_out_refuses(sheet: &[u8], moves: &[u8], lengths: &[usize], refusal: u32) {
-    for operations in ALL {
+    for implementation in IMPLEMENTATIONS {
         for &length in lengths {
             let mut next = buffer(length);
-            let answer = (operations.carry_out)(sheet, moves, &mut next);
+            let answer = (implementation.carry_out)(sheet, moves, &mut next);
             let expected = WrittenAnswer { refusal, bytes: 0 };
-            assert_eq!(answer, expected, "{}", operations.name);
+            assert_eq!(answer, expected, "{}", implementation.name);
             assert!(untouched(&next));
         }
     }
@@ -249,7 +231,7 @@ fn carry_out_refuses(sheet: &[u8], moves: &[u8], lengths: &[usize], refusal: u32
 fn carry_out_refusals() {
     let good = worked::d().sheet;
     let lengths = [0, 99];
-    for (refusal, sheet) in bad_sheets() {
+    for (refusal, sheet) in refused::sheets() {
         carry_out_refuses(&sheet, &moves(3, &[], &[]).bytes(), &lengths, refusal);
         carry_out_refuses(&sheet, &[], &lengths, refusal);
     }
@@ -279,8 +261,8 @@ fn what_arrives_cannot_be_sent() {
     // Nor does what arrives make room, or what leaves make a debt.
     let around = [route(0, 0, 1), route(0, 1, 0)];
     let around = moves(3, &around, &[30, 27]).bytes();
-    for operations in ALL {
-        let next = operations.carried_out(&worked::e().sheet, &around);
+    for implementation in IMPLEMENTATIONS {
+        let next = implementation.carried_out(&worked::e().sheet, &around);
         let words = to_words(&next.expect("accepted"));
         assert_eq!(
             words,
@@ -306,34 +288,32 @@ fn sends_beyond_32_bits() {
 /// written behind the sheet.
 #[test]
 fn carry_out_writes() {
-    for operations in ALL {
+    for implementation in IMPLEMENTATIONS {
         let step = worked::d();
         let record = moves(3, &[route(0, 0, 2), route(1, 1, 0)], &[90, 2]).bytes();
-        let next = operations
+        let next = implementation
             .carried_out(&step.sheet, &record)
             .expect("accepted");
         let cells = [cell(0, 1), cell(1, 1), cell(2, 0), cell(2, 2)];
         assert_eq!(next, sheet(3, 10, &cells, &[2, 4, 90, 4]).bytes());
         for step in some_steps() {
-            let planned = operations
-                .planned(&step.sheet, &step.old)
-                .expect("accepted");
-            let next = operations.carried_out(&step.sheet, &planned.moves);
+            let planned = implementation.plan(&step);
+            let next = implementation.carried_out(&step.sheet, &planned.moves);
             let next = next.expect("accepted");
             let length = next.len();
             carry_out_refuses(&step.sheet, &planned.moves, &[0, 11, length - 1], 43);
             for more in [0, 1, 50] {
                 let mut bytes = buffer(length + more);
-                let answer = (operations.carry_out)(&step.sheet, &planned.moves, &mut bytes);
+                let answer = (implementation.carry_out)(&step.sheet, &planned.moves, &mut bytes);
                 let bytes_written = length as u32;
                 assert_eq!((answer.refusal, answer.bytes), (0, bytes_written));
                 assert_eq!(bytes[..length], next);
                 assert!(untouched(&bytes[length..]));
             }
-            // Once there, nothing is left to move.
+            // With no moves the sheet stays as it is.
             let n = to_words(&step.sheet)[0];
             let rest = moves(n, &[], &[]).bytes();
-            assert_eq!(operations.carried_out(&next, &rest), Ok(next));
+            assert_eq!(implementation.carried_out(&next, &rest), Ok(next));
         }
     }
 }
@@ -381,9 +361,9 @@ fn tree_in_force() {
         (of(2, &chain), kept.clone(), nothing),
         (of(1, &[1, 1, 1]), kept, nothing),
     ];
-    for operations in ALL {
+    for implementation in IMPLEMENTATIONS {
         for (at, (old, new, part)) in cases.iter().enumerate() {
-            let answer = (operations.tree_in_force)(old, new);
+            let answer = (implementation.tree_in_force)(old, new);
             assert_eq!(answer, *part, "case {at}");
         }
     }
@@ -393,12 +373,10 @@ fn tree_in_force() {
 /// is taken from.
 #[test]
 fn tree_in_force_after_a_step() {
-    for operations in ALL {
+    for implementation in IMPLEMENTATIONS {
         for step in some_steps() {
-            let planned = operations
-                .planned(&step.sheet, &step.old)
-                .expect("accepted");
-            let part = (operations.tree_in_force)(&step.old, &planned.plan);
+            let planned = implementation.plan(&step);
+            let part = (implementation.tree_in_force)(&step.old, &planned.plan);
             let n = to_words(&step.sheet)[0];
             if step.old.is_empty() {
                 assert_eq!(part, NOTHING);

@@ -1,12 +1,11 @@
-//! The benchmark's yardstick answers like the second implementation: some
-//! hundred calls of each operation that is measured, every refusal and every
+//! The benchmark's baseline answers like the second implementation: some
+//! thousand calls of each operation that is measured, every refusal and every
 //! order of two faults among them.
 #![forbid(unsafe_code)]
 
 use firrozka_tests::calls::{CARRY_OUT, PLAN_STEP, WEIGH};
-use firrozka_tests::operations::PLAIN;
-
-const SEED: u64 = 20_251_115;
+use firrozka_tests::implementations::PLAIN;
+use firrozka_tests::settings::SEED;
 
 #[test]
 fn answers_like_the_second_implementation() {

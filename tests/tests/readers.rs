@@ -12,9 +12,8 @@ use firrozka_tests::faults::pairs;
 use firrozka_tests::inputs::Inputs;
 use firrozka_tests::readers::{Reader, MOVES, PLAN, SHEET};
 use firrozka_tests::records::shown;
-use firrozka_tests::settings::setting;
+use firrozka_tests::settings::{seed, setting};
 
-const SEED: u64 = 20_251_115;
 const ROUNDS: usize = 45_000;
 
 #[test]
@@ -33,7 +32,7 @@ fn moves() {
 }
 
 fn run<A: Answer>(reader: &Reader<A>) {
-    let seed = setting("FIRROZKA_SEED", SEED);
+    let seed = seed();
     let rounds = setting("FIRROZKA_ROUNDS", ROUNDS);
     let inputs = Inputs::new(reader, seed);
     let mut coverage = Coverage::default();

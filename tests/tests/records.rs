@@ -5,6 +5,7 @@
 use firrozka_tests::answers::Answer;
 use firrozka_tests::random::Random;
 use firrozka_tests::readers::{Reader, MOVES, PLAN, SHEET};
+use firrozka_tests::records::plans::depth;
 use firrozka_tests::records::shown;
 
 /// Thousands of valid records and the reference's answers to them.
@@ -59,10 +60,10 @@ fn plans() {
         for kind in [1, 2] {
             some(&plans, "this N and kind", |_, a| a.n == n && a.kind == kind);
             some(&plans, "a star", |w, a| {
-                (a.n, a.kind) == (n, kind) && depth(w) == 1
+                (a.n, a.kind) == (n, kind) && depth(helpands(w)) == 1
             });
             some(&plans, "a chain", |w, a| {
-                (a.n, a.kind) == (n, kind) && depth(w) == n as usize - 1
+                (a.n, a.kind) == (n, kind) && depth(helpands(w)) == n as usize - 1
             });
         }
     }
@@ -77,14 +78,9 @@ fn plans() {
     });
 }
 
-/// The most steps that a node is away from the root of a plan's tree.
-fn depth(words: &[u32]) -> usize {
-    let helpand = |node: usize| words[3 + node] as usize;
-    let steps = |node| {
-        let chain = std::iter::successors(Some(node), |&at| Some(helpand(at)));
-        chain.take_while(|&at| helpand(at) != at).count()
-    };
-    (0..words[0] as usize).map(steps).max().unwrap_or(0)
+/// The helpands among a plan's words.
+fn helpands(words: &[u32]) -> &[u32] {
+    &words[3..][..words[0] as usize]
 }
 
 #[test]

@@ -3,19 +3,18 @@
 #![forbid(unsafe_code)]
 
 use firrozka_tests::demands::{judged, Judged};
-use firrozka_tests::operations::{Operations, ALL};
+use firrozka_tests::implementations::{Implementation, IMPLEMENTATIONS};
 use firrozka_tests::random::Random;
 use firrozka_tests::records::plans::tree;
 use firrozka_tests::reference::{plan, read_sheet};
 use firrozka_tests::rival::{by_flow, by_trying, Verdict};
+use firrozka_tests::settings::SEED;
 use firrozka_tests::steps::{self, Size, Step};
-use firrozka_tests::worked;
-
-const SEED: u64 = 20_251_115;
+use firrozka_tests::{exhaustive, worked};
 
 /// What *weigh* writes and says of a step's old tree.
-fn weighed(operations: &Operations, step: &Step) -> (Vec<u32>, bool) {
-    let weighed = operations.weighed(&step.sheet, &step.old);
+fn weighed(implementation: &Implementation, step: &Step) -> (Vec<u32>, bool) {
+    let weighed = implementation.weighed(&step.sheet, &step.old);
     weighed.expect("sheet and old tree are accepted")
 }
 
@@ -31,8 +30,8 @@ fn flows(helpands: &[u32], totals: &[u64], rooms: &[u64]) -> bool {
 #[test]
 fn plausible_missteps() {
     let step = worked::own(10, &[27, 39, 34], worked::old(&[0, 0, 1]));
-    for operations in ALL {
-        let weighed = |step: &Step| weighed(operations, step);
+    for implementation in IMPLEMENTATIONS {
+        let weighed = |step: &Step| weighed(implementation, step);
         assert_eq!(weighed(&step), (vec![27, 37, 34], false));
         assert_eq!(weighed(&worked::h()), (vec![28, 36, 0], true));
         assert_eq!(weighed(&worked::i()), (vec![27, 37, 0], false));
@@ -48,9 +47,9 @@ fn plausible_missteps() {
 #[test]
 fn every_small_tree() {
     for (n, bound, count) in [(2, 9, 2), (3, 7, 9), (4, 4, 64)] {
-        let trees = all_trees(n);
+        let trees = exhaustive::trees(n);
         assert_eq!(trees.len(), count);
-        for counts in all_rows(n, bound) {
+        for counts in exhaustive::rows(n, bound) {
             let totals: Vec<u64> = counts.iter().map(|&count| u64::from(count)).collect();
             for helpands in &trees {
                 let step = worked::own(1, &counts, worked::old(helpands));
@@ -60,9 +59,9 @@ fn every_small_tree() {
                 let found = by_trying(helpands, &totals, &rooms).is_some();
                 let place = format!("{counts:?} along {helpands:?}");
                 assert_eq!(flows(helpands, &totals, &rooms), found, "{place}");
-                for operations in ALL {
-                    assert_eq!(weighed(operations, &step).1, found, "{place}");
-                    assert_eq!(keeps(operations, &step), needed && found, "{place}");
+                for implementation in IMPLEMENTATIONS {
+                    assert_eq!(weighed(implementation, &step).1, found, "{place}");
+                    assert_eq!(keeps(implementation, &step), needed && found, "{place}");
                 }
             }
         }
@@ -70,27 +69,9 @@ fn every_small_tree() {
 }
 
 /// Whether the plan written is of kind 1.
-fn keeps(operations: &Operations, step: &Step) -> bool {
-    let planned = operations.planned(&step.sheet, &step.old);
-    let planned = planned.expect("sheet and old tree are accepted");
+fn keeps(implementation: &Implementation, step: &Step) -> bool {
+    let planned = implementation.plan(step);
     plan::read(&planned.plan).map_or(false, |plan| plan.kind == 1)
-}
-
-/// All trees of n nodes, as helpands.
-fn all_trees(n: usize) -> Vec<Vec<u32>> {
-    let is_tree = |helpands: &Vec<u32>| plan::read(&worked::old(helpands)).is_ok();
-    let rows = all_rows(n, n as u32).into_iter();
-    rows.filter(is_tree).collect()
-}
-
-/// All rows of this many numbers below a bound.
-fn all_rows(length: usize, bound: u32) -> Vec<Vec<u32>> {
-    let mut rows = vec![Vec::new()];
-    for _ in 0..length {
-        let longer = |row: Vec<u32>| (0..bound).map(move |last| [&row[..], &[last]].concat());
-        rows = rows.into_iter().flat_map(longer).collect();
-    }
-    rows
 }
 
 /// Flow and trying agree for rooms of all sorts too.
@@ -123,12 +104,14 @@ fn leasts() {
     for index in 0..3_000 {
         let step = steps::at(SEED, index, Size::Small);
         let place = format!("step {index}");
-        let [judged, _] = ALL.map(|operations| judged(operations, &step, &place));
+        let [judged, _] =
+            IMPLEMENTATIONS.map(|implementation| judged(implementation, &step, &place));
         let old = match &judged.old {
             Some(old) => old,
             None => continue,
         };
-        let [(leasts, holds), again] = ALL.map(|operations| weighed(operations, &step));
+        let [(leasts, holds), again] =
+            IMPLEMENTATIONS.map(|implementation| weighed(implementation, &step));
         assert_eq!((&leasts, holds), (&again.0, again.1), "{place}");
         assert_eq!(holds, judged.rival, "{place}");
         let leasts: Vec<u64> = leasts.into_iter().map(u64::from).collect();

@@ -7,18 +7,18 @@
 #![forbid(unsafe_code)]
 
 use firrozka_tests::demands::{judged, Judged};
-use firrozka_tests::operations::{Operations, ALL};
+use firrozka_tests::implementations::{Implementation, IMPLEMENTATIONS};
 use firrozka_tests::random::Random;
+use firrozka_tests::records::plans::depth;
 use firrozka_tests::records::to_words;
 use firrozka_tests::reference::plan::{self, Plan};
 use firrozka_tests::reference::sheet;
 use firrozka_tests::reference::table::Table;
-use firrozka_tests::settings::setting;
+use firrozka_tests::settings::{seed, setting, SEED};
 use firrozka_tests::steps::pairs::{self, Pair};
 use firrozka_tests::steps::{self, Size, Step};
-use firrozka_tests::worked;
+use firrozka_tests::{exhaustive, worked};
 
-const SEED: u64 = 20_251_115;
 const STEPS: u64 = 6_000;
 /// For each N.
 const PAIRS: u64 = 8;
@@ -31,7 +31,7 @@ fn leads_to<const N: usize>(
     [kind, limit]: [u32; 2],
     helpands: [u32; N],
     shares: [u32; N],
-) -> [Judged; ALL.len()] {
+) -> [Judged; IMPLEMENTATIONS.len()] {
     let expected = Plan {
         n: N as u32,
         kind,
@@ -39,9 +39,9 @@ fn leads_to<const N: usize>(
         helpands: helpands.to_vec(),
         shares: shares.to_vec(),
     };
-    ALL.map(|operations| {
-        let judged = judged(operations, &step, "a worked step");
-        assert_eq!(judged.plan, expected, "{}", operations.name);
+    IMPLEMENTATIONS.map(|implementation| {
+        let judged = judged(implementation, &step, "a worked step");
+        assert_eq!(judged.plan, expected, "{}", implementation.name);
         judged
     })
 }
@@ -73,10 +73,8 @@ fn step_c() {
 fn step_d() {
     let step = worked::d();
     assert_eq!(to_words(&step.sheet), [3, 10, 3, 0, 65, 130, 90, 6, 4]);
-    for operations in ALL {
-        let planned = operations
-            .planned(&step.sheet, &step.old)
-            .expect("D is accepted");
+    for implementation in IMPLEMENTATIONS {
+        let planned = implementation.plan(&step);
         assert_eq!(to_words(&planned.plan), [3, 2, 36, 0, 0, 0, 0, 27, 29]);
         assert_eq!(to_words(&planned.moves), [3, 2, 1, 2, 27, 29]);
         assert_eq!(planned.plan, worked::d_plan());
@@ -138,14 +136,15 @@ fn step_k() {
 /// amounts, and all records are read back.
 #[test]
 fn seeded_steps() {
-    let seed = setting("FIRROZKA_SEED", SEED);
+    let seed = seed();
     let mut kinds = [0; 3];
     let mut corners = corners();
     let steps = setting("FIRROZKA_STEPS", STEPS);
     for index in 0..steps {
         let step = steps::at(seed, index, Size::Any);
         let place = format!("FIRROZKA_SEED={seed}, step {index}");
-        let [judged, _] = ALL.map(|operations| judged(operations, &step, &place));
+        let [judged, _] =
+            IMPLEMENTATIONS.map(|implementation| judged(implementation, &step, &place));
         kinds[judged.plan.kind as usize] += 1;
         for corner in &mut corners {
             corner.times += u64::from((corner.met)(&judged));
@@ -265,14 +264,9 @@ fn strangers_hold(step: &Judged) -> bool {
     pairs.any(|(holder, subdomain)| holder != subdomain && helpand(holder) != subdomain)
 }
 
-/// The most steps that a node is away from the old root.
+/// The depth of the old tree.
 fn old_depth(step: &Judged) -> Option<usize> {
-    let helpands = &step.old.as_ref()?.helpands;
-    let depth = |node: u32| {
-        let chain = std::iter::successors(Some(node), |&at| Some(helpands[at as usize]));
-        chain.take_while(|&at| helpands[at as usize] != at).count()
-    };
-    (0..step.sheet.n).map(depth).max()
+    step.old.as_ref().map(|old| depth(&old.helpands))
 }
 
 /// One particle decides whether the old tree is kept, and whether one is needed,
@@ -281,25 +275,26 @@ fn old_depth(step: &Judged) -> Option<usize> {
 /// one particle less, and no tree is needed.)
 #[test]
 fn pairs_of_steps() {
-    let seed = setting("FIRROZKA_SEED", SEED);
+    let seed = seed();
     for (n, index) in (2..=64).flat_map(|n| (0..PAIRS).map(move |index| (n, index))) {
         let random = &mut Random::at(seed, index);
         let name = format!("FIRROZKA_SEED={seed}, N {n}, pair {index}");
         let primary = pairs::primary(Size::Of(n), random);
         let tree = (n > 2).then(|| pairs::tree(Size::Of(n), random));
-        for operations in ALL {
-            let primary = kinds(operations, &primary, &name);
+        for implementation in IMPLEMENTATIONS {
+            let primary = kinds(implementation, &primary, &name);
             assert!(primary[0] == 0 && primary[1] > 0, "{name}");
             if let Some(tree) = &tree {
-                assert_eq!(kinds(operations, tree, &name), [1, 2], "{name}");
+                assert_eq!(kinds(implementation, tree, &name), [1, 2], "{name}");
             }
         }
     }
 }
 
 /// The kinds of both steps, which differ in one particle and nothing else.
-fn kinds(operations: &Operations, pair: &Pair, name: &str) -> [u32; 2] {
-    let [within, above] = [&pair.within, &pair.above].map(|step| judged(operations, step, name));
+fn kinds(implementation: &Implementation, pair: &Pair, name: &str) -> [u32; 2] {
+    let [within, above] =
+        [&pair.within, &pair.above].map(|step| judged(implementation, step, name));
     let totals = within.totals.iter().zip(&above.totals);
     let apart: u64 = totals.map(|(a, b)| a.abs_diff(*b)).sum();
     assert_eq!(apart, 2, "{name}");
@@ -311,26 +306,18 @@ fn kinds(operations: &Operations, pair: &Pair, name: &str) -> [u32; 2] {
 /// Every step with up to three nodes, few particles and every old tree or none.
 #[test]
 fn small_steps() {
-    let counts = |n: usize| (0..7u32.pow(n as u32)).map(move |k| digits(k, 7, n));
     for n in 1..=3 {
-        for counts in counts(n) {
-            let rows = (0..3u32.pow(n as u32)).map(|k| digits(k, 3, n));
-            let olds = rows.map(|helpands| worked::old(&helpands));
-            let olds = olds.filter(|old| plan::read(old).is_ok());
+        for counts in exhaustive::rows(n, 7) {
+            let olds = exhaustive::trees(n).into_iter();
+            let olds = olds.map(|helpands| worked::old(&helpands));
             for old in olds.chain([Vec::new()]) {
                 let step = worked::own(1, &counts, old);
-                for operations in ALL {
-                    judged(operations, &step, "a small step");
+                for implementation in IMPLEMENTATIONS {
+                    judged(implementation, &step, "a small step");
                 }
             }
         }
     }
-}
-
-/// The lowest digits of a number, the lowest first.
-fn digits(number: u32, base: u32, count: usize) -> Vec<u32> {
-    let shifted = std::iter::successors(Some(number), |rest| Some(rest / base));
-    shifted.take(count).map(|rest| rest % base).collect()
 }
 
 /// What is written is read back as it was.
@@ -341,8 +328,7 @@ fn written_and_read_back() {
         let sheet = sheet::read(&step.sheet).expect("the sheet is accepted");
         assert_eq!(sheet.bytes(), step.sheet);
         assert_eq!(Table::of(&sheet).sheet(sheet.t), sheet);
-        let planned = ALL.map(|operations| operations.planned(&step.sheet, &step.old));
-        let plans = planned.map(|planned| planned.expect("the step is accepted").plan);
+        let plans = IMPLEMENTATIONS.map(|implementation| implementation.plan(&step).plan);
         for plan in plans.iter().chain([&step.old]) {
             if !plan.is_empty() {
                 let read = plan::read(plan).expect("the plan is accepted");

@@ -5,29 +5,28 @@
 use firrozka_tests::answers::{self, PartAnswer, StepAnswer, WeighedAnswer, WrittenAnswer};
 use firrozka_tests::calls::{Operation, CARRY_OUT, OPERATIONS, PLAN_STEP, TREE_IN_FORCE, WEIGH};
 use firrozka_tests::demands::judge;
-use firrozka_tests::operations::{Operations, PlanStep, MOVES_BYTES, REFERENCE};
+use firrozka_tests::implementations::{Implementation, PlanStep, MOVES_BYTES, REFERENCE};
 use firrozka_tests::records::{to_bytes, to_words};
 use firrozka_tests::reference::{carry_out, plan, plan_step, read_sheet, tree_in_force, weigh};
+use firrozka_tests::settings::SEED;
 use firrozka_tests::steps::{self, Size};
 use firrozka_tests::worked;
 
-const SEED: u64 = 20_251_115;
-
 /// The run reports the one who does this operation wrong.
-fn is_reported(operation: &Operation, wrong: &Operations) {
+fn is_reported(operation: &Operation, wrong: &Implementation) {
     let reported = operation.run(wrong, SEED, 2_000).is_err();
     assert!(reported, "{}: {}", operation.name, wrong.name);
 }
 
 /// Demand 3 or a rule beside it is broken in some of a few steps.
-fn is_judged(wrong: &Operations) {
+fn is_judged(wrong: &Implementation) {
     let steps = (0..500).map(|index| steps::at(SEED, index, Size::Small));
     let broken = steps.filter(|step| judge(wrong, step).is_err()).count();
     assert!(broken > 0, "{}", wrong.name);
 }
 
-fn wrong_planner(name: &'static str, plan_step: PlanStep) -> Operations {
-    Operations {
+fn wrong_planner(name: &'static str, plan_step: PlanStep) -> Implementation {
+    Implementation {
         name,
         plan_step,
         ..REFERENCE
@@ -266,7 +265,7 @@ fn weighs_wrong() {
         ("writes only what holds", only_if_it_holds as _),
         ("24 before 21", kind_first as _),
     ] {
-        let wrong = Operations {
+        let wrong = Implementation {
             name,
             weigh,
             ..REFERENCE
@@ -310,7 +309,7 @@ fn carries_out_wrong() {
         ("keeps empty cells", keeps_empty_cells as _),
         ("changes t", other_tolerance as _),
     ] {
-        let wrong = Operations {
+        let wrong = Implementation {
             name,
             carry_out,
             ..REFERENCE
@@ -338,7 +337,7 @@ fn tree_in_force_wrong() {
         ("the new plan always", new_always as _),
         ("helpands not compared", helpands_not_compared as _),
     ] {
-        let wrong = Operations {
+        let wrong = Implementation {
             name,
             tree_in_force,
             ..REFERENCE

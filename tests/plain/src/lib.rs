@@ -1,4 +1,4 @@
-//! Document 01 in plain safe Rust: the benchmark's yardstick. Fixed arrays of
+//! Document 01 in plain safe Rust: the benchmark's baseline. Fixed arrays of
 //! 64 and 4,096, one pass where one will do, no memory from the heap; and no
 //! trick that a reader would have to think about.
 //!

@@ -4,7 +4,7 @@
 
 use super::{Call, Operation};
 use crate::guarded::Guarded;
-use crate::operations::{Operations, REFERENCE};
+use crate::implementations::{Implementation, REFERENCE};
 use crate::random::Random;
 
 /// How often the one under test is called for each call.
@@ -23,8 +23,12 @@ struct Outcome {
 }
 
 /// Compares all answers to one call. Gives what it came to, or what is wrong.
-pub fn check(operation: &Operation, tested: &Operations, call: &Call) -> Result<Checked, String> {
-    let noise = call.lengths.map(|length| noise(call, length));
+pub fn check(
+    operation: &Operation,
+    tested: &Implementation,
+    call: &Call,
+) -> Result<Checked, String> {
+    let noise = [0, 1].map(|buffer| noise(call, buffer));
     let faults = (operation.faults)(call);
     let expected = expected(operation, call, &noise);
     let answer = &expected.answer;
@@ -46,10 +50,12 @@ pub fn check(operation: &Operation, tested: &Operations, call: &Call) -> Result<
     Ok(Checked { faults, answer })
 }
 
-/// Bytes that nobody writes by chance, others for other calls.
-fn noise(call: &Call, length: usize) -> Vec<u8> {
-    let [first, second] = &call.records;
-    let random = &mut Random::at(first.len() as u64, second.len() as u64);
+/// What is in a buffer before the call: bytes that nobody writes by chance,
+/// others in each buffer and beside records of other lengths.
+fn noise(call: &Call, buffer: usize) -> Vec<u8> {
+    let length = call.lengths[buffer];
+    let [first, second] = [0, 1].map(|at| call.records[at].len() as u64);
+    let random = &mut Random::at(first << 32 | second, buffer as u64);
     let words = (0..length / 8 + 1).flat_map(|_| random.draw().to_le_bytes());
     words.take(length).collect()
 }
@@ -64,7 +70,7 @@ fn expected(operation: &Operation, call: &Call, noise: &[Vec<u8>; 2]) -> Outcome
 
 fn compare(
     operation: &Operation,
-    tested: &Operations,
+    tested: &Implementation,
     call: &Call,
     noise: &[Vec<u8>; 2],
     expected: &Outcome,

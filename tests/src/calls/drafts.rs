@@ -2,9 +2,9 @@
 //! fault that they can have.
 
 use super::{Call, Operation};
-use crate::operations::REFERENCE;
+use crate::implementations::REFERENCE;
 use crate::random::Random;
-use crate::records::damage::{damage, muddle};
+use crate::records::mutation::{mutate, mutate_once};
 use crate::records::{moves, plans, sheets, Record};
 use crate::steps::{self, Size, Step};
 use std::collections::BTreeMap;
@@ -55,9 +55,9 @@ const MORE_ROOMS: [[Room; 2]; 4] = [
 ];
 
 impl Draft {
-    pub fn new(first: Record, second: Record) -> Draft {
+    pub fn new(records: [Record; 2]) -> Draft {
         Draft {
-            records: [first, second],
+            records,
             rooms: [Room::Exact; 2],
         }
     }
@@ -87,36 +87,36 @@ impl Draft {
         rooms.iter().map(with).collect()
     }
 
-    /// Damages a record or two, or brings some faults in, or does nothing.
-    pub fn muddle(&mut self, numbers: &[u32], random: &mut Random) {
+    /// Mutates a record or two, or brings some faults in, or does nothing.
+    pub fn mutate(&mut self, numbers: &[u32], random: &mut Random) {
         let at = random.place(2);
         match random.below(16) {
             0..=7 => (),
-            8 | 9 => damage(&mut self.records[at], random),
-            10 | 11 => muddle(&mut self.records[at], random),
+            8 | 9 => mutate_once(&mut self.records[at], random),
+            10 | 11 => mutate(&mut self.records[at], random),
             12 => {
-                damage(&mut self.records[0], random);
-                damage(&mut self.records[1], random);
+                mutate_once(&mut self.records[0], random);
+                mutate_once(&mut self.records[1], random);
             }
-            13 | 14 => self.spoil(random.one_of(numbers), random),
+            13 | 14 => self.inject(random.one_of(numbers), random),
             _ => {
-                self.spoil(random.one_of(numbers), random);
-                self.spoil(random.one_of(numbers), random);
+                self.inject(random.one_of(numbers), random);
+                self.inject(random.one_of(numbers), random);
             }
         }
     }
 
     /// Brings a fault in, as far as the records allow it.
-    pub fn spoil(&mut self, fault: u32, random: &mut Random) {
+    pub fn inject(&mut self, fault: u32, random: &mut Random) {
         let [first, second] = &mut self.records;
         let short = random.one_of(&[Room::Empty, Room::OneShort]);
         match fault {
-            1..=7 => sheets::spoil(first, fault, random),
+            1..=7 => sheets::inject(first, fault, random),
             // A plan is mostly the second record, beside a sheet.
-            11..=18 if first.is_plan() => plans::spoil(first, fault, random),
-            11..=18 => plans::spoil(second, fault, random),
-            111..=118 => plans::spoil(second, fault - 100, random),
-            31..=36 => moves::spoil(second, fault, random),
+            11..=18 if first.is_plan() => plans::inject(first, fault, random),
+            11..=18 => plans::inject(second, fault, random),
+            111..=118 => plans::inject(second, fault - 100, random),
+            31..=36 => moves::inject(second, fault, random),
             21 | 121 => *second = plans::build(random),
             22 | 25 | 43 => self.rooms[0] = short,
             23 => self.rooms[1] = short,
@@ -143,48 +143,37 @@ fn lengths(rooms: &[Room; 2], needed: [usize; 2]) -> [usize; 2] {
 
 /// Sheet and plan, mostly with a tree of as many nodes.
 pub fn weigh(random: &mut Random) -> Draft {
-    let step = some_step(random);
-    let sheet = sheets::of(&step.sheet);
+    let [sheet, old] = sheet_and_old(&some_step(random));
     let n = sheet.words[0];
-    let old = plan_or_none(&step.old);
     let any = random.between(1, 2);
-    match random.below(8) {
-        0 => Draft::new(sheets::build(random), plans::build(random)),
-        _ if old.cut == Some(0) || old.words[1] == 0 => {
-            Draft::new(sheet, tree_plan(any, n, random))
-        }
-        _ => Draft::new(sheet, old),
-    }
+    Draft::new(match random.below(8) {
+        0 => [sheets::build(random), plans::build(random)],
+        _ if old.cut == Some(0) || old.words[1] == 0 => [sheet, tree_plan(any, n, random)],
+        _ => [sheet, old],
+    })
 }
 
 /// Sheet and old plan or none, mostly of as many nodes.
 pub fn plan_step(random: &mut Random) -> Draft {
-    match random.below(12) {
-        0 => Draft::new(sheets::build(random), plans::build(random)),
-        1 => Draft::new(sheets::build(random), plan_or_none(&[])),
-        _ => {
-            let step = some_step(random);
-            Draft::new(sheets::of(&step.sheet), plan_or_none(&step.old))
-        }
-    }
+    Draft::new(match random.below(12) {
+        0 => [sheets::build(random), plans::build(random)],
+        1 => [sheets::build(random), plan_or_none(&[])],
+        _ => sheet_and_old(&some_step(random)),
+    })
 }
 
 /// Sheet and moves: those of a step, others that the sheet allows, or any.
 pub fn carry_out(random: &mut Random) -> Draft {
     let step = some_step(random);
     let mut sheet = sheets::of(&step.sheet);
-    match random.below(8) {
-        0 => Draft::new(sheet, moves::build(random)),
+    Draft::new(match random.below(8) {
+        0 => [sheet, moves::build(random)],
         1..=3 => {
             let sends = allowed(&mut sheet, random);
-            Draft::new(sheet, sends)
+            [sheet, sends]
         }
-        _ => {
-            let planned = REFERENCE.planned(&step.sheet, &step.old);
-            let planned = planned.expect("the step is accepted");
-            Draft::new(sheet, moves::of(&planned.moves))
-        }
-    }
+        _ => sheet_and_moves(&step),
+    })
 }
 
 /// Old and new plan: those of a step, or two with the same helpands, or with
@@ -193,23 +182,35 @@ pub fn tree_in_force(random: &mut Random) -> Draft {
     let old = plans::build(random);
     let n = old.words[0];
     let any = random.between(1, 2);
-    match random.below(8) {
-        0 => Draft::new(old, plans::build(random)),
-        1 => Draft::new(old, roots(n, random)),
-        2 => Draft::new(old, tree_plan(any, n, random)),
+    Draft::new(match random.below(8) {
+        0 => [old, plans::build(random)],
+        1 => [old, roots(n, random)],
+        2 => [old, tree_plan(any, n, random)],
         3 | 4 => {
             let helpands = plans::tree(n, random);
             let old = plans::over(if n > 1 { any } else { 0 }, &helpands, random);
             let new = plans::over(u32::from(n > 1), &helpands, random);
-            Draft::new(old, new)
+            [old, new]
         }
-        _ => {
-            let step = some_step(random);
-            let planned = REFERENCE.planned(&step.sheet, &step.old);
-            let planned = planned.expect("the step is accepted");
-            Draft::new(plan_or_none(&step.old), plans::of(&planned.plan))
-        }
-    }
+        _ => old_and_new(&some_step(random)),
+    })
+}
+
+/// A step's sheet and old plan.
+pub fn sheet_and_old(step: &Step) -> [Record; 2] {
+    [sheets::of(&step.sheet), plan_or_none(&step.old)]
+}
+
+/// A step's sheet and moves.
+pub fn sheet_and_moves(step: &Step) -> [Record; 2] {
+    let planned = REFERENCE.plan(step);
+    [sheets::of(&step.sheet), moves::of(&planned.moves)]
+}
+
+/// A step's old and new plan.
+pub fn old_and_new(step: &Step) -> [Record; 2] {
+    let planned = REFERENCE.plan(step);
+    [plan_or_none(&step.old), plans::of(&planned.plan)]
 }
 
 /// Mostly a small step, and now and then the largest.
@@ -227,7 +228,7 @@ fn some_step(random: &mut Random) -> Step {
 }
 
 /// The old plan of a step. Where there is none, a small one cut to nothing.
-pub fn plan_or_none(old: &[u8]) -> Record {
+fn plan_or_none(old: &[u8]) -> Record {
     if !old.is_empty() {
         return plans::of(old);
     }

@@ -3,7 +3,7 @@
 //! number found, 0 if there is none.
 
 use super::Call;
-use crate::faults::{holding, moves, number, plan, sheet, stretch};
+use crate::faults::{holding, moves, plan, sheet, stretch, word_at};
 use crate::records::to_words;
 use std::collections::BTreeMap;
 
@@ -63,17 +63,17 @@ pub fn tree_in_force(call: &Call) -> Vec<u32> {
 
 /// Whether both records have N and these differ.
 fn differ(call: &Call) -> bool {
-    let [a, b] = [0, 1].map(|at| number(&to_words(&call.records[at]), 0));
+    let [a, b] = [0, 1].map(|at| word_at(&to_words(&call.records[at]), 0));
     a.zip(b).map_or(false, |(a, b)| a != b)
 }
 
 fn kind(plan: &[u8]) -> Option<u64> {
-    number(&to_words(plan), 1)
+    word_at(&to_words(plan), 1)
 }
 
 fn helpands(plan: &[u8]) -> Vec<u32> {
     let words = to_words(plan);
-    stretch(&words, 3, number(&words, 0).unwrap_or(0)).to_vec()
+    stretch(&words, 3, word_at(&words, 0).unwrap_or(0)).to_vec()
 }
 
 fn is_short(call: &Call, buffer: usize) -> bool {
@@ -96,7 +96,7 @@ fn sends_too_much(sheet: &[u8], moves: &[u8]) -> bool {
 /// which says how many they are.
 fn entries(bytes: &[u8], head: u64) -> Vec<(u64, u64)> {
     let words = to_words(bytes);
-    let count = number(&words, head as usize - 1).unwrap_or(0);
+    let count = word_at(&words, head as usize - 1).unwrap_or(0);
     let first = stretch(&words, head, count);
     let second = stretch(&words, head + count, count);
     let wide = |(&a, &b): (&u32, &u32)| (u64::from(a), u64::from(b));

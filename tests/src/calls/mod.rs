@@ -4,7 +4,7 @@
 //! | file | what it holds |
 //! |---|---|
 //! | `faults` | every check of an operation looked at on its own |
-//! | `drafts` | calls before they become bytes: whole ones, and ways to spoil them |
+//! | `drafts` | calls before they become bytes: whole ones, and faults brought in |
 //! | `check` | one call, all answers |
 //! | `run` | which calls stand at which index of a run, and the run |
 
@@ -14,10 +14,11 @@ pub mod faults;
 pub mod run;
 
 use crate::bounds::NODES;
-use crate::faults::number;
-use crate::operations::{Operations, MOVES_BYTES, PLAN_BYTES, REFERENCE, SHEET_BYTES};
+use crate::faults::{word_at, OF_MOVES, OF_PLAN, OF_SHEET};
+use crate::implementations::{Implementation, MOVES_BYTES, PLAN_BYTES, REFERENCE, SHEET_BYTES};
 use crate::random::Random;
-use crate::records::to_words;
+use crate::records::{to_words, Record};
+use crate::steps::Step;
 use drafts::Draft;
 
 /// What an operation is handed.
@@ -35,8 +36,9 @@ pub struct Call {
 /// One operation and all that its tests need.
 pub struct Operation {
     pub name: &'static str,
-    /// What can be wrong, by number, in the order of the checks.
-    pub numbers: &'static [u32],
+    /// What can be wrong, by number, in the order of the checks: of each record,
+    /// then of the call.
+    pub checks: &'static [&'static [u32]],
     /// Whether answers tell which of two faults comes first.
     pub ordered: bool,
     /// How many buffers it is lent.
@@ -49,6 +51,8 @@ pub struct Operation {
     pub faults: fn(&Call) -> Vec<u32>,
     /// Whether this answer goes with these faults.
     pub agrees: fn(&[u32], &[u32]) -> bool,
+    /// The records that it is handed at an accepted step.
+    pub records: fn(&Step) -> [Record; 2],
     /// Some call that is mostly accepted.
     pub build: fn(&mut Random) -> Draft,
     /// What a run has to meet among accepted calls: `EVERYWHERE`, and this.
@@ -56,7 +60,7 @@ pub struct Operation {
 }
 
 /// Someone, the records, the buffers; what is not lent has length 0.
-pub type Answering = fn(&Operations, [&[u8]; 2], [&mut [u8]; 2]) -> Vec<u32>;
+pub type Answering = fn(&Implementation, [&[u8]; 2], [&mut [u8]; 2]) -> Vec<u32>;
 
 /// Whether an accepted call and the answer to it are of some sort.
 pub type Corner = (&'static str, fn(&Call, &[u32]) -> bool);
@@ -70,18 +74,17 @@ pub const EVERYWHERE: [Corner; 3] = [
 
 pub const WEIGH: Operation = Operation {
     name: "weigh",
-    numbers: &[
-        1, 2, 3, 4, 5, 6, 7, 11, 12, 13, 14, 15, 16, 17, 18, 21, 24, 25,
-    ],
+    checks: &[&OF_SHEET, &OF_PLAN, &[21, 24, 25]],
     ordered: true,
     buffers: 1,
-    answer: |operations, [sheet, plan], [least, _]| {
-        let answer = (operations.weigh)(sheet, plan, least);
+    answer: |implementation, [sheet, plan], [least, _]| {
+        let answer = (implementation.weigh)(sheet, plan, least);
         vec![answer.refusal, answer.holds]
     },
     needed: |sheet, _| [4 * nodes(sheet), 0],
     faults: faults::weigh,
     agrees: is_first,
+    records: drafts::sheet_and_old,
     build: drafts::weigh,
     corners: &[
         ("4,096 cells", has_all_cells),
@@ -92,13 +95,11 @@ pub const WEIGH: Operation = Operation {
 
 pub const PLAN_STEP: Operation = Operation {
     name: "plan a step",
-    numbers: &[
-        1, 2, 3, 4, 5, 6, 7, 11, 12, 13, 14, 15, 16, 17, 18, 21, 22, 23,
-    ],
+    checks: &[&OF_SHEET, &OF_PLAN, &[21, 22, 23]],
     ordered: true,
     buffers: 2,
-    answer: |operations, [sheet, old], [plan, moves]| {
-        let answer = (operations.plan_step)(sheet, old, plan, moves);
+    answer: |implementation, [sheet, old], [plan, moves]| {
+        let answer = (implementation.plan_step)(sheet, old, plan, moves);
         let lengths = [answer.plan_bytes, answer.moves_bytes];
         [&[answer.refusal, answer.kind, answer.limit], &lengths[..]].concat()
     },
@@ -112,6 +113,7 @@ pub const PLAN_STEP: Operation = Operation {
     },
     faults: faults::plan_step,
     agrees: is_first,
+    records: drafts::sheet_and_old,
     build: drafts::plan_step,
     corners: &[
         ("N 1", |call, _| first_word(call) == 1),
@@ -125,11 +127,11 @@ pub const PLAN_STEP: Operation = Operation {
 
 pub const CARRY_OUT: Operation = Operation {
     name: "carry out",
-    numbers: &[1, 2, 3, 4, 5, 6, 7, 31, 32, 33, 34, 35, 36, 41, 42, 43],
+    checks: &[&OF_SHEET, &OF_MOVES, &[41, 42, 43]],
     ordered: true,
     buffers: 1,
-    answer: |operations, [sheet, moves], [next, _]| {
-        let answer = (operations.carry_out)(sheet, moves, next);
+    answer: |implementation, [sheet, moves], [next, _]| {
+        let answer = (implementation.carry_out)(sheet, moves, next);
         vec![answer.refusal, answer.bytes]
     },
     needed: |sheet, moves| {
@@ -138,6 +140,7 @@ pub const CARRY_OUT: Operation = Operation {
     },
     faults: faults::carry_out,
     agrees: is_first,
+    records: drafts::sheet_and_moves,
     build: drafts::carry_out,
     corners: &[
         ("N 1", |call, _| first_word(call) == 1),
@@ -153,18 +156,21 @@ pub const CARRY_OUT: Operation = Operation {
 /// helpands.
 pub const TREE_IN_FORCE: Operation = Operation {
     name: "tree in force",
-    numbers: &[
-        11, 12, 13, 14, 15, 16, 17, 18, 111, 112, 113, 114, 115, 116, 117, 118, 121, 122, 123,
+    checks: &[
+        &OF_PLAN,
+        &[111, 112, 113, 114, 115, 116, 117, 118],
+        &[121, 122, 123],
     ],
     ordered: false,
     buffers: 0,
-    answer: |operations, [old, new], _| {
-        let part = (operations.tree_in_force)(old, new);
+    answer: |implementation, [old, new], _| {
+        let part = (implementation.tree_in_force)(old, new);
         vec![part.source, part.start, part.length]
     },
     needed: |_, _| [0, 0],
     faults: faults::tree_in_force,
     agrees: |answer, faults| (answer[2] == 0) != faults.is_empty(),
+    records: drafts::old_and_new,
     build: drafts::tree_in_force,
     corners: &[
         ("N 1", |call, _| first_word(call) == 1),
@@ -177,6 +183,11 @@ pub const TREE_IN_FORCE: Operation = Operation {
 pub const OPERATIONS: [&Operation; 4] = [&WEIGH, &PLAN_STEP, &CARRY_OUT, &TREE_IN_FORCE];
 
 impl Operation {
+    /// All numbers of its checks.
+    pub fn numbers(&self) -> Vec<u32> {
+        self.checks.concat()
+    }
+
     /// All that a run has to meet among accepted calls.
     pub fn corners(&self) -> impl Iterator<Item = &Corner> {
         EVERYWHERE.iter().chain(self.corners)
@@ -192,7 +203,7 @@ fn is_first(answer: &[u32], faults: &[u32]) -> bool {
 
 /// N of a sheet, or the smallest if it has none.
 fn nodes(sheet: &[u8]) -> usize {
-    let n = number(&to_words(sheet), 0);
+    let n = word_at(&to_words(sheet), 0);
     n.filter(|&n| n <= u64::from(*NODES.end()))
         .unwrap_or(0)
         .max(1) as usize

@@ -6,8 +6,8 @@ use super::check::{check, Checked, TIMES};
 use super::{Call, Operation};
 use crate::coverage::Coverage;
 use crate::faults::pairs;
+use crate::implementations::Implementation;
 use crate::inputs::{first_with, wanted};
-use crate::operations::Operations;
 use crate::random::Random;
 use crate::records::shown;
 
@@ -27,8 +27,8 @@ impl Operation {
     /// Compares the answers of the one under test to the calls of a run: all
     /// wanted ones and `rounds` mixed ones. Gives what was met, or the first
     /// thing that is wrong.
-    pub fn run(&self, tested: &Operations, seed: u64, rounds: usize) -> Result<Met, String> {
-        let wanted = wanted(self.numbers, &self.pairs());
+    pub fn run(&self, tested: &Implementation, seed: u64, rounds: usize) -> Result<Met, String> {
+        let wanted = wanted(&self.numbers(), &self.pairs());
         let mut met = Met {
             coverage: Coverage::default(),
             corners: vec![0; self.corners().count()],
@@ -52,7 +52,7 @@ impl Operation {
     /// The pairs of faults whose order can be seen.
     fn pairs(&self) -> Vec<(u32, u32)> {
         match self.ordered {
-            true => pairs(self.numbers),
+            true => pairs(&self.numbers()),
             false => Vec::new(),
         }
     }
@@ -61,10 +61,10 @@ impl Operation {
         let mut faults_in_turn = faults.to_vec();
         first_with(faults, || {
             let mut draft = (self.build)(random);
-            // Some spoil what others have replaced.
+            // Some replace what others have changed.
             random.shuffle(&mut faults_in_turn);
             for &fault in &faults_in_turn {
-                draft.spoil(fault, random);
+                draft.inject(fault, random);
             }
             let call = draft.call(self);
             let found = (self.faults)(&call);
@@ -75,13 +75,13 @@ impl Operation {
     /// Calls with the same two records and buffers of all lengths.
     fn mixed(&self, random: &mut Random) -> Vec<Call> {
         let mut draft = (self.build)(random);
-        draft.muddle(self.numbers, random);
+        draft.mutate(&self.numbers(), random);
         draft.all_calls(self)
     }
 
     fn place(
         &self,
-        tested: &Operations,
+        tested: &Implementation,
         seed: u64,
         index: usize,
         call: &Call,
@@ -98,7 +98,7 @@ impl Operation {
 
     /// The refusals and orders of two faults that a run should have met and has not.
     pub fn gaps(&self, met: &Met) -> Vec<String> {
-        met.coverage.gaps(self.numbers, &self.pairs())
+        met.coverage.gaps(&self.numbers(), &self.pairs())
     }
 
     /// The corners that no accepted call of a run has met.

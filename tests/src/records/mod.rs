@@ -1,11 +1,12 @@
 //! Records before they become bytes: builders of valid ones over the whole
-//! input space (one file for each kind), and ways to spoil them.
+//! input space (one file for each kind), faults
+//! brought in on purpose, and mutations.
 
-pub mod damage;
+mod injection;
 pub mod moves;
+pub mod mutation;
 pub mod plans;
 pub mod sheets;
-mod spoil;
 
 use crate::bounds::NODES;
 use crate::random::Random;

@@ -1,6 +1,6 @@
 //! Moves: valid ones, and each fault of *read moves*.
 
-use super::{distinct, how_many, nodes, spoil, Record};
+use super::{distinct, how_many, injection, nodes, Record};
 use crate::bounds::{MOST_PARTICLES, NODES};
 use crate::random::Random;
 
@@ -49,12 +49,12 @@ fn route_at(k: u32, n: u32) -> u32 {
 }
 
 /// Brings a fault in, as far as the record allows it.
-pub fn spoil(record: &mut Record, fault: u32, random: &mut Random) {
+pub fn inject(record: &mut Record, fault: u32, random: &mut Random) {
     match fault {
-        31 => spoil::cut_the_sizes(record, random),
-        32 => record.words[0] = spoil::outside(NODES, random),
+        31 => injection::cut_the_sizes(record, random),
+        32 => record.words[0] = injection::outside(NODES, random),
         33 => too_many_routes(record, random),
-        34 => spoil::change_the_length(record, random),
+        34 => injection::change_the_length(record, random),
         35 => bad_route(record, random),
         36 => bad_count(record, random),
         _ => panic!("{fault} is no refusal of read moves"),
@@ -69,7 +69,7 @@ fn too_many_routes(record: &mut Record, random: &mut Random) {
     let most = u64::from(n) * u64::from(n.saturating_sub(1));
     let e = (most + more).min(u64::from(u32::MAX)) as u32;
     if e >= 5_000 || random.chance(1, 3) {
-        let far = random.one_of(&spoil::FAR);
+        let far = random.one_of(&injection::FAR);
         record.words[1] = random.one_of(&[e, e, far]);
         return;
     }
@@ -83,7 +83,7 @@ fn too_many_routes(record: &mut Record, random: &mut Random) {
 
 /// A route that does not rise, names no node, or leads back. Takes an entry.
 fn bad_route(record: &mut Record, random: &mut Random) {
-    let at = match spoil::some_entry(record, random) {
+    let at = match injection::some_entry(record, random) {
         Some(at) => at,
         None => return,
     };
@@ -91,7 +91,7 @@ fn bad_route(record: &mut Record, random: &mut Random) {
     let old = record.first()[at];
     let (subdomain, sender, receiver) = (old / 4096, old / 64 % 64, old % 64);
     record.first()[at] = match random.below(6) {
-        0 => return spoil::stop_rising(record.first(), random),
+        0 => return injection::stop_rising(record.first(), random),
         1 => route(n.wrapping_add(random.below(2)), sender, receiver),
         2 => route(subdomain, n.min(63), receiver),
         3 => route(subdomain, sender, n.min(63)),

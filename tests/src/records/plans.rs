@@ -1,8 +1,16 @@
 //! Plans: valid ones, and each fault of *read plan*.
 
-use super::{nodes, spoil, Record};
+use super::{injection, nodes, Record};
 use crate::bounds::{MOST_LIMIT, NODES};
 use crate::random::Random;
+
+/// The form of a tree.
+#[derive(Clone, Copy, Debug, PartialEq, Eq)]
+pub enum Form {
+    Chain,
+    Star,
+    Random,
+}
 
 /// A plan of words from its parts.
 pub fn plan(kind: u32, limit: u32, helpands: &[u32], shares: &[u32]) -> Record {
@@ -40,13 +48,18 @@ pub fn tree(n: u32, random: &mut Random) -> Vec<u32> {
         1 => order.reverse(),
         _ => random.shuffle(&mut order),
     }
-    let form = random.below(3);
-    let mut helpands = vec![order[0]; n as usize];
+    let form = random.one_of(&[Form::Star, Form::Chain, Form::Random]);
+    tree_over(&order, form, random)
+}
+
+/// The helpands of a tree of this form over nodes in this order, the root first.
+pub fn tree_over(order: &[u32], form: Form, random: &mut Random) -> Vec<u32> {
+    let mut helpands = vec![order[0]; order.len()];
     for at in 1..order.len() {
         helpands[order[at] as usize] = match form {
-            0 => order[0],
-            1 => order[at - 1],
-            _ => order[random.place(at)],
+            Form::Star => order[0],
+            Form::Chain => order[at - 1],
+            Form::Random => order[random.place(at)],
         };
     }
     helpands
@@ -55,6 +68,16 @@ pub fn tree(n: u32, random: &mut Random) -> Vec<u32> {
 /// Node 0 is the root, and every other node helps the one before it.
 pub fn chain(n: u32) -> Vec<u32> {
     (0..n).map(|node| node.saturating_sub(1)).collect()
+}
+
+/// The most steps that a node is away from the root.
+pub fn depth(helpands: &[u32]) -> usize {
+    let helpand = |node: usize| helpands[node] as usize;
+    let steps = |node| {
+        let chain = std::iter::successors(Some(node), |&at| Some(helpand(at)));
+        chain.take_while(|&at| helpand(at) != at).count()
+    };
+    (0..helpands.len()).map(steps).max().unwrap_or(0)
 }
 
 /// Shares up to the limit, 0 at roots: all 0, all at the limit, or mixed.
@@ -73,13 +96,13 @@ fn shares(helpands: &[u32], limit: u32, random: &mut Random) -> Vec<u32> {
 }
 
 /// Brings a fault in, as far as the record allows it.
-pub fn spoil(record: &mut Record, fault: u32, random: &mut Random) {
+pub fn inject(record: &mut Record, fault: u32, random: &mut Random) {
     match fault {
-        11 => spoil::cut_the_sizes(record, random),
+        11 => injection::cut_the_sizes(record, random),
         12 => bad_nodes(record, random),
         13 => bad_kind(record, random),
-        14 => record.words[2] = spoil::outside(0..=MOST_LIMIT, random),
-        15 => spoil::change_the_length(record, random),
+        14 => record.words[2] = injection::outside(0..=MOST_LIMIT, random),
+        15 => injection::change_the_length(record, random),
         16 => bad_helpand(record, random),
         17 => bad_shape(record, random),
         18 => bad_share(record, random),
@@ -91,7 +114,7 @@ pub fn spoil(record: &mut Record, fault: u32, random: &mut Random) {
 /// roots in kind 0 and help the root otherwise.
 fn bad_nodes(record: &mut Record, random: &mut Random) {
     if random.chance(1, 2) {
-        record.words[0] = spoil::outside(NODES, random);
+        record.words[0] = injection::outside(NODES, random);
         return;
     }
     let kind = record.words[1];
@@ -112,7 +135,7 @@ fn root_of(helpands: &[u32]) -> Option<usize> {
 /// A kind above 2, or kind 1 or 2 with N = 1.
 fn bad_kind(record: &mut Record, random: &mut Random) {
     if random.chance(1, 2) {
-        record.words[1] = spoil::outside(0..=2, random);
+        record.words[1] = injection::outside(0..=2, random);
     } else {
         record.replace(&[0], &[0]);
         record.words[1] = random.between(1, 2);

@@ -1,6 +1,6 @@
 //! Sheets: valid ones, and each fault of *read sheet*.
 
-use super::{distinct, how_many, nodes, spoil, Record};
+use super::{distinct, how_many, injection, nodes, Record};
 use crate::bounds::{MOST_PARTICLES, NODES, TOLERANCE};
 use crate::random::Random;
 
@@ -62,13 +62,13 @@ fn counts(e: u32, random: &mut Random) -> Vec<u32> {
 }
 
 /// Brings a fault in, as far as the record allows it.
-pub fn spoil(record: &mut Record, fault: u32, random: &mut Random) {
+pub fn inject(record: &mut Record, fault: u32, random: &mut Random) {
     match fault {
-        1 => spoil::cut_the_sizes(record, random),
-        2 => record.words[0] = spoil::outside(NODES, random),
-        3 => record.words[1] = spoil::outside(TOLERANCE, random),
+        1 => injection::cut_the_sizes(record, random),
+        2 => record.words[0] = injection::outside(NODES, random),
+        3 => record.words[1] = injection::outside(TOLERANCE, random),
         4 => too_many_cells(record, random),
-        5 => spoil::change_the_length(record, random),
+        5 => injection::change_the_length(record, random),
         6 => bad_cell(record, random),
         7 => bad_count(record, random),
         _ => panic!("{fault} is no refusal of read sheet"),
@@ -84,21 +84,21 @@ fn too_many_cells(record: &mut Record, random: &mut Random) {
         let cells: Vec<u32> = (0..e).collect();
         record.replace(&cells, &vec![1; e as usize]);
     } else {
-        let far = random.one_of(&spoil::FAR);
+        let far = random.one_of(&injection::FAR);
         record.words[2] = random.one_of(&[e, e, far]);
     }
 }
 
 /// A cell that does not rise or names no node. Takes an entry.
 fn bad_cell(record: &mut Record, random: &mut Random) {
-    let at = match spoil::some_entry(record, random) {
+    let at = match injection::some_entry(record, random) {
         Some(at) => at,
         None => return,
     };
     let n = record.words[0];
     let (holder, subdomain) = (record.first()[at] / 64, record.first()[at] % 64);
     match random.below(4) {
-        0 => spoil::stop_rising(record.first(), random),
+        0 => injection::stop_rising(record.first(), random),
         1 => record.first()[at] = cell(n.wrapping_add(random.below(2)), subdomain),
         2 => record.first()[at] = cell(holder, n.min(63)),
         _ => record.first()[at] |= 1 << random.between(12, 31),

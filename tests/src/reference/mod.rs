@@ -15,7 +15,7 @@
 //! | `keeping` | Shares in a kept tree |
 //! | `rebuilding` | Rebuilding |
 //! | `transfer` | Moves, and the sheet that follows |
-//! | `operations` | Operations on more than one record |
+//! | `operations` | Implementation on more than one record |
 
 pub mod deciding;
 pub mod keeping;

@@ -1,7 +1,7 @@
 //! The moves: "N, E; E routes; E counts", *read moves*, and the moves written.
 
 use super::words::{length_of, record, rising, word, words};
-use crate::answers::MovesAnswer;
+use crate::answers::{Answer, MovesAnswer};
 use crate::bounds::{MOST_PARTICLES, NODES};
 
 /// Moves that *read moves* accepts.
@@ -74,9 +74,6 @@ pub fn read_moves(bytes: &[u8]) -> MovesAnswer {
             n: moves.n,
             e: moves.routes.len() as u32,
         },
-        Err(refusal) => MovesAnswer {
-            refusal,
-            ..MovesAnswer::default()
-        },
+        Err(refusal) => MovesAnswer::refused(refusal),
     }
 }

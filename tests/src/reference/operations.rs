@@ -2,29 +2,17 @@
 //! a refusal number, and the values named. A refusal's other values are all 0,
 //! and buffers are untouched. Checks run in the order written."
 
-use super::moves::{self, Moves};
-use super::plan::{self, Plan};
-use super::sheet;
 use super::table::Table;
 use super::tree::old_tree;
 use super::weighing::Weighing;
 use super::words::{to_bytes, to_word};
-use super::{deciding, transfer};
-use crate::answers::{self, PartAnswer, StepAnswer, WeighedAnswer, WrittenAnswer};
+use super::{deciding, moves, plan, sheet, transfer};
+use crate::answers::{self, Answer, PartAnswer, StepAnswer, WeighedAnswer, WrittenAnswer};
 
 /// *Weigh* "takes sheet and plan, writes N words of least under the sheet's
 /// limit, and says whether the tree holds."
 pub fn weigh(sheet: &[u8], plan: &[u8], least: &mut [u8]) -> WeighedAnswer {
-    match try_weigh(sheet, plan, least) {
-        Ok(holds) => WeighedAnswer {
-            refusal: 0,
-            holds: u32::from(holds),
-        },
-        Err(refusal) => WeighedAnswer {
-            refusal,
-            ..WeighedAnswer::default()
-        },
-    }
+    try_weigh(sheet, plan, least).map_or_else(Answer::refused, answers::weighed)
 }
 
 fn try_weigh(sheet: &[u8], plan: &[u8], least: &mut [u8]) -> Result<bool, u32> {
@@ -61,19 +49,8 @@ pub fn plan_step(
     plan_buffer: &mut [u8],
     moves_buffer: &mut [u8],
 ) -> StepAnswer {
-    match try_plan_step(sheet, old, plan_buffer, moves_buffer) {
-        Ok((plan, moves)) => StepAnswer {
-            refusal: 0,
-            kind: plan.kind,
-            limit: plan.limit,
-            plan_bytes: plan.bytes().len() as u32,
-            moves_bytes: moves.bytes().len() as u32,
-        },
-        Err(refusal) => StepAnswer {
-            refusal,
-            ..StepAnswer::default()
-        },
-    }
+    try_plan_step(sheet, old, plan_buffer, moves_buffer)
+        .map_or_else(Answer::refused, answers::planned)
 }
 
 fn try_plan_step(
@@ -81,7 +58,7 @@ fn try_plan_step(
     old: &[u8],
     plan_buffer: &mut [u8],
     moves_buffer: &mut [u8],
-) -> Result<(Plan, Moves), u32> {
+) -> Result<[u32; 4], u32> {
     // "A refused sheet ends planning before the old plan is looked at."
     let sheet = sheet::read(sheet)?;
     let old = match old {
@@ -95,35 +72,28 @@ fn try_plan_step(
     let plan = deciding::plan(&sheet, old_tree(old.as_ref()));
     let held = Table::of(&sheet);
     let moves = transfer::moves(&held, &transfer::due(&plan, &held.totals()));
+    let (plan_bytes, moves_bytes) = (plan.bytes(), moves.bytes());
     // "22, plan buffer too short"
-    if plan_buffer.len() < plan.bytes().len() {
+    if plan_buffer.len() < plan_bytes.len() {
         return Err(22);
     }
     // "23, moves buffer too short"
-    if moves_buffer.len() < moves.bytes().len() {
+    if moves_buffer.len() < moves_bytes.len() {
         return Err(23);
     }
-    store(&plan.bytes(), plan_buffer);
-    store(&moves.bytes(), moves_buffer);
-    Ok((plan, moves))
+    store(&plan_bytes, plan_buffer);
+    store(&moves_bytes, moves_buffer);
+    let lengths = [plan_bytes, moves_bytes].map(|bytes| bytes.len() as u32);
+    Ok([plan.kind, plan.limit, lengths[0], lengths[1]])
 }
 
 /// *Carry out* "takes a sheet and moves, writes the sheet that follows ... and
 /// gives its length in bytes."
 pub fn carry_out(sheet: &[u8], moves: &[u8], next: &mut [u8]) -> WrittenAnswer {
-    match try_carry_out(sheet, moves, next) {
-        Ok(bytes) => WrittenAnswer {
-            refusal: 0,
-            bytes: bytes as u32,
-        },
-        Err(refusal) => WrittenAnswer {
-            refusal,
-            ..WrittenAnswer::default()
-        },
-    }
+    try_carry_out(sheet, moves, next).map_or_else(Answer::refused, answers::written)
 }
 
-fn try_carry_out(sheet: &[u8], moves: &[u8], next: &mut [u8]) -> Result<usize, u32> {
+fn try_carry_out(sheet: &[u8], moves: &[u8], next: &mut [u8]) -> Result<u32, u32> {
     // "the sheet's; the moves'"
     let sheet = sheet::read(sheet)?;
     let moves = moves::read(moves)?;
@@ -140,7 +110,7 @@ fn try_carry_out(sheet: &[u8], moves: &[u8], next: &mut [u8]) -> Result<usize, u
         return Err(43);
     }
     store(&record, next);
-    Ok(record.len())
+    Ok(record.len() as u32)
 }
 
 /// *Tree in force* "takes an old and a new plan. If the new kind is 1, it hands

@@ -1,7 +1,7 @@
 //! The plan: "N, kind, limit; N helpands; N shares", *read plan*, and the plan written.
 
 use super::words::{length_of, record, word, words};
-use crate::answers::PlanAnswer;
+use crate::answers::{Answer, PlanAnswer};
 use crate::bounds::{MOST_LIMIT, NODES};
 
 /// A plan that *read plan* accepts.
@@ -103,9 +103,6 @@ pub fn read_plan(bytes: &[u8]) -> PlanAnswer {
             kind: plan.kind,
             limit: plan.limit,
         },
-        Err(refusal) => PlanAnswer {
-            refusal,
-            ..PlanAnswer::default()
-        },
+        Err(refusal) => PlanAnswer::refused(refusal),
     }
 }

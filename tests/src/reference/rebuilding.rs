@@ -27,7 +27,7 @@ struct Rebuilding<'a> {
 pub fn rebuild(totals: &[u64], old_tree: Option<&[u32]>) -> (Vec<u32>, Vec<u64>) {
     let mut rebuilding = Rebuilding::begin(totals, old_tree);
     // "While A has a node"
-    while let Some(l) = rebuilding.neediest() {
+    while let Some(l) = rebuilding.smallest() {
         rebuilding.turn(l);
     }
     rebuilding.finish();
@@ -74,7 +74,7 @@ impl<'a> Rebuilding<'a> {
     }
 
     /// "l is the node in A with the smallest load, lowest number on ties."
-    fn neediest(&self) -> Option<usize> {
+    fn smallest(&self) -> Option<usize> {
         let nodes = self.nodes_in(Group::A).into_iter();
         nodes.min_by_key(|&node| (self.loads[node], node))
     }

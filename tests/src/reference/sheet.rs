@@ -1,7 +1,7 @@
 //! The sheet: "N, t, E; E cells; E counts", *read sheet*, and the sheet written.
 
 use super::words::{length_of, record, rising, to_word, word, words};
-use crate::answers::SheetAnswer;
+use crate::answers::{Answer, SheetAnswer};
 use crate::bounds::{MOST_PARTICLES, NODES, TOLERANCE};
 
 /// A sheet that *read sheet* accepts.
@@ -112,9 +112,6 @@ pub fn read_sheet(bytes: &[u8]) -> SheetAnswer {
             p: sheet.total(),
             limit: sheet.limit(),
         },
-        Err(refusal) => SheetAnswer {
-            refusal,
-            ..SheetAnswer::default()
-        },
+        Err(refusal) => SheetAnswer::refused(refusal),
     }
 }

@@ -1,12 +1,12 @@
 //! Sheets and old plans for each outcome. Every input is asked whether it has
 //! the outcome that it is meant for.
 
-use crate::operations::REFERENCE;
+use crate::implementations::REFERENCE;
 use crate::random::Random;
-use crate::records::plans;
+use crate::records::plans::{self, Form};
 use crate::records::to_words;
 use crate::reference::table::Table;
-use crate::steps::Step;
+use crate::steps::{totals, Step};
 
 /// The tolerance of all sheets, in percent.
 const TOLERANCE: u32 = 10;
@@ -22,14 +22,6 @@ pub enum Filling {
     /// About 3N cells: of each subdomain, what its owner, one of its helpers
     /// and one other node hold.
     Sparse,
-}
-
-/// The form of an old tree, over nodes in any order.
-#[derive(Clone, Copy, Debug, PartialEq, Eq)]
-pub enum Form {
-    Chain,
-    Star,
-    Random,
 }
 
 /// What a step comes to.
@@ -84,9 +76,8 @@ impl Outcome {
 pub fn step(n: usize, filling: Filling, outcome: Outcome, random: &mut Random) -> Step {
     loop {
         let step = attempt(n, filling, outcome, random);
-        let planned = REFERENCE.planned(&step.sheet, &step.old);
-        let plan = planned.expect("the step is accepted").plan;
-        if to_words(&plan)[1] == outcome.kind() {
+        let planned = REFERENCE.plan(&step);
+        if to_words(&planned.plan)[1] == outcome.kind() {
             return step;
         }
     }
@@ -113,19 +104,11 @@ fn attempt(n: usize, filling: Filling, outcome: Outcome, random: &mut Random) ->
     }
 }
 
-/// The helpands of a tree of this form.
+/// The helpands of a tree of this form, over nodes in any order.
 fn tree(n: usize, form: Form, random: &mut Random) -> Vec<u32> {
     let mut order: Vec<u32> = (0..n as u32).collect();
     random.shuffle(&mut order);
-    let mut helpands = vec![order[0]; n];
-    for at in 1..n {
-        helpands[order[at] as usize] = match form {
-            Form::Chain => order[at - 1],
-            Form::Star => order[0],
-            Form::Random => order[random.place(at)],
-        };
-    }
-    helpands
+    plans::tree_over(&order, form, random)
 }
 
 /// Totals within a few percent of each other.
@@ -138,16 +121,10 @@ fn level(n: usize, random: &mut Random) -> Vec<u64> {
 /// each other, in which each node has a part of its helpand's subdomain.
 fn divided(helpands: &[u32], random: &mut Random) -> Vec<u64> {
     let loads = level(helpands.len(), random);
-    let mut totals = vec![0; loads.len()];
-    for (node, &load) in loads.iter().enumerate() {
-        let share = random.amount(0, load * 3 / 4);
-        totals[helpands[node] as usize] += share;
-        totals[node] += load - share;
-    }
-    totals
+    totals::divided(&loads, helpands, |_, load| random.amount(0, load * 3 / 4))
 }
 
-/// Totals of which some are many times others, and one is a third of all.
+/// Totals of which some are many times others, and one is about half of all.
 fn uneven(n: usize, random: &mut Random) -> Vec<u64> {
     let some = |random: &mut Random| random.amount(1, AVERAGE) * random.amount(1, 100) / 50;
     let mut totals: Vec<u64> = (0..n).map(|_| n as u64 + some(random)).collect();

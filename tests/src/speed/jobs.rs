@@ -2,7 +2,7 @@
 //! mere copy of the bytes that it reads and writes.
 
 use super::inputs::{step, Filling, Outcome};
-use crate::operations::{Operations, MOVES_BYTES, PLAN_BYTES, REFERENCE, SHEET_BYTES};
+use crate::implementations::{Implementation, MOVES_BYTES, PLAN_BYTES, REFERENCE, SHEET_BYTES};
 use crate::random::Random;
 use std::sync::atomic::{compiler_fence, Ordering};
 
@@ -59,10 +59,7 @@ impl Job {
             let mut random = Random::at(n as u64, index as u64);
             let step = step(n, filling, outcome, &mut random);
             let second = match measured {
-                Measured::CarryOut => {
-                    let planned = REFERENCE.planned(&step.sheet, &step.old);
-                    planned.expect("the step is accepted").moves
-                }
+                Measured::CarryOut => REFERENCE.plan(&step).moves,
                 _ => step.old,
             };
             Call {
@@ -83,12 +80,8 @@ impl Job {
     }
 
     /// How many calls there are.
-    pub fn len(&self) -> usize {
+    pub fn calls(&self) -> usize {
         self.calls.len()
-    }
-
-    pub fn is_empty(&self) -> bool {
-        self.calls.is_empty()
     }
 
     /// Notes how much each call writes.
@@ -101,7 +94,7 @@ impl Job {
     }
 
     /// All calls, done by somebody.
-    pub fn run(&self, by: &Operations, buffers: &mut Buffers) {
+    pub fn run(&self, by: &Implementation, buffers: &mut Buffers) {
         for call in &self.calls {
             one(self.measured, by, call, buffers);
         }
@@ -121,7 +114,7 @@ impl Job {
     }
 
     /// Compares answers and buffers of two, call by call.
-    pub fn check(&self, by: &Operations, other: &Operations) {
+    pub fn check(&self, by: &Implementation, other: &Implementation) {
         for call in &self.calls {
             let (mut ours, mut theirs) = (Job::buffers(), Job::buffers());
             let answer = one(self.measured, by, call, &mut ours);
@@ -132,7 +125,7 @@ impl Job {
 }
 
 /// One call. Gives how many bytes were written to each buffer.
-fn one(measured: Measured, by: &Operations, call: &Call, [a, b]: &mut Buffers) -> [usize; 2] {
+fn one(measured: Measured, by: &Implementation, call: &Call, [a, b]: &mut Buffers) -> [usize; 2] {
     let [sheet, second] = &call.records;
     match measured {
         Measured::PlanStep => {

@@ -4,7 +4,7 @@
 //! runs of the program times still differ: look at several.
 
 use super::jobs::Job;
-use crate::operations::{ARCHIVE, PLAIN};
+use crate::implementations::{ARCHIVE, PLAIN};
 use std::sync::atomic::{compiler_fence, Ordering};
 use std::time::Instant;
 
@@ -51,7 +51,7 @@ fn sample(job: &Job, depth: usize, mut run: impl FnMut()) -> f64 {
         run();
         elapsed = start.elapsed().as_secs_f64();
     });
-    elapsed * 1e6 / job.len() as f64
+    elapsed * 1e6 / job.calls() as f64
 }
 
 /// Runs something with the stack lower by a small frame for each level. The

@@ -4,16 +4,16 @@
 //! |---|---|
 //! | `setting` | N, t and P |
 //! | `totals` | how many particles each subdomain has |
-//! | `crowd` | totals that fill a part of a tree to the last place |
+//! | `tight` | totals that fill a part of a tree to the last place |
 //! | `holders` | who holds them |
 //! | `pairs` | two steps on either side of a bound, one particle apart |
 //! | `walk` | steps that follow from steps |
 
-mod crowd;
 mod holders;
 pub mod pairs;
 mod setting;
-mod totals;
+mod tight;
+pub mod totals;
 mod walk;
 
 use crate::random::Random;
@@ -108,7 +108,7 @@ fn fitting(size: Size, random: &mut Random) -> Step {
     let setting = Setting::of_many(size, random);
     let helpands = plans::tree(setting.n as u32, random);
     let loads = totals::share_out(setting.p, setting.n, setting.limit(), random);
-    let totals = totals::divided(&loads, &helpands, &[], random);
+    let totals = totals::around(&loads, &helpands, &[], random);
     let table = holders::spread(&totals, &helpands, size, random);
     step(&table, setting.t, &some_tree_plan(&helpands, random))
 }

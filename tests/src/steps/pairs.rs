@@ -2,8 +2,8 @@
 //! holds of one subdomain in the first and of another in the second. The first
 //! is just within a bound, the second just above.
 
-use super::crowd::crowd;
 use super::setting::Setting;
+use super::tight::tight_set;
 use super::totals::share_out;
 use super::{holders, some_tree_plan, step, Size, Step};
 use crate::random::Random;
@@ -29,13 +29,13 @@ pub fn tree(size: Size, random: &mut Random) -> Pair {
     until(|| {
         let setting = Setting::of_many(size, random);
         let helpands = plans::tree(setting.n as u32, random);
-        let crowd = crowd(&setting, &helpands, random)?;
+        let tight = tight_set(&setting, &helpands, random)?;
         let limit = setting.limit();
-        if crowd.totals.iter().all(|&total| total <= limit) {
+        if tight.totals.iter().all(|&total| total <= limit) {
             return None;
         }
-        let table = holders::spread(&crowd.totals, &helpands, size, random);
-        let next = with_one_more(&table, &crowd.subdomains, random)?;
+        let table = holders::spread(&tight.totals, &helpands, size, random);
+        let next = with_one_more(&table, &tight.subdomains, random)?;
         let old = some_tree_plan(&helpands, random);
         Some(Pair {
             within: step(&table, setting.t, &old),

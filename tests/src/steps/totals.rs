@@ -36,20 +36,31 @@ pub fn tied(n: usize, random: &mut Random) -> Vec<u64> {
     (0..n).map(|_| random.one_of(&[0, a, b])).collect()
 }
 
-/// The totals of a division along a tree with these loads: each load is cut in
-/// two, for the node's own subdomain and its helpand's. Whoever is in a family
-/// of the crowd works for the crowd only.
-pub fn divided(loads: &[u64], helpands: &[u32], crowd: &[usize], random: &mut Random) -> Vec<u64> {
-    let mut totals = vec![0; loads.len()];
-    for (node, &load) in loads.iter().enumerate() {
+/// The totals of a division along a tree with these loads. Whoever is in a
+/// family of the tight set works for that set only.
+pub fn around(loads: &[u64], helpands: &[u32], tight: &[usize], random: &mut Random) -> Vec<u64> {
+    divided(loads, helpands, |node, load| {
         let helpand = helpands[node] as usize;
-        let share = match (crowd.contains(&node), crowd.contains(&helpand)) {
+        match (tight.contains(&node), tight.contains(&helpand)) {
             (true, false) => 0,
             (false, true) => load,
             _ => some_part(load, random),
-        };
+        }
+    })
+}
+
+/// The totals of a division along a tree: each node's load is cut in two, its
+/// share of its helpand's subdomain and the rest, of its own.
+pub fn divided(
+    loads: &[u64],
+    helpands: &[u32],
+    mut share: impl FnMut(usize, u64) -> u64,
+) -> Vec<u64> {
+    let mut totals = vec![0; loads.len()];
+    for (node, &load) in loads.iter().enumerate() {
+        let share = share(node, load);
         // At the root, both are the same subdomain.
-        totals[helpand] += share;
+        totals[helpands[node] as usize] += share;
         totals[node] += load - share;
     }
     totals

@@ -3,7 +3,7 @@
 //! next old plan.
 
 use super::{fitting, scattered, step, Size, Step};
-use crate::operations::REFERENCE;
+use crate::implementations::REFERENCE;
 use crate::random::Random;
 use crate::reference::sheet;
 use crate::reference::table::Table;
@@ -21,8 +21,7 @@ pub fn walk(size: Size, random: &mut Random) -> Step {
 }
 
 fn follow(last: &Step, random: &mut Random) -> Step {
-    let planned = REFERENCE.planned(&last.sheet, &last.old);
-    let planned = planned.expect("the step is accepted");
+    let planned = REFERENCE.plan(last);
     let next = REFERENCE.carried_out(&last.sheet, &planned.moves);
     let next = next.expect("its moves are accepted");
     let sheet = sheet::read(&next).expect("the sheet that follows is accepted");

@@ -1,4 +1,4 @@
-//! Damage to a record of any kind, blind to what its words mean.
+//! Mutations of a record of any kind, blind to what its words mean.
 
 use super::Record;
 use crate::bounds::{MOST_LIMIT, MOST_PARTICLES};
@@ -19,21 +19,21 @@ const LARGE: [u32; 6] = [
     u32::MAX,
 ];
 
-/// One damage or two, other sizes throughout, or other words throughout.
-pub fn muddle(record: &mut Record, random: &mut Random) {
+/// One mutation or two, other sizes throughout, or other words throughout.
+pub fn mutate(record: &mut Record, random: &mut Random) {
     match random.below(9) {
-        0..=4 => damage(record, random),
+        0..=4 => mutate_once(record, random),
         5 | 6 => {
-            damage(record, random);
-            damage(record, random);
+            mutate_once(record, random);
+            mutate_once(record, random);
         }
         7 => random_sizes(record, random),
-        _ => scribble(record, random),
+        _ => random_entries(record, random),
     }
 }
 
-/// One damage.
-pub fn damage(record: &mut Record, random: &mut Random) {
+/// One mutation.
+pub fn mutate_once(record: &mut Record, random: &mut Random) {
     let at = some_word(record, random);
     let length = 4 * record.words.len();
     match random.below(12) {
@@ -79,7 +79,7 @@ fn random_sizes(record: &mut Record, random: &mut Random) {
 
 /// Small sizes, arrays of the length they say, and words that could be
 /// entries: often wrong in one place only.
-fn scribble(record: &mut Record, random: &mut Random) {
+fn random_entries(record: &mut Record, random: &mut Random) {
     for at in 0..record.head {
         record.words[at] = random.between(0, 4);
     }

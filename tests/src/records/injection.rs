@@ -1,6 +1,6 @@
-//! Faults that more than one kind of record can have.
+//! Fault injection, as far as more than one kind of record can have the fault.
 
-use super::damage::some_bytes;
+use super::mutation::some_bytes;
 use super::Record;
 use crate::random::Random;
 use std::ops::RangeInclusive;

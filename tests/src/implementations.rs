@@ -4,6 +4,7 @@
 use crate::answers::{PartAnswer, StepAnswer, WeighedAnswer, WrittenAnswer};
 use crate::bounds::NODES;
 use crate::records::to_words;
+use crate::steps::Step;
 use crate::{boundary, plain, reference};
 
 const MOST_NODES: usize = *NODES.end() as usize;
@@ -22,8 +23,8 @@ pub type PlanStep = fn(sheet: &[u8], old: &[u8], plan: &mut [u8], moves: &mut [u
 pub type CarryOut = fn(sheet: &[u8], moves: &[u8], next: &mut [u8]) -> WrittenAnswer;
 pub type TreeInForce = fn(old: &[u8], new: &[u8]) -> PartAnswer;
 
-/// Someone who does them.
-pub struct Operations {
+/// Someone who does all four.
+pub struct Implementation {
     pub name: &'static str,
     pub weigh: Weigh,
     pub plan_step: PlanStep,
@@ -32,7 +33,7 @@ pub struct Operations {
 }
 
 /// The second implementation.
-pub const REFERENCE: Operations = Operations {
+pub const REFERENCE: Implementation = Implementation {
     name: "the second implementation",
     weigh: reference::weigh,
     plan_step: reference::plan_step,
@@ -41,7 +42,7 @@ pub const REFERENCE: Operations = Operations {
 };
 
 /// The archive.
-pub const ARCHIVE: Operations = Operations {
+pub const ARCHIVE: Implementation = Implementation {
     name: "the archive",
     weigh: boundary::weigh,
     plan_step: boundary::plan_step,
@@ -49,8 +50,8 @@ pub const ARCHIVE: Operations = Operations {
     tree_in_force: boundary::tree_in_force,
 };
 
-/// The benchmark's yardstick. *Tree in force* is not measured, so it has none.
-pub const PLAIN: Operations = Operations {
+/// The benchmark's baseline. *Tree in force* is not measured, so it has none.
+pub const PLAIN: Implementation = Implementation {
     name: "plain Rust",
     weigh: plain::weigh,
     plan_step: plain::plan_step,
@@ -59,7 +60,7 @@ pub const PLAIN: Operations = Operations {
 };
 
 /// All who are tested.
-pub const ALL: [&Operations; 2] = [&REFERENCE, &ARCHIVE];
+pub const IMPLEMENTATIONS: [&Implementation; 2] = [&REFERENCE, &ARCHIVE];
 
 /// The plan and the moves of a step.
 #[derive(Clone, Debug, PartialEq, Eq)]
@@ -68,7 +69,13 @@ pub struct Planned {
     pub moves: Vec<u8>,
 }
 
-impl Operations {
+impl Implementation {
+    /// The plan and the moves of a step that is accepted.
+    pub fn plan(&self, step: &Step) -> Planned {
+        let planned = self.planned(&step.sheet, &step.old);
+        planned.unwrap_or_else(|refusal| panic!("{} refuses with {refusal}:\n{step}", self.name))
+    }
+
     /// *Plan a step* with buffers that are long enough: the records, or the refusal.
     pub fn planned(&self, sheet: &[u8], old: &[u8]) -> Result<Planned, u32> {
         let mut plan = vec![0; PLAN_BYTES];

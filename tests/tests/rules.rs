@@ -3,7 +3,7 @@
 #![forbid(unsafe_code)]
 
 use firrozka_tests::demands::{judged, Judged};
-use firrozka_tests::operations::ALL;
+use firrozka_tests::implementations::IMPLEMENTATIONS;
 use firrozka_tests::records::plans::plan;
 use firrozka_tests::records::sheets::{cell, sheet};
 use firrozka_tests::steps::Step;
@@ -11,8 +11,8 @@ use firrozka_tests::worked::{old, own};
 
 /// The step leads to this kind, these helpands and these shares.
 fn leads_to<const N: usize>(step: &Step, kind: u32, helpands: [u32; N], shares: [u32; N]) {
-    for operations in ALL {
-        let Judged { plan, .. } = judged(operations, step, "worked by hand");
+    for implementation in IMPLEMENTATIONS {
+        let Judged { plan, .. } = judged(implementation, step, "worked by hand");
         assert_eq!(plan.kind, kind);
         assert_eq!(plan.helpands, helpands);
         assert_eq!(plan.shares, shares);
@@ -46,8 +46,8 @@ fn primary_with_moves() {
         old: NO_PLAN,
     };
     leads_to(&step, 0, [0, 1, 2], [0; 3]);
-    for operations in ALL {
-        let Judged { moves, .. } = judged(operations, &step, "strangers");
+    for implementation in IMPLEMENTATIONS {
+        let Judged { moves, .. } = judged(implementation, &step, "strangers");
         // Subdomain 0 from 1 to 0, subdomain 1 from 0 to 1.
         assert_eq!(moves.routes, [64, 4096 + 1]);
         assert_eq!(moves.counts, [36, 36]);
@@ -217,8 +217,8 @@ fn pairs_in_rising_order() {
     // L is 3, and all of it is 15: every node has 3.
     let step = Step { sheet, old };
     leads_to(&step, 1, [4; 5], [3, 3, 3, 3, 0]);
-    for operations in ALL {
-        let Judged { moves, .. } = judged(operations, &step, "pairs");
+    for implementation in IMPLEMENTATIONS {
+        let Judged { moves, .. } = judged(implementation, &step, "pairs");
         // Over: 4 at 0, 1 at 2. Short: 1 at 1, 2 at 3, 2 at 4.
         let route = |sender: u32, receiver: u32| 4 * 4096 + sender * 64 + receiver;
         let routes = [route(0, 1), route(0, 3), route(0, 4), route(2, 4)];
