@@ -1,9 +1,12 @@
 //! For each of the three readers: the archive, the second implementation, the
 //! faults, the builder and the fault injection, side by side.
 
-use crate::answers::{MovesAnswer, PlanAnswer, SheetAnswer};
+use crate::answers::{Answer, MovesAnswer, PlanAnswer, SheetAnswer};
+use crate::compare::check;
+use crate::coverage::Coverage;
+use crate::inputs::Inputs;
 use crate::random::Random;
-use crate::records::{moves, plans, sheets, Record};
+use crate::records::{moves, plans, sheets, shown, Record};
 use crate::{boundary, faults, reference};
 
 /// One reader and all that its tests need.
@@ -21,6 +24,25 @@ pub struct Reader<A> {
     pub build: fn(&mut Random) -> Record,
     /// Brings a fault into a record.
     pub inject: fn(&mut Record, u32, &mut Random),
+}
+
+impl<A: Answer> Reader<A> {
+    /// Compares the answers of the one under test to the inputs of a run: all
+    /// wanted ones and `rounds` mixed ones. Gives what was met, or the first
+    /// thing that is wrong.
+    pub fn run(&self, seed: u64, rounds: usize) -> Result<Coverage, String> {
+        let inputs = Inputs::new(self, seed);
+        let mut coverage = Coverage::default();
+        for index in 0..inputs.directed() + rounds {
+            let bytes = inputs.at(index);
+            let faults = check(self, &bytes).map_err(|wrong| {
+                let (name, record) = (self.name, shown(&bytes));
+                format!("{name}, FIRROZKA_SEED={seed}, input {index}: {wrong}\n  {record}")
+            })?;
+            coverage.note(&faults);
+        }
+        Ok(coverage)
+    }
 }
 
 pub const SHEET: Reader<SheetAnswer> = Reader {

@@ -6,12 +6,8 @@
 #![forbid(unsafe_code)]
 
 use firrozka_tests::answers::Answer;
-use firrozka_tests::compare::check;
-use firrozka_tests::coverage::Coverage;
 use firrozka_tests::faults::pairs;
-use firrozka_tests::inputs::Inputs;
 use firrozka_tests::readers::{Reader, MOVES, PLAN, SHEET};
-use firrozka_tests::records::shown;
 use firrozka_tests::settings::{seed, setting};
 
 const ROUNDS: usize = 45_000;
@@ -32,21 +28,9 @@ fn moves() {
 }
 
 fn run<A: Answer>(reader: &Reader<A>) {
-    let seed = seed();
     let rounds = setting("FIRROZKA_ROUNDS", ROUNDS);
-    let inputs = Inputs::new(reader, seed);
-    let mut coverage = Coverage::default();
-    for index in 0..inputs.directed() + rounds {
-        let bytes = inputs.at(index);
-        match check(reader, &bytes) {
-            Ok(faults) => coverage.note(&faults),
-            Err(wrong) => panic!(
-                "{}, FIRROZKA_SEED={seed}, input {index}: {wrong}\n  {}",
-                reader.name,
-                shown(&bytes)
-            ),
-        }
-    }
+    let coverage = reader.run(seed(), rounds);
+    let coverage = coverage.unwrap_or_else(|wrong| panic!("{wrong}"));
     println!("{}: {coverage}", reader.name);
     let gaps = coverage.gaps(reader.refusals, &pairs(reader.refusals));
     assert!(gaps.is_empty(), "{}: {gaps:#?}", reader.name);

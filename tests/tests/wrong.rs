@@ -2,15 +2,21 @@
 //! plausible, is reported by the run, and a wrong planner by demand 3 as well.
 #![forbid(unsafe_code)]
 
-use firrozka_tests::answers::{self, PartAnswer, StepAnswer, WeighedAnswer, WrittenAnswer};
+use firrozka_tests::answers::{self, Answer, PartAnswer, StepAnswer, WeighedAnswer, WrittenAnswer};
 use firrozka_tests::calls::{Operation, CARRY_OUT, OPERATIONS, PLAN_STEP, TREE_IN_FORCE, WEIGH};
 use firrozka_tests::demands::judge;
-use firrozka_tests::implementations::{Implementation, PlanStep, MOVES_BYTES, REFERENCE};
+use firrozka_tests::implementations::{
+    Implementation, PlanStep, MOVES_BYTES, PLAN_BYTES, REFERENCE,
+};
 use firrozka_tests::records::{to_bytes, to_words};
+use firrozka_tests::reference::moves::{self, parts};
+use firrozka_tests::reference::sheet::{self, Sheet};
+use firrozka_tests::reference::table::Table;
 use firrozka_tests::reference::{carry_out, plan, plan_step, read_sheet, tree_in_force, weigh};
 use firrozka_tests::settings::SEED;
 use firrozka_tests::steps::{self, Size};
 use firrozka_tests::worked;
+use std::collections::BTreeMap;
 
 /// The run reports the one who does this operation wrong.
 fn is_reported(operation: &Operation, wrong: &Implementation) {
@@ -145,38 +151,37 @@ fn leaves_a_move_out() {
 /// Buffers and the order of the last checks.
 #[test]
 fn short_buffers() {
-    fn moves_first(sheet: &[u8], old: &[u8], plan: &mut [u8], moves: &mut [u8]) -> StepAnswer {
-        let answer = plan_step(sheet, old, plan, moves);
-        let longer = plan_step(sheet, old, &mut [0; 524], moves);
-        match (answer.refusal, longer.refusal) {
-            (22, 23) => longer,
-            _ => answer,
-        }
+    for planner in [
+        wrong_planner("23 before 22", moves_buffer_first),
+        wrong_planner("writes the plan before 23", writes_before_23),
+        wrong_planner("wants one byte more", wants_a_byte_more),
+    ] {
+        is_reported(&PLAN_STEP, &planner);
     }
-    is_reported(&PLAN_STEP, &wrong_planner("23 before 22", moves_first));
+}
 
-    fn touches(sheet: &[u8], old: &[u8], plan: &mut [u8], moves: &mut [u8]) -> StepAnswer {
-        let answer = plan_step(sheet, old, plan, moves);
-        if answer.refusal == 23 {
-            plan_step(sheet, old, plan, &mut [0; MOVES_BYTES]);
-        }
-        answer
+fn moves_buffer_first(sheet: &[u8], old: &[u8], plan: &mut [u8], moves: &mut [u8]) -> StepAnswer {
+    let answer = plan_step(sheet, old, plan, moves);
+    let longer = plan_step(sheet, old, &mut [0; PLAN_BYTES], &mut moves.to_vec());
+    match (answer.refusal, longer.refusal) {
+        (22, 23) => longer,
+        _ => answer,
     }
-    is_reported(
-        &PLAN_STEP,
-        &wrong_planner("writes the plan before 23", touches),
-    );
+}
 
-    fn wants_more(sheet: &[u8], old: &[u8], plan: &mut [u8], moves: &mut [u8]) -> StepAnswer {
-        match moves.split_last_mut() {
-            Some((_, shorter)) => plan_step(sheet, old, plan, shorter),
-            None => plan_step(sheet, old, plan, moves),
-        }
+fn writes_before_23(sheet: &[u8], old: &[u8], plan: &mut [u8], moves: &mut [u8]) -> StepAnswer {
+    let answer = plan_step(sheet, old, plan, moves);
+    if answer.refusal == 23 {
+        plan_step(sheet, old, plan, &mut [0; MOVES_BYTES]);
     }
-    is_reported(
-        &PLAN_STEP,
-        &wrong_planner("wants one byte more", wants_more),
-    );
+    answer
+}
+
+fn wants_a_byte_more(sheet: &[u8], old: &[u8], plan: &mut [u8], moves: &mut [u8]) -> StepAnswer {
+    match moves.split_last_mut() {
+        Some((_, shorter)) => plan_step(sheet, old, plan, shorter),
+        None => plan_step(sheet, old, plan, moves),
+    }
 }
 
 #[test]
@@ -213,10 +218,7 @@ fn looks_at_the_old_plan_first() {
         match refusal {
             0 => plan_step(sheet, old, plan, moves),
             _ if old.is_empty() => plan_step(sheet, old, plan, moves),
-            _ => StepAnswer {
-                refusal,
-                ..StepAnswer::default()
-            },
+            _ => Answer::refused(refusal),
         }
     }
     is_reported(
@@ -225,41 +227,22 @@ fn looks_at_the_old_plan_first() {
     );
 }
 
+/// What the judge says of a tree that would do and is built anew.
+#[test]
+fn a_needless_rebuild() {
+    fn wrong(sheet: &[u8], _: &[u8], plan: &mut [u8], moves: &mut [u8]) -> StepAnswer {
+        plan_step(sheet, &[], plan, moves)
+    }
+    let planner = wrong_planner("rebuilds", wrong);
+    let said = judge(&planner, &worked::h()).err();
+    assert_eq!(said.as_deref(), Some("kind 2 where 1 is right"));
+    assert!(judge(&REFERENCE, &worked::h()).is_ok());
+}
+
 // The others.
 
 #[test]
 fn weighs_wrong() {
-    fn by_plan_limit(sheet: &[u8], plan: &[u8], least: &mut [u8]) -> WeighedAnswer {
-        let answer = weigh(sheet, plan, least);
-        let limit = plan::read(plan).map(|plan| plan.limit);
-        match (answer.refusal, limit) {
-            (0, Ok(limit)) => {
-                let n = to_words(sheet)[0] as usize;
-                let leasts = to_words(&least[..4 * n]);
-                let holds = u32::from(leasts.iter().all(|&least| least <= limit));
-                WeighedAnswer { holds, ..answer }
-            }
-            _ => answer,
-        }
-    }
-    fn only_if_it_holds(sheet: &[u8], plan: &[u8], least: &mut [u8]) -> WeighedAnswer {
-        let mut other = least.to_vec();
-        let answer = weigh(sheet, plan, &mut other);
-        if answer.holds == 1 {
-            least.copy_from_slice(&other);
-        }
-        answer
-    }
-    fn kind_first(sheet: &[u8], plan: &[u8], least: &mut [u8]) -> WeighedAnswer {
-        let answer = weigh(sheet, plan, least);
-        match (answer.refusal, plan::read(plan)) {
-            (21, Ok(plan)) if plan.kind == 0 => WeighedAnswer {
-                refusal: 24,
-                holds: 0,
-            },
-            _ => answer,
-        }
-    }
     for (name, weigh) in [
         ("weighs by the plan's limit", by_plan_limit as _),
         ("writes only what holds", only_if_it_holds as _),
@@ -274,36 +257,38 @@ fn weighs_wrong() {
     }
 }
 
+fn by_plan_limit(sheet: &[u8], plan: &[u8], least: &mut [u8]) -> WeighedAnswer {
+    let answer = weigh(sheet, plan, least);
+    let limit = plan::read(plan).map(|plan| plan.limit);
+    match (answer.refusal, limit) {
+        (0, Ok(limit)) => {
+            let n = to_words(sheet)[0] as usize;
+            let leasts = to_words(&least[..4 * n]);
+            answers::weighed(leasts.iter().all(|&least| least <= limit))
+        }
+        _ => answer,
+    }
+}
+
+fn only_if_it_holds(sheet: &[u8], plan: &[u8], least: &mut [u8]) -> WeighedAnswer {
+    let mut other = least.to_vec();
+    let answer = weigh(sheet, plan, &mut other);
+    if answer.holds == 1 {
+        least.copy_from_slice(&other);
+    }
+    answer
+}
+
+fn kind_first(sheet: &[u8], plan: &[u8], least: &mut [u8]) -> WeighedAnswer {
+    let answer = weigh(sheet, plan, least);
+    match (answer.refusal, plan::read(plan)) {
+        (21, Ok(plan)) if plan.kind == 0 => Answer::refused(24),
+        _ => answer,
+    }
+}
+
 #[test]
 fn carries_out_wrong() {
-    /// "Testing a send against what arrived in the same step."
-    fn counts_arrivals(sheet: &[u8], moves: &[u8], next: &mut [u8]) -> WrittenAnswer {
-        let answer = carry_out(sheet, moves, next);
-        match answer.refusal {
-            42 if to_words(moves)[1] > 1 => WrittenAnswer {
-                refusal: 0,
-                bytes: sheet.len() as u32,
-            },
-            _ => answer,
-        }
-    }
-    fn keeps_empty_cells(sheet: &[u8], moves: &[u8], next: &mut [u8]) -> WrittenAnswer {
-        let mut long = vec![0; 40_000];
-        let answer = carry_out(sheet, moves, &mut long);
-        if answer.refusal != 0 || answer.bytes as usize >= sheet.len() || next.len() < sheet.len() {
-            return carry_out(sheet, moves, next);
-        }
-        next[..sheet.len()].copy_from_slice(sheet);
-        let bytes = sheet.len() as u32;
-        WrittenAnswer { refusal: 0, bytes }
-    }
-    fn other_tolerance(sheet: &[u8], moves: &[u8], next: &mut [u8]) -> WrittenAnswer {
-        let answer = carry_out(sheet, moves, next);
-        if answer.refusal == 0 {
-            next[4] ^= 1;
-        }
-        answer
-    }
     for (name, carry_out) in [
         ("counts what arrives", counts_arrivals as _),
         ("keeps empty cells", keeps_empty_cells as _),
@@ -318,21 +303,68 @@ fn carries_out_wrong() {
     }
 }
 
+/// "Testing a send against what arrived in the same step": one move after the
+/// other, each from what the table has by then.
+fn counts_arrivals(sheet: &[u8], moves: &[u8], next: &mut [u8]) -> WrittenAnswer {
+    let (sheet, moves) = match (sheet::read(sheet), moves::read(moves)) {
+        (Ok(sheet), Ok(moves)) if sheet.n == moves.n => (sheet, moves),
+        _ => return carry_out(sheet, moves, next),
+    };
+    let mut table = Table::of(&sheet);
+    for (&route, &count) in moves.routes.iter().zip(&moves.counts) {
+        let [subdomain, sender, receiver] = parts(route);
+        let count = u64::from(count);
+        if table.counts[sender][subdomain] < count {
+            return Answer::refused(42);
+        }
+        table.counts[sender][subdomain] -= count;
+        table.counts[receiver][subdomain] += count;
+    }
+    write(&table.sheet(sheet.t), next)
+}
+
+/// A cell of the old sheet stays, even with a count of 0.
+fn keeps_empty_cells(sheet: &[u8], moves: &[u8], next: &mut [u8]) -> WrittenAnswer {
+    let (old, new) = match (sheet::read(sheet), REFERENCE.carried_out(sheet, moves)) {
+        (Ok(old), Ok(new)) => (
+            old,
+            sheet::read(&new).expect("what was written is accepted"),
+        ),
+        _ => return carry_out(sheet, moves, next),
+    };
+    let mut cells: BTreeMap<u32, u32> = old.cells.iter().map(|&cell| (cell, 0)).collect();
+    cells.extend(new.cells.into_iter().zip(new.counts));
+    let (cells, counts) = cells.into_iter().unzip();
+    write(
+        &Sheet {
+            cells,
+            counts,
+            ..old
+        },
+        next,
+    )
+}
+
+fn other_tolerance(sheet: &[u8], moves: &[u8], next: &mut [u8]) -> WrittenAnswer {
+    let answer = carry_out(sheet, moves, next);
+    if answer.refusal == 0 {
+        next[4] ^= 1;
+    }
+    answer
+}
+
+/// Writes a sheet, or refuses with 43.
+fn write(sheet: &Sheet, next: &mut [u8]) -> WrittenAnswer {
+    let record = sheet.bytes();
+    if next.len() < record.len() {
+        return Answer::refused(43);
+    }
+    next[..record.len()].copy_from_slice(&record);
+    answers::written(record.len() as u32)
+}
+
 #[test]
 fn tree_in_force_wrong() {
-    fn new_always(old: &[u8], new: &[u8]) -> PartAnswer {
-        let part = tree_in_force(old, new);
-        PartAnswer {
-            source: PartAnswer::NEW,
-            ..part
-        }
-    }
-    fn helpands_not_compared(old: &[u8], new: &[u8]) -> PartAnswer {
-        match (plan::read(old), plan::read(new)) {
-            (Ok(a), Ok(b)) if a.n == b.n && b.kind == 1 => answers::helpands(PartAnswer::OLD, a.n),
-            _ => tree_in_force(old, new),
-        }
-    }
     for (name, tree_in_force) in [
         ("the new plan always", new_always as _),
         ("helpands not compared", helpands_not_compared as _),
@@ -346,14 +378,17 @@ fn tree_in_force_wrong() {
     }
 }
 
-/// What the judge says of a tree that would do and is built anew.
-#[test]
-fn a_needless_rebuild() {
-    fn wrong(sheet: &[u8], _: &[u8], plan: &mut [u8], moves: &mut [u8]) -> StepAnswer {
-        plan_step(sheet, &[], plan, moves)
+fn new_always(old: &[u8], new: &[u8]) -> PartAnswer {
+    let part = tree_in_force(old, new);
+    PartAnswer {
+        source: PartAnswer::NEW,
+        ..part
     }
-    let planner = wrong_planner("rebuilds", wrong);
-    let said = judge(&planner, &worked::h()).err();
-    assert_eq!(said.as_deref(), Some("kind 2 where 1 is right"));
-    assert!(judge(&REFERENCE, &worked::h()).is_ok());
+}
+
+fn helpands_not_compared(old: &[u8], new: &[u8]) -> PartAnswer {
+    match (plan::read(old), plan::read(new)) {
+        (Ok(a), Ok(b)) if a.n == b.n && b.kind == 1 => answers::helpands(PartAnswer::OLD, a.n),
+        _ => tree_in_force(old, new),
+    }
 }

@@ -12,50 +12,97 @@ pub fn moves(
     routes: &mut Table,
     counts: &mut Table,
 ) -> usize {
-    let helps = |node: usize, owner: usize| decision.helpands[node] as usize == owner;
-    let mut own = *totals;
-    for node in 0..n {
-        if !helps(node, node) {
-            own[decision.helpands[node] as usize] -= decision.shares[node];
-        }
-    }
+    let own = own_amounts(totals, decision, n);
     let mut e = 0;
     for subdomain in 0..n {
-        // those who send, and those who receive, with how much
-        let (mut senders, mut receivers) = ([(0, 0); 65], [(0, 0); 65]);
-        let (mut sending, mut receiving) = (0, 0);
-        for node in 0..n {
-            let due = if node == subdomain {
-                own[node]
-            } else if helps(node, subdomain) {
-                decision.shares[node]
-            } else {
-                0
-            };
-            let held = table[64 * node + subdomain];
-            senders[sending] = (node, held.saturating_sub(due));
-            receivers[receiving] = (node, due.saturating_sub(held));
-            sending += usize::from(held > due);
-            receiving += usize::from(held < due);
+        let (mut senders, mut receivers) = (NOBODY, NOBODY);
+        sides(
+            table,
+            &own,
+            decision,
+            n,
+            subdomain,
+            [&mut senders, &mut receivers],
+        );
+        e = match_up(subdomain, &senders, &receivers, routes, counts, e);
+    }
+    e
+}
+
+/// What each node is due of its own subdomain.
+fn own_amounts(totals: &Nodes, decision: &Decision, n: usize) -> Nodes {
+    let mut own = *totals;
+    for node in 0..n {
+        let helpand = decision.helpands[node] as usize;
+        if helpand != node {
+            own[helpand] -= decision.shares[node];
         }
-        let (mut s, mut r) = (0, 0);
-        let (mut sender, mut surplus) = senders[0];
-        let (mut receiver, mut shortage) = receivers[0];
-        while s < sending && r < receiving {
-            let count = surplus.min(shortage);
-            routes[e] = (subdomain * 4096 + sender * 64 + receiver) as u32;
-            counts[e] = count;
-            e += 1;
-            surplus -= count;
-            shortage -= count;
-            if surplus == 0 {
-                s += 1;
-                (sender, surplus) = senders[s];
-            }
-            if shortage == 0 {
-                r += 1;
-                (receiver, shortage) = receivers[r];
-            }
+    }
+    own
+}
+
+/// Those who send or those who receive, with how much.
+struct Side {
+    nodes: [(usize, u32); 65],
+    len: usize,
+}
+
+const NOBODY: Side = Side {
+    nodes: [(0, 0); 65],
+    len: 0,
+};
+
+/// Finds those who send particles of a subdomain, and those who receive some.
+fn sides(
+    table: &Table,
+    own: &Nodes,
+    decision: &Decision,
+    n: usize,
+    subdomain: usize,
+    [senders, receivers]: [&mut Side; 2],
+) {
+    for node in 0..n {
+        let due = if node == subdomain {
+            own[node]
+        } else if decision.helpands[node] as usize == subdomain {
+            decision.shares[node]
+        } else {
+            0
+        };
+        let held = table[64 * node + subdomain];
+        senders.nodes[senders.len] = (node, held.saturating_sub(due));
+        receivers.nodes[receivers.len] = (node, due.saturating_sub(held));
+        senders.len += usize::from(held > due);
+        receivers.len += usize::from(held < due);
+    }
+}
+
+/// Adds the moves of a subdomain to the `e` before them, and gives their number.
+fn match_up(
+    subdomain: usize,
+    senders: &Side,
+    receivers: &Side,
+    routes: &mut Table,
+    counts: &mut Table,
+    mut e: usize,
+) -> usize {
+    let (mut s, mut r) = (0, 0);
+    let (mut sender, mut surplus) = senders.nodes[0];
+    let (mut receiver, mut shortage) = receivers.nodes[0];
+    while s < senders.len && r < receivers.len {
+        let count = surplus.min(shortage);
+        routes[e] = (subdomain * 4096 + sender * 64 + receiver) as u32;
+        counts[e] = count;
+        e += 1;
+        surplus -= count;
+        shortage -= count;
+        if surplus == 0 {
+            s += 1;
+            (sender, surplus) = senders.nodes[s];
+        }
+        if shortage == 0 {
+            r += 1;
+            (receiver, shortage) = receivers.nodes[r];
         }
     }
     e
