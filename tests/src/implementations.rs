@@ -1,7 +1,9 @@
-//! The operations on more than one record, side by side, so that tests are
-//! written once for whoever does them.
+//! Who does the operations, side by side, so that tests are written once for
+//! whoever does them.
 
-use crate::answers::{PartAnswer, StepAnswer, WeighedAnswer, WrittenAnswer};
+use crate::answers::{
+    MovesAnswer, PartAnswer, PlanAnswer, SheetAnswer, StepAnswer, WeighedAnswer, WrittenAnswer,
+};
 use crate::bounds::NODES;
 use crate::records::to_words;
 use crate::steps::Step;
@@ -23,9 +25,12 @@ pub type PlanStep = fn(sheet: &[u8], old: &[u8], plan: &mut [u8], moves: &mut [u
 pub type CarryOut = fn(sheet: &[u8], moves: &[u8], next: &mut [u8]) -> WrittenAnswer;
 pub type TreeInForce = fn(old: &[u8], new: &[u8]) -> PartAnswer;
 
-/// Someone who does all four.
+/// Someone who does all seven.
 pub struct Implementation {
     pub name: &'static str,
+    pub read_sheet: fn(sheet: &[u8]) -> SheetAnswer,
+    pub read_plan: fn(plan: &[u8]) -> PlanAnswer,
+    pub read_moves: fn(moves: &[u8]) -> MovesAnswer,
     pub weigh: Weigh,
     pub plan_step: PlanStep,
     pub carry_out: CarryOut,
@@ -35,6 +40,9 @@ pub struct Implementation {
 /// The second implementation.
 pub const REFERENCE: Implementation = Implementation {
     name: "the second implementation",
+    read_sheet: reference::read_sheet,
+    read_plan: reference::read_plan,
+    read_moves: reference::read_moves,
     weigh: reference::weigh,
     plan_step: reference::plan_step,
     carry_out: reference::carry_out,
@@ -44,19 +52,22 @@ pub const REFERENCE: Implementation = Implementation {
 /// The archive.
 pub const ARCHIVE: Implementation = Implementation {
     name: "the archive",
+    read_sheet: boundary::read_sheet,
+    read_plan: boundary::read_plan,
+    read_moves: boundary::read_moves,
     weigh: boundary::weigh,
     plan_step: boundary::plan_step,
     carry_out: boundary::carry_out,
     tree_in_force: boundary::tree_in_force,
 };
 
-/// The benchmark's baseline. *Tree in force* is not measured, so it has none.
+/// The benchmark's baseline. What is not measured is the second implementation's.
 pub const PLAIN: Implementation = Implementation {
     name: "plain Rust",
     weigh: plain::weigh,
     plan_step: plain::plan_step,
     carry_out: plain::carry_out,
-    tree_in_force: reference::tree_in_force,
+    ..REFERENCE
 };
 
 /// All who are tested.

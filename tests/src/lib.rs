@@ -12,14 +12,11 @@
 //! | `random` | the seeded generator |
 //! | `settings` | numbers from the environment |
 //! | `records` | valid records, fault injection and mutations |
-//! | `readers` | for each reader, all of the above side by side |
-//! | `inputs` | which input stands at which index of a run |
-//! | `compare` | one input, all answers |
 //! | `coverage` | which refusals and pairs of faults a run has met |
 //! | `guarded` | bytes with guards before and behind |
 //! | `steps` | seeded whole steps |
 //! | `worked` | the steps that document 01 works by hand |
-//! | `implementations` | who does the operations on more than one record, side by side |
+//! | `implementations` | who does the operations, side by side |
 //! | `calls` | the differential run over these |
 //! | `division` | what a division along a tree is |
 //! | `rival` | whether there is one, found in other ways |
@@ -36,7 +33,6 @@ pub mod bench_text;
 pub mod bounds;
 pub mod calls;
 pub mod cases;
-pub mod compare;
 pub mod coverage;
 pub mod demands;
 pub mod division;
@@ -44,10 +40,8 @@ pub mod exhaustive;
 pub mod faults;
 pub mod guarded;
 pub mod implementations;
-pub mod inputs;
 pub mod plain;
 pub mod random;
-pub mod readers;
 pub mod records;
 pub mod reference;
 pub mod refused;

@@ -4,17 +4,17 @@
 
 use firrozka_tests::answers::Answer;
 use firrozka_tests::random::Random;
-use firrozka_tests::readers::{Reader, MOVES, PLAN, SHEET};
 use firrozka_tests::records::plans::depth;
-use firrozka_tests::records::shown;
+use firrozka_tests::records::{moves, plans, sheets, shown, Record};
+use firrozka_tests::reference::{read_moves, read_plan, read_sheet};
 
 /// Thousands of valid records and the reference's answers to them.
-fn built<A: Answer>(reader: &Reader<A>) -> Vec<(Vec<u32>, A)> {
+fn built<A: Answer>(build: fn(&mut Random) -> Record, read: fn(&[u8]) -> A) -> Vec<(Vec<u32>, A)> {
     let one = |index| {
-        let record = (reader.build)(&mut Random::at(7, index));
+        let record = build(&mut Random::at(7, index));
         let bytes = record.bytes();
-        let answer = (reader.reference)(&bytes);
-        assert_eq!(answer.refusal(), 0, "{}: {}", reader.name, shown(&bytes));
+        let answer = read(&bytes);
+        assert_eq!(answer.refusal(), 0, "{}", shown(&bytes));
         (record.words, answer)
     };
     (0..5_000).map(one).collect()
@@ -27,7 +27,7 @@ fn some<A>(built: &[(Vec<u32>, A)], what: &str, holds: impl Fn(&[u32], &A) -> bo
 
 #[test]
 fn sheets() {
-    let sheets = built(&SHEET);
+    let sheets = built(sheets::build, read_sheet);
     for n in [1, 2, 3, 63, 64] {
         some(&sheets, "this N and no cells", |_, a| a.n == n && a.e == 0);
         some(&sheets, "this N and all cells", |_, a| {
@@ -52,7 +52,7 @@ fn sheets() {
 
 #[test]
 fn plans() {
-    let plans = built(&PLAN);
+    let plans = built(plans::build, read_plan);
     for n in [1, 2, 3, 63, 64] {
         some(&plans, "this N in kind 0", |_, a| a.n == n && a.kind == 0);
     }
@@ -85,7 +85,7 @@ fn helpands(words: &[u32]) -> &[u32] {
 
 #[test]
 fn moves() {
-    let moves = built(&MOVES);
+    let moves = built(moves::build, read_moves);
     for n in [1, 2, 3, 63, 64] {
         some(&moves, "this N and no routes", |_, a| a.n == n && a.e == 0);
     }

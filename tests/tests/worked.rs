@@ -2,9 +2,8 @@
 #![forbid(unsafe_code)]
 
 use firrozka_tests::answers::{MovesAnswer, PlanAnswer, SheetAnswer};
-use firrozka_tests::boundary;
+use firrozka_tests::implementations::IMPLEMENTATIONS;
 use firrozka_tests::records::to_bytes;
-use firrozka_tests::reference;
 
 fn sheet_gives(words: &[u32], [n, t, e, p, limit]: [u32; 5]) {
     let expected = SheetAnswer {
@@ -16,8 +15,9 @@ fn sheet_gives(words: &[u32], [n, t, e, p, limit]: [u32; 5]) {
         limit,
     };
     let bytes = to_bytes(words);
-    assert_eq!(reference::read_sheet(&bytes), expected);
-    assert_eq!(boundary::read_sheet(&bytes), expected);
+    for implementation in IMPLEMENTATIONS {
+        assert_eq!((implementation.read_sheet)(&bytes), expected);
+    }
 }
 
 fn plan_gives(words: &[u32], [n, kind, limit]: [u32; 3]) {
@@ -28,15 +28,17 @@ fn plan_gives(words: &[u32], [n, kind, limit]: [u32; 3]) {
         limit,
     };
     let bytes = to_bytes(words);
-    assert_eq!(reference::read_plan(&bytes), expected);
-    assert_eq!(boundary::read_plan(&bytes), expected);
+    for implementation in IMPLEMENTATIONS {
+        assert_eq!((implementation.read_plan)(&bytes), expected);
+    }
 }
 
 fn moves_give(words: &[u32], [n, e]: [u32; 2]) {
     let expected = MovesAnswer { refusal: 0, n, e };
     let bytes = to_bytes(words);
-    assert_eq!(reference::read_moves(&bytes), expected);
-    assert_eq!(boundary::read_moves(&bytes), expected);
+    for implementation in IMPLEMENTATIONS {
+        assert_eq!((implementation.read_moves)(&bytes), expected);
+    }
 }
 
 #[test]

@@ -3,22 +3,22 @@
 #![forbid(unsafe_code)]
 
 use firrozka_tests::answers::{Answer, SheetAnswer};
-use firrozka_tests::readers::{Reader, SHEET};
+use firrozka_tests::calls::READ_SHEET;
+use firrozka_tests::implementations::{Implementation, REFERENCE};
 use firrozka_tests::records::sheets::all_cells;
 use firrozka_tests::records::{to_bytes, to_words};
 use firrozka_tests::reference::{read_sheet, sheet};
 use firrozka_tests::settings::SEED;
 
-/// Whether the run reports a reader of sheets.
-fn is_reported(tested: fn(&[u8]) -> SheetAnswer) -> bool {
-    let reader = Reader { tested, ..SHEET };
-    reader.run(SEED, 2_000).is_err()
-}
-
-/// Nothing is wrong with the second implementation itself.
-#[test]
-fn nothing_wrong() {
-    assert!(!is_reported(read_sheet));
+/// The run reports the one who reads sheets wrong.
+fn is_reported(name: &'static str, read_sheet: fn(&[u8]) -> SheetAnswer) {
+    let wrong = Implementation {
+        name,
+        read_sheet,
+        ..REFERENCE
+    };
+    let reported = READ_SHEET.run(&wrong, SEED, 2_000).is_err();
+    assert!(reported, "{name}");
 }
 
 /// "All cells come before all counts": here 7 comes before 6.
@@ -31,7 +31,7 @@ fn counts_before_cells() {
             _ => answer,
         }
     }
-    assert!(is_reported(wrong));
+    is_reported("7 before 6", wrong);
 }
 
 /// The holder is taken modulo 64.
@@ -51,7 +51,7 @@ fn holder_wraps() {
             false => answer,
         }
     }
-    assert!(is_reported(wrong));
+    is_reported("the holder modulo 64", wrong);
 }
 
 /// The running sum is taken in 32 bits.
@@ -80,7 +80,7 @@ fn sum_wraps() {
             limit: sheet::limit(p.into(), n.into(), t.into()) as u32,
         }
     }
-    assert!(is_reported(wrong));
+    is_reported("the sum in 32 bits", wrong);
 }
 
 /// The answer to a sheet of the right length if its cells were fine.

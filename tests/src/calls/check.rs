@@ -8,7 +8,7 @@ use crate::implementations::{Implementation, REFERENCE};
 use crate::random::Random;
 
 /// How often the one under test is called for each call.
-pub const TIMES: usize = 2;
+pub const TIMES: usize = 3;
 
 /// What a call came to.
 pub struct Checked {
@@ -42,7 +42,7 @@ pub fn check(
         return Err("the reference refuses and writes".into());
     }
     // Other guards each time: who reads beside the input may answer otherwise.
-    let places: [(usize, u8); TIMES] = [(1, 0x00), (2, 0xff)];
+    let places: [(usize, u8); TIMES] = [(0, 0xa5), (1, 0x00), (2, 0xff)];
     for (offset, guard) in places {
         compare(operation, tested, call, &noise, &expected, (offset, guard))?;
     }

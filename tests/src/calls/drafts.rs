@@ -9,7 +9,7 @@ use crate::records::{moves, plans, sheets, Record};
 use crate::steps::{self, Size, Step};
 use std::collections::BTreeMap;
 
-/// Two records and the room in two buffers.
+/// Two records, the second of which may be none, and the room in two buffers.
 pub struct Draft {
     pub records: [Record; 2],
     pub rooms: [Room; 2],
@@ -89,14 +89,17 @@ impl Draft {
 
     /// Mutates a record or two, or brings some faults in, or does nothing.
     pub fn mutate(&mut self, numbers: &[u32], random: &mut Random) {
-        let at = random.place(2);
+        let records = 2 - usize::from(self.records[1].is_none());
+        let at = random.place(records);
         match random.below(16) {
-            0..=7 => (),
+            0..=6 => (),
+            7 => self.records[at] = Record::noise(random),
             8 | 9 => mutate_once(&mut self.records[at], random),
             10 | 11 => mutate(&mut self.records[at], random),
             12 => {
-                mutate_once(&mut self.records[0], random);
-                mutate_once(&mut self.records[1], random);
+                for record in &mut self.records[..records] {
+                    mutate_once(record, random);
+                }
             }
             13 | 14 => self.inject(random.one_of(numbers), random),
             _ => {
@@ -112,11 +115,9 @@ impl Draft {
         let short = random.one_of(&[Room::Empty, Room::OneShort]);
         match fault {
             1..=7 => sheets::inject(first, fault, random),
-            // A plan is mostly the second record, beside a sheet.
-            11..=18 if first.is_plan() => plans::inject(first, fault, random),
-            11..=18 => plans::inject(second, fault, random),
+            11..=18 => plans::inject(beside_sheet(first, second), fault, random),
+            31..=36 => moves::inject(beside_sheet(first, second), fault, random),
             111..=118 => plans::inject(second, fault - 100, random),
-            31..=36 => moves::inject(second, fault, random),
             21 | 121 => *second = plans::build(random),
             22 | 25 | 43 => self.rooms[0] = short,
             23 => self.rooms[1] = short,
@@ -130,6 +131,14 @@ impl Draft {
             42 => send_too_much(first, second, random),
             _ => panic!("{fault} is no fault of a call"),
         }
+    }
+}
+
+/// Of two records the one beside a sheet. Without a sheet, the first.
+fn beside_sheet<'a>(first: &'a mut Record, second: &'a mut Record) -> &'a mut Record {
+    match first.is_sheet() {
+        true => second,
+        false => first,
     }
 }
 

@@ -1,5 +1,5 @@
-//! The four operations on two records, seen alike: two records are read, up to
-//! two buffers are lent, and the answer is some words. Then one run serves all.
+//! The seven operations, seen alike: one record or two are read, up to two
+//! buffers are lent, and the answer is some words. Then one run serves all.
 //!
 //! | file | what it holds |
 //! |---|---|
@@ -13,18 +13,19 @@ pub mod drafts;
 pub mod faults;
 pub mod run;
 
+use crate::answers::{MovesAnswer, PlanAnswer, SheetAnswer};
 use crate::bounds::NODES;
-use crate::faults::{word_at, OF_MOVES, OF_PLAN, OF_SHEET};
+use crate::faults::{moves, plan, sheet, word_at, OF_MOVES, OF_PLAN, OF_SHEET};
 use crate::implementations::{Implementation, MOVES_BYTES, PLAN_BYTES, REFERENCE, SHEET_BYTES};
 use crate::random::Random;
-use crate::records::{to_words, Record};
+use crate::records::{moves, plans, sheets, to_words, Record};
 use crate::steps::Step;
 use drafts::Draft;
 
 /// What an operation is handed.
 #[derive(Clone, Debug)]
 pub struct Call {
-    /// Two records to read.
+    /// Two records to read, the second empty where it takes one only.
     pub records: [Vec<u8>; 2],
     /// How long its buffers are; 0 where it takes none.
     pub lengths: [usize; 2],
@@ -71,6 +72,63 @@ pub const EVERYWHERE: [Corner; 3] = [
     ("N 63", |call, _| first_word(call) == 63),
     ("N 64", |call, _| first_word(call) == 64),
 ];
+
+pub const READ_SHEET: Operation = Operation {
+    name: "read sheet",
+    checks: &[&OF_SHEET],
+    ordered: true,
+    buffers: 0,
+    answer: |implementation, [sheet, _], _| {
+        let SheetAnswer {
+            refusal,
+            n,
+            t,
+            e,
+            p,
+            limit,
+        } = (implementation.read_sheet)(sheet);
+        vec![refusal, n, t, e, p, limit]
+    },
+    needed: |_, _| [0, 0],
+    faults: |call| sheet(&call.records[0]),
+    agrees: is_first,
+    records: |step| [sheets::of(&step.sheet), Record::none()],
+    build: |random| Draft::new([sheets::build(random), Record::none()]),
+    corners: &[("4,096 cells", has_all_cells)],
+};
+
+pub const READ_PLAN: Operation = Operation {
+    name: "read plan",
+    checks: &[&OF_PLAN],
+    answer: |implementation, [plan, _], _| {
+        let PlanAnswer {
+            refusal,
+            n,
+            kind,
+            limit,
+        } = (implementation.read_plan)(plan);
+        vec![refusal, n, kind, limit]
+    },
+    faults: |call| plan(&call.records[0]),
+    records: |step| [plans::of(&REFERENCE.plan(step).plan), Record::none()],
+    build: |random| Draft::new([plans::build(random), Record::none()]),
+    corners: &[],
+    ..READ_SHEET
+};
+
+pub const READ_MOVES: Operation = Operation {
+    name: "read moves",
+    checks: &[&OF_MOVES],
+    answer: |implementation, [moves, _], _| {
+        let MovesAnswer { refusal, n, e } = (implementation.read_moves)(moves);
+        vec![refusal, n, e]
+    },
+    faults: |call| moves(&call.records[0]),
+    records: |step| [moves::of(&REFERENCE.plan(step).moves), Record::none()],
+    build: |random| Draft::new([moves::build(random), Record::none()]),
+    corners: &[],
+    ..READ_SHEET
+};
 
 pub const WEIGH: Operation = Operation {
     name: "weigh",
@@ -179,8 +237,16 @@ pub const TREE_IN_FORCE: Operation = Operation {
     ],
 };
 
-/// All four.
-pub const OPERATIONS: [&Operation; 4] = [&WEIGH, &PLAN_STEP, &CARRY_OUT, &TREE_IN_FORCE];
+/// All seven.
+pub const OPERATIONS: [&Operation; 7] = [
+    &READ_SHEET,
+    &READ_PLAN,
+    &READ_MOVES,
+    &WEIGH,
+    &PLAN_STEP,
+    &CARRY_OUT,
+    &TREE_IN_FORCE,
+];
 
 impl Operation {
     /// All numbers of its checks.

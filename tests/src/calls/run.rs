@@ -6,10 +6,10 @@ use super::check::{check, Checked, TIMES};
 use super::{Call, Operation};
 use crate::coverage::Coverage;
 use crate::faults::pairs;
-use crate::implementations::Implementation;
-use crate::inputs::{first_with, wanted};
+use crate::implementations::{Implementation, ARCHIVE};
 use crate::random::Random;
 use crate::records::shown;
+use crate::settings::{seed, setting};
 
 /// How many calls a run has for each fault and each pair of faults.
 const FOR_EACH: usize = 20;
@@ -24,6 +24,21 @@ pub struct Met {
 }
 
 impl Operation {
+    /// The archive's run, with so many rounds unless FIRROZKA_ROUNDS says
+    /// otherwise. Prints what was met, and panics if something is wrong or missing.
+    pub fn test(&self, usual: usize) {
+        let rounds = setting("FIRROZKA_ROUNDS", usual);
+        let met = self.run(&ARCHIVE, seed(), rounds);
+        let met = met.unwrap_or_else(|wrong| panic!("{wrong}"));
+        println!("{}: {} calls, {}", self.name, met.calls, met.coverage);
+        let mut gaps = self.gaps(&met);
+        // The corners are among the mixed calls, of which a short run has too few.
+        if rounds >= usual {
+            gaps.extend(self.corners_unmet(&met));
+        }
+        assert!(gaps.is_empty(), "{}: {gaps:#?}", self.name);
+    }
+
     /// Compares the answers of the one under test to the calls of a run: all
     /// wanted ones and `rounds` mixed ones. Gives what was met, or the first
     /// thing that is wrong.
@@ -97,12 +112,12 @@ impl Operation {
     }
 
     /// The refusals and orders of two faults that a run should have met and has not.
-    pub fn gaps(&self, met: &Met) -> Vec<String> {
+    fn gaps(&self, met: &Met) -> Vec<String> {
         met.coverage.gaps(&self.numbers(), &self.pairs())
     }
 
     /// The corners that no accepted call of a run has met.
-    pub fn corners_unmet(&self, met: &Met) -> Vec<String> {
+    fn corners_unmet(&self, met: &Met) -> Vec<String> {
         let corners = self.corners().zip(&met.corners);
         let unmet = corners.filter(|(_, &times)| times == 0);
         unmet
@@ -121,4 +136,25 @@ impl Met {
             }
         }
     }
+}
+
+/// No fault, every fault, and every pair.
+fn wanted(numbers: &[u32], pairs: &[(u32, u32)]) -> Vec<Vec<u32>> {
+    let none = std::iter::once(Vec::new());
+    let alone = numbers.iter().map(|&fault| vec![fault]);
+    let pairs = pairs.iter().map(|&(a, b)| vec![a, b]);
+    none.chain(alone).chain(pairs).collect()
+}
+
+/// What the first attempt gives whose first fault is the first one wanted, and
+/// which has the others too. Faults can hide each other, so it may take some.
+fn first_with<T>(wanted: &[u32], mut attempt: impl FnMut() -> (T, Vec<u32>)) -> T {
+    let suits = |found: &[u32]| {
+        found.first() == wanted.first() && wanted.iter().all(|fault| found.contains(fault))
+    };
+    let mut attempts = (0..10_000).map(|_| attempt());
+    let found = attempts.find(|(_, faults)| suits(faults));
+    found
+        .unwrap_or_else(|| panic!("no input with faults {wanted:?} came up"))
+        .0
 }

@@ -46,6 +46,19 @@ impl Record {
         Record::new(size, sizes, first, second)
     }
 
+    /// No record.
+    pub fn none() -> Record {
+        Record::new(0, &[], &[], &[])
+    }
+
+    /// Some bytes that were never a record.
+    pub fn noise(random: &mut Random) -> Record {
+        Record {
+            tail: mutation::some_bytes(random.place(48), random),
+            ..Record::none()
+        }
+    }
+
     /// The record as an operation gets it.
     pub fn bytes(&self) -> Vec<u8> {
         let mut bytes = to_bytes(&self.words);
@@ -54,9 +67,14 @@ impl Record {
         bytes
     }
 
-    /// Whether the record is a plan, whose arrays have N entries.
-    pub fn is_plan(&self) -> bool {
-        self.size == 0
+    /// Whether the record is a sheet, whose third word is E.
+    pub fn is_sheet(&self) -> bool {
+        self.size == 2
+    }
+
+    /// Whether there is none.
+    pub fn is_none(&self) -> bool {
+        self.words.is_empty()
     }
 
     /// How many entries each array has, whatever the sizes say.
