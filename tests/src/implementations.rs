@@ -20,10 +20,7 @@ pub const PLAN_BYTES: usize = 4 * (3 + 2 * MOST_NODES);
 /// The longest moves: 4 × (2+2E) with E = N × (N−1).
 pub const MOVES_BYTES: usize = 4 * (2 + 2 * MOST_NODES * (MOST_NODES - 1));
 
-pub type Weigh = fn(sheet: &[u8], plan: &[u8], least: &mut [u8]) -> WeighedAnswer;
 pub type PlanStep = fn(sheet: &[u8], old: &[u8], plan: &mut [u8], moves: &mut [u8]) -> StepAnswer;
-pub type CarryOut = fn(sheet: &[u8], moves: &[u8], next: &mut [u8]) -> WrittenAnswer;
-pub type TreeInForce = fn(old: &[u8], new: &[u8]) -> PartAnswer;
 
 /// Someone who does all seven.
 pub struct Implementation {
@@ -31,10 +28,10 @@ pub struct Implementation {
     pub read_sheet: fn(sheet: &[u8]) -> SheetAnswer,
     pub read_plan: fn(plan: &[u8]) -> PlanAnswer,
     pub read_moves: fn(moves: &[u8]) -> MovesAnswer,
-    pub weigh: Weigh,
+    pub weigh: fn(sheet: &[u8], plan: &[u8], least: &mut [u8]) -> WeighedAnswer,
     pub plan_step: PlanStep,
-    pub carry_out: CarryOut,
-    pub tree_in_force: TreeInForce,
+    pub carry_out: fn(sheet: &[u8], moves: &[u8], next: &mut [u8]) -> WrittenAnswer,
+    pub tree_in_force: fn(old: &[u8], new: &[u8]) -> PartAnswer,
 }
 
 /// The second implementation.

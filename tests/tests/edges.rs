@@ -34,11 +34,12 @@ fn small(operation: &Operation) -> Vec<[Record; 2]> {
     steps.iter().map(|step| (operation.records)(step)).collect()
 }
 
-/// Each small call with one of its two records changed in every such way.
+/// Each small call with one of its records changed in every such way.
 fn changed(change: impl Fn(&Operation, [Record; 2], usize)) {
     for operation in OPERATIONS {
         for which in [0, 1] {
-            for records in small(operation) {
+            let there = |records: &[Record; 2]| !records[which].is_none();
+            for records in small(operation).into_iter().filter(there) {
                 change(operation, records, which);
             }
         }

@@ -15,7 +15,7 @@ pub mod run;
 
 use crate::answers::{MovesAnswer, PlanAnswer, SheetAnswer};
 use crate::bounds::NODES;
-use crate::faults::{moves, plan, sheet, word_at, OF_MOVES, OF_PLAN, OF_SHEET};
+use crate::faults::{self as of_records, word_at, OF_MOVES, OF_PLAN, OF_SHEET};
 use crate::implementations::{Implementation, MOVES_BYTES, PLAN_BYTES, REFERENCE, SHEET_BYTES};
 use crate::random::Random;
 use crate::records::{moves, plans, sheets, to_words, Record};
@@ -90,7 +90,7 @@ pub const READ_SHEET: Operation = Operation {
         vec![refusal, n, t, e, p, limit]
     },
     needed: |_, _| [0, 0],
-    faults: |call| sheet(&call.records[0]),
+    faults: |call| of_records::sheet(&call.records[0]),
     agrees: is_first,
     records: |step| [sheets::of(&step.sheet), Record::none()],
     build: |random| Draft::new([sheets::build(random), Record::none()]),
@@ -109,7 +109,7 @@ pub const READ_PLAN: Operation = Operation {
         } = (implementation.read_plan)(plan);
         vec![refusal, n, kind, limit]
     },
-    faults: |call| plan(&call.records[0]),
+    faults: |call| of_records::plan(&call.records[0]),
     records: |step| [plans::of(&REFERENCE.plan(step).plan), Record::none()],
     build: |random| Draft::new([plans::build(random), Record::none()]),
     corners: &[],
@@ -123,7 +123,7 @@ pub const READ_MOVES: Operation = Operation {
         let MovesAnswer { refusal, n, e } = (implementation.read_moves)(moves);
         vec![refusal, n, e]
     },
-    faults: |call| moves(&call.records[0]),
+    faults: |call| of_records::moves(&call.records[0]),
     records: |step| [moves::of(&REFERENCE.plan(step).moves), Record::none()],
     build: |random| Draft::new([moves::build(random), Record::none()]),
     corners: &[],
