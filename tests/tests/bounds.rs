@@ -5,7 +5,8 @@
 
 use firrozka_tests::boundary;
 use firrozka_tests::calls::check::check;
-use firrozka_tests::calls::{Call, Operation, READ_MOVES, READ_PLAN, READ_SHEET};
+use firrozka_tests::calls::{Call, Operation};
+use firrozka_tests::calls::{READ_MOVES as MOVES, READ_PLAN as PLAN, READ_SHEET as SHEET};
 use firrozka_tests::implementations::ARCHIVE;
 use firrozka_tests::records::moves::{moves, route};
 use firrozka_tests::records::plans::{chain, plan};
@@ -69,83 +70,78 @@ fn counted(counts: &[u32]) -> Record {
 
 #[test]
 fn sheet_length() {
-    expect_lengths(&READ_SHEET, sheet(1, 1, &[], &[]), 12, [1, 5]);
-    expect_lengths(
-        &READ_SHEET,
-        sheet(3, 10, &[0, 65, 130], &[90, 6, 4]),
-        12,
-        [1, 5],
-    );
+    expect_lengths(&SHEET, sheet(1, 1, &[], &[]), 12, [1, 5]);
+    expect_lengths(&SHEET, sheet(3, 10, &[0, 65, 130], &[90, 6, 4]), 12, [1, 5]);
 }
 
 #[test]
 fn sheet_nodes_and_tolerance() {
     for (n, refusal) in [(0, 2), (1, 0), (2, 0), (63, 0), (64, 0), (65, 2), (TOP, 2)] {
-        expect_record(&READ_SHEET, sheet(n, 1, &[], &[]), refusal);
+        expect_record(&SHEET, sheet(n, 1, &[], &[]), refusal);
     }
     for (t, refusal) in [(0, 3), (1, 0), (98, 0), (99, 0), (100, 3), (TOP, 3)] {
-        expect_record(&READ_SHEET, sheet(1, t, &[], &[]), refusal);
+        expect_record(&SHEET, sheet(1, t, &[], &[]), refusal);
     }
 }
 
 #[test]
 fn sheet_entries() {
     for n in 1..=64 {
-        expect_record(&READ_SHEET, full_sheet(n, 0), 0);
-        expect_record(&READ_SHEET, full_sheet(n, 1), 4);
+        expect_record(&SHEET, full_sheet(n, 0), 0);
+        expect_record(&SHEET, full_sheet(n, 1), 4);
     }
     // In 32 bits, each of these E asks for the 12 bytes that are there.
     for e in [1 << 29, 1 << 30, 1 << 31, 3 << 30] {
-        expect(&READ_SHEET, &to_bytes(&[64, 1, e]), 4);
+        expect(&SHEET, &to_bytes(&[64, 1, e]), 4);
     }
 }
 
 #[test]
 fn sheet_cells() {
     for n in 1..=64 {
-        expect_record(&READ_SHEET, sheet_of(n, &[0]), 0);
-        expect_record(&READ_SHEET, sheet_of(n, &[cell(n - 1, n - 1)]), 0);
-        expect_record(&READ_SHEET, sheet_of(n, &[cell(n, 0)]), 6);
-        expect_record(&READ_SHEET, sheet_of(n, &[4096]), 6);
-        expect_record(&READ_SHEET, sheet_of(n, &[65_536]), 6);
-        expect_record(&READ_SHEET, sheet_of(n, &[TOP]), 6);
+        expect_record(&SHEET, sheet_of(n, &[0]), 0);
+        expect_record(&SHEET, sheet_of(n, &[cell(n - 1, n - 1)]), 0);
+        expect_record(&SHEET, sheet_of(n, &[cell(n, 0)]), 6);
+        expect_record(&SHEET, sheet_of(n, &[4096]), 6);
+        expect_record(&SHEET, sheet_of(n, &[65_536]), 6);
+        expect_record(&SHEET, sheet_of(n, &[TOP]), 6);
     }
     for n in 1..=63 {
-        expect_record(&READ_SHEET, sheet_of(n, &[cell(0, n)]), 6);
-        expect_record(&READ_SHEET, sheet_of(n, &[cell(n - 1, n)]), 6);
+        expect_record(&SHEET, sheet_of(n, &[cell(0, n)]), 6);
+        expect_record(&SHEET, sheet_of(n, &[cell(n - 1, n)]), 6);
     }
-    expect_record(&READ_SHEET, sheet_of(64, &[4095]), 0);
-    expect_record(&READ_SHEET, sheet_of(64, &[0, 1]), 0);
-    expect_record(&READ_SHEET, sheet_of(64, &[1, 1]), 6);
-    expect_record(&READ_SHEET, sheet_of(64, &[1, 0]), 6);
-    expect_record(&READ_SHEET, sheet_of(64, &[0, 4095, 4095]), 6);
+    expect_record(&SHEET, sheet_of(64, &[4095]), 0);
+    expect_record(&SHEET, sheet_of(64, &[0, 1]), 0);
+    expect_record(&SHEET, sheet_of(64, &[1, 1]), 6);
+    expect_record(&SHEET, sheet_of(64, &[1, 0]), 6);
+    expect_record(&SHEET, sheet_of(64, &[0, 4095, 4095]), 6);
 }
 
 #[test]
 fn sheet_counts() {
-    expect_record(&READ_SHEET, counted(&[1]), 0);
-    expect_record(&READ_SHEET, counted(&[0]), 7);
-    expect_record(&READ_SHEET, counted(&[1, 1, 0]), 7);
-    expect_record(&READ_SHEET, counted(&[MOST]), 0);
-    expect_record(&READ_SHEET, counted(&[MOST + 1]), 7);
-    expect_record(&READ_SHEET, counted(&[MOST - 1, 1]), 0);
-    expect_record(&READ_SHEET, counted(&[MOST, 1]), 7);
-    expect_record(&READ_SHEET, counted(&[1, MOST]), 7);
-    expect_record(&READ_SHEET, counted(&[TOP]), 7);
+    expect_record(&SHEET, counted(&[1]), 0);
+    expect_record(&SHEET, counted(&[0]), 7);
+    expect_record(&SHEET, counted(&[1, 1, 0]), 7);
+    expect_record(&SHEET, counted(&[MOST]), 0);
+    expect_record(&SHEET, counted(&[MOST + 1]), 7);
+    expect_record(&SHEET, counted(&[MOST - 1, 1]), 0);
+    expect_record(&SHEET, counted(&[MOST, 1]), 7);
+    expect_record(&SHEET, counted(&[1, MOST]), 7);
+    expect_record(&SHEET, counted(&[TOP]), 7);
     // Sums that are small in 32 bits.
-    expect_record(&READ_SHEET, counted(&[1 << 31, 1 << 31]), 7);
-    expect_record(&READ_SHEET, counted(&[1 << 31, 1 << 31, 5]), 7);
-    expect_record(&READ_SHEET, counted(&[5, TOP - 3, 1]), 7);
-    expect_record(&READ_SHEET, counted(&[MOST, TOP - 10, 7]), 7);
-    expect_record(&READ_SHEET, counted(&[1 << 30; 4]), 7);
-    expect_record(&READ_SHEET, counted(&[MOST; 5]), 7);
+    expect_record(&SHEET, counted(&[1 << 31, 1 << 31]), 7);
+    expect_record(&SHEET, counted(&[1 << 31, 1 << 31, 5]), 7);
+    expect_record(&SHEET, counted(&[5, TOP - 3, 1]), 7);
+    expect_record(&SHEET, counted(&[MOST, TOP - 10, 7]), 7);
+    expect_record(&SHEET, counted(&[1 << 30; 4]), 7);
+    expect_record(&SHEET, counted(&[MOST; 5]), 7);
 }
 
 /// "All cells come before all counts."
 #[test]
 fn sheet_cells_before_counts() {
-    expect_record(&READ_SHEET, sheet(2, 10, &[0, 2], &[0, 1]), 6);
-    expect_record(&READ_SHEET, sheet(2, 10, &[0, 65], &[0, 1]), 7);
+    expect_record(&SHEET, sheet(2, 10, &[0, 2], &[0, 1]), 6);
+    expect_record(&SHEET, sheet(2, 10, &[0, 65], &[0, 1]), 7);
 }
 
 #[test]
@@ -168,7 +164,7 @@ fn sheet_limit() {
     ];
     for (n, t, p, limit) in cases {
         let bytes = sheet(n, t, &[0], &[p]).bytes();
-        expect(&READ_SHEET, &bytes, 0);
+        expect(&SHEET, &bytes, 0);
         let answer = boundary::read_sheet(&bytes);
         assert_eq!((answer.p, answer.limit), (p, limit), "N {n}, t {t}");
     }
@@ -189,31 +185,31 @@ fn plan_of(kind: u32, limit: u32, helpands: &[u32]) -> Record {
 
 #[test]
 fn plan_length() {
-    expect_lengths(&READ_PLAN, plan_of(0, 0, &[0]), 12, [11, 15]);
-    expect_lengths(&READ_PLAN, plan(2, 36, &[0; 3], &[0, 27, 29]), 12, [11, 15]);
+    expect_lengths(&PLAN, plan_of(0, 0, &[0]), 12, [11, 15]);
+    expect_lengths(&PLAN, plan(2, 36, &[0; 3], &[0, 27, 29]), 12, [11, 15]);
 }
 
 #[test]
 fn plan_nodes_and_kind() {
     for n in 1..=64 {
-        expect_record(&READ_PLAN, plan_of(0, 0, &roots(n)), 0);
+        expect_record(&PLAN, plan_of(0, 0, &roots(n)), 0);
     }
-    expect_record(&READ_PLAN, plan_of(0, 0, &[]), 12);
-    expect_record(&READ_PLAN, plan_of(0, 0, &roots(65)), 12);
-    expect(&READ_PLAN, &to_bytes(&[TOP, 0, 0]), 12);
+    expect_record(&PLAN, plan_of(0, 0, &[]), 12);
+    expect_record(&PLAN, plan_of(0, 0, &roots(65)), 12);
+    expect(&PLAN, &to_bytes(&[TOP, 0, 0]), 12);
     for (kind, refusal) in [(0, 17), (1, 0), (2, 0), (3, 13), (TOP, 13)] {
-        expect_record(&READ_PLAN, plan_of(kind, 0, &[0, 0]), refusal);
+        expect_record(&PLAN, plan_of(kind, 0, &[0, 0]), refusal);
     }
     for (kind, refusal) in [(0, 0), (1, 13), (2, 13), (3, 13), (TOP, 13)] {
-        expect_record(&READ_PLAN, plan_of(kind, 0, &[0]), refusal);
+        expect_record(&PLAN, plan_of(kind, 0, &[0]), refusal);
     }
 }
 
 #[test]
 fn plan_limit() {
     for (limit, refusal) in [(0, 0), (MOST_LIMIT, 0), (MOST_LIMIT + 1, 14), (TOP, 14)] {
-        expect_record(&READ_PLAN, plan_of(0, limit, &[0]), refusal);
-        expect_record(&READ_PLAN, plan_of(1, limit, &[0, 0]), refusal);
+        expect_record(&PLAN, plan_of(0, limit, &[0]), refusal);
+        expect_record(&PLAN, plan_of(1, limit, &[0, 0]), refusal);
     }
 }
 
@@ -224,46 +220,46 @@ fn plan_helpands() {
         for (helpand, refusal) in [(n - 1, 0), (n, 16), (TOP, 16)] {
             let mut helpands = vec![n - 1; n as usize];
             helpands[0] = helpand;
-            expect_record(&READ_PLAN, plan_of(1, 0, &helpands), refusal);
+            expect_record(&PLAN, plan_of(1, 0, &helpands), refusal);
         }
         let mut helpands = roots(n);
         helpands[last] = n;
-        expect_record(&READ_PLAN, plan_of(0, 0, &helpands), 16);
+        expect_record(&PLAN, plan_of(0, 0, &helpands), 16);
     }
-    expect_record(&READ_PLAN, plan_of(0, 0, &[1]), 16);
+    expect_record(&PLAN, plan_of(0, 0, &[1]), 16);
 }
 
 #[test]
 fn plan_shape() {
     for kind in 1..=2 {
         for n in 2..=64 {
-            expect_record(&READ_PLAN, plan_of(kind, 0, &chain(n)), 0);
-            expect_record(&READ_PLAN, plan_of(kind, 0, &rising_chain(n)), 0);
-            expect_record(&READ_PLAN, plan_of(kind, 0, &roots(n)), 17);
+            expect_record(&PLAN, plan_of(kind, 0, &chain(n)), 0);
+            expect_record(&PLAN, plan_of(kind, 0, &rising_chain(n)), 0);
+            expect_record(&PLAN, plan_of(kind, 0, &roots(n)), 17);
             // No root: the chain's end helps its beginning.
             let mut ring = chain(n);
             ring[0] = n - 1;
-            expect_record(&READ_PLAN, plan_of(kind, 0, &ring), 17);
+            expect_record(&PLAN, plan_of(kind, 0, &ring), 17);
             // Two roots, the whole rest in order.
             let mut two = chain(n);
             two[n as usize / 2] = n / 2;
-            expect_record(&READ_PLAN, plan_of(kind, 0, &two), 17);
+            expect_record(&PLAN, plan_of(kind, 0, &two), 17);
         }
         for n in 3..=64 {
             // One root, and a ring of all other nodes, or of the last two.
             let mut ring = chain(n);
             ring[1] = n - 1;
-            expect_record(&READ_PLAN, plan_of(kind, 0, &ring), 17);
+            expect_record(&PLAN, plan_of(kind, 0, &ring), 17);
             let mut pair = chain(n);
             pair[n as usize - 2] = n - 1;
-            expect_record(&READ_PLAN, plan_of(kind, 0, &pair), 17);
+            expect_record(&PLAN, plan_of(kind, 0, &pair), 17);
         }
     }
     for n in 2..=64 {
         let mut one_helps = roots(n);
         one_helps[n as usize - 1] = 0;
-        expect_record(&READ_PLAN, plan_of(0, 0, &one_helps), 17);
-        expect_record(&READ_PLAN, plan_of(0, 0, &chain(n)), 17);
+        expect_record(&PLAN, plan_of(0, 0, &one_helps), 17);
+        expect_record(&PLAN, plan_of(0, 0, &chain(n)), 17);
     }
 }
 
@@ -274,16 +270,16 @@ fn plan_shares() {
             let last = n as usize - 1;
             let mut shares = vec![0; n as usize];
             shares[last] = limit;
-            expect_record(&READ_PLAN, plan(2, limit, &chain(n), &shares), 0);
+            expect_record(&PLAN, plan(2, limit, &chain(n), &shares), 0);
             shares[last] = limit + 1;
-            expect_record(&READ_PLAN, plan(2, limit, &chain(n), &shares), 18);
+            expect_record(&PLAN, plan(2, limit, &chain(n), &shares), 18);
             shares[last] = TOP;
-            expect_record(&READ_PLAN, plan(1, limit, &chain(n), &shares), 18);
+            expect_record(&PLAN, plan(1, limit, &chain(n), &shares), 18);
             // The last node is the root.
             shares[last] = 1;
-            expect_record(&READ_PLAN, plan(1, limit, &rising_chain(n), &shares), 18);
-            expect_record(&READ_PLAN, plan(2, limit, &rising_chain(n), &shares), 18);
-            expect_record(&READ_PLAN, plan(0, limit, &roots(n), &shares), 18);
+            expect_record(&PLAN, plan(1, limit, &rising_chain(n), &shares), 18);
+            expect_record(&PLAN, plan(2, limit, &rising_chain(n), &shares), 18);
+            expect_record(&PLAN, plan(0, limit, &roots(n), &shares), 18);
         }
     }
 }
@@ -291,10 +287,10 @@ fn plan_shares() {
 /// Helpands, shape and shares are each looked at over all nodes before the next.
 #[test]
 fn plan_helpands_before_shape_before_shares() {
-    expect_record(&READ_PLAN, plan(1, 5, &[0, 2], &[9, 9]), 16);
-    expect_record(&READ_PLAN, plan(1, 5, &[0, 1], &[9, 9]), 17);
-    expect_record(&READ_PLAN, plan(1, 5, &[1, 0, 3], &[9, 9, 9]), 16);
-    expect_record(&READ_PLAN, plan(1, 5, &[0, 0], &[9, 5]), 18);
+    expect_record(&PLAN, plan(1, 5, &[0, 2], &[9, 9]), 16);
+    expect_record(&PLAN, plan(1, 5, &[0, 1], &[9, 9]), 17);
+    expect_record(&PLAN, plan(1, 5, &[1, 0, 3], &[9, 9, 9]), 16);
+    expect_record(&PLAN, plan(1, 5, &[0, 0], &[9, 5]), 18);
 }
 
 fn moves_of(n: u32, routes: &[u32]) -> Record {
@@ -313,8 +309,8 @@ fn lowest_routes(n: u32, e: u32) -> Vec<u32> {
 
 #[test]
 fn moves_length() {
-    expect_lengths(&READ_MOVES, moves_of(1, &[]), 8, [31, 34]);
-    expect_lengths(&READ_MOVES, moves(3, &[1, 2], &[27, 29]), 8, [31, 34]);
+    expect_lengths(&MOVES, moves_of(1, &[]), 8, [31, 34]);
+    expect_lengths(&MOVES, moves(3, &[1, 2], &[27, 29]), 8, [31, 34]);
 }
 
 #[test]
@@ -328,7 +324,7 @@ fn moves_nodes() {
         (65, 32),
         (TOP, 32),
     ] {
-        expect_record(&READ_MOVES, moves_of(n, &[]), refusal);
+        expect_record(&MOVES, moves_of(n, &[]), refusal);
     }
 }
 
@@ -336,13 +332,13 @@ fn moves_nodes() {
 fn moves_entries() {
     for n in 2..=64 {
         let most = n * (n - 1);
-        expect_record(&READ_MOVES, moves_of(n, &lowest_routes(n, most)), 0);
-        expect_record(&READ_MOVES, moves_of(n, &lowest_routes(n, most + 1)), 33);
+        expect_record(&MOVES, moves_of(n, &lowest_routes(n, most)), 0);
+        expect_record(&MOVES, moves_of(n, &lowest_routes(n, most + 1)), 33);
     }
-    expect_record(&READ_MOVES, moves_of(1, &[1]), 33);
+    expect_record(&MOVES, moves_of(1, &[1]), 33);
     // In 32 bits, each of these E asks for the 8 bytes that are there.
     for e in [1 << 29, 1 << 30, 1 << 31, 3 << 30] {
-        expect(&READ_MOVES, &to_bytes(&[64, e]), 33);
+        expect(&MOVES, &to_bytes(&[64, e]), 33);
     }
 }
 
@@ -350,24 +346,24 @@ fn moves_entries() {
 fn moves_routes() {
     for n in 2..=64 {
         let last = n - 1;
-        expect_record(&READ_MOVES, moves_of(n, &[route(0, 0, 1)]), 0);
-        expect_record(&READ_MOVES, moves_of(n, &[route(last, last, last - 1)]), 0);
-        expect_record(&READ_MOVES, moves_of(n, &[route(n, 0, 1)]), 35);
-        expect_record(&READ_MOVES, moves_of(n, &[route(64, 0, 1)]), 35);
-        expect_record(&READ_MOVES, moves_of(n, &[TOP - 1]), 35);
-        expect_record(&READ_MOVES, moves_of(n, &[route(0, 0, 0)]), 35);
-        expect_record(&READ_MOVES, moves_of(n, &[route(last, last, last)]), 35);
+        expect_record(&MOVES, moves_of(n, &[route(0, 0, 1)]), 0);
+        expect_record(&MOVES, moves_of(n, &[route(last, last, last - 1)]), 0);
+        expect_record(&MOVES, moves_of(n, &[route(n, 0, 1)]), 35);
+        expect_record(&MOVES, moves_of(n, &[route(64, 0, 1)]), 35);
+        expect_record(&MOVES, moves_of(n, &[TOP - 1]), 35);
+        expect_record(&MOVES, moves_of(n, &[route(0, 0, 0)]), 35);
+        expect_record(&MOVES, moves_of(n, &[route(last, last, last)]), 35);
     }
     for n in 2..=63 {
-        expect_record(&READ_MOVES, moves_of(n, &[route(0, n, 0)]), 35);
-        expect_record(&READ_MOVES, moves_of(n, &[route(0, 0, n)]), 35);
+        expect_record(&MOVES, moves_of(n, &[route(0, n, 0)]), 35);
+        expect_record(&MOVES, moves_of(n, &[route(0, 0, n)]), 35);
     }
-    expect_record(&READ_MOVES, moves_of(64, &[262_142]), 0);
-    expect_record(&READ_MOVES, moves_of(64, &[262_143]), 35);
-    expect_record(&READ_MOVES, moves_of(64, &[262_145]), 35);
-    expect_record(&READ_MOVES, moves_of(64, &[1, 2]), 0);
-    expect_record(&READ_MOVES, moves_of(64, &[2, 2]), 35);
-    expect_record(&READ_MOVES, moves_of(64, &[2, 1]), 35);
+    expect_record(&MOVES, moves_of(64, &[262_142]), 0);
+    expect_record(&MOVES, moves_of(64, &[262_143]), 35);
+    expect_record(&MOVES, moves_of(64, &[262_145]), 35);
+    expect_record(&MOVES, moves_of(64, &[1, 2]), 0);
+    expect_record(&MOVES, moves_of(64, &[2, 2]), 35);
+    expect_record(&MOVES, moves_of(64, &[2, 1]), 35);
 }
 
 #[test]
@@ -380,18 +376,18 @@ fn moves_counts() {
         (1 << 31, 36),
         (TOP, 36),
     ] {
-        expect_record(&READ_MOVES, moves(3, &[1], &[count]), refusal);
-        expect_record(&READ_MOVES, moves(3, &[1, 2, 64], &[1, 1, count]), refusal);
+        expect_record(&MOVES, moves(3, &[1], &[count]), refusal);
+        expect_record(&MOVES, moves(3, &[1, 2, 64], &[1, 1, count]), refusal);
     }
     // Each count is bounded, their sum is not.
     let routes = lowest_routes(64, 64 * 63);
     let counts = vec![MOST; routes.len()];
-    expect_record(&READ_MOVES, moves(64, &routes, &counts), 0);
+    expect_record(&MOVES, moves(64, &routes, &counts), 0);
 }
 
 /// "Routes come before counts."
 #[test]
 fn moves_routes_before_counts() {
-    expect_record(&READ_MOVES, moves(3, &[1, 3], &[0, 1]), 35);
-    expect_record(&READ_MOVES, moves(3, &[1, 2], &[0, 1]), 36);
+    expect_record(&MOVES, moves(3, &[1, 3], &[0, 1]), 35);
+    expect_record(&MOVES, moves(3, &[1, 2], &[0, 1]), 36);
 }
