@@ -85,12 +85,12 @@ put-move-requires c κs =
 next-sender-requires-2 : tie.Need-next-sender-requires-2 Inv-loop μ-loop
 next-sender-requires-2 c κs =
     let q = c .before .before .before .before .before .before .before .before .before .before .before .before in
-    (start q .pre .0, start q .pre .1, omega (arith, sender-lt q))
+    (start q .pre .0, start q .pre .1, omega (arith, sender-lt q, receiver-lt q))
 
 next-receiver-requires-2 : tie.Need-next-receiver-requires-2 Inv-loop μ-loop
 next-receiver-requires-2 c κs =
     let q = c .before .before .before .before .before .before .before .before .before .before .before .before in
-    (start q .pre .0, start q .pre .1, omega (arith, receiver-lt q))
+    (start q .pre .0, start q .pre .1, omega (arith, sender-lt q, receiver-lt q))
 
 -- ---- what holds at the loop's head
 
