@@ -1,5 +1,5 @@
 -- The first node from a node on that has an amount, looked for one by one. Assumes nothing.
-use mathlib.Core.Path.{_≡_, subst}
+use mathlib.Core.Path.{_≡_, sym, ap, _∙_, subst}
 use mathlib.Core.Logic.{_≢_}
 use mathlib.Core.Bool.{false}
 use Prim.Native.Nat.{ℕ, _+_, _≤_, _<_}
@@ -53,6 +53,20 @@ module _ (nodes : ℕ) (amount : ℕ → ℕ) (from : ℕ) where
           };
           is = λ l. absurd (omega arith);
         }
+
+-- the same for amounts that are equal
+pub next-eq : {nodes : ℕ} {amount : ℕ → ℕ} (amount′ : ℕ → ℕ) → ((k : ℕ) → amount k ≡ amount′ k) → {from node count : ℕ}
+    → NextFrom nodes amount from node count → NextFrom nodes amount′ from node count
+next-eq amount′ e {node = node} x =
+    record {
+      first = record {
+        from-le = x .first .from-le;
+        to-le = x .first .to-le;
+        passes = λ h. ap (ltb 0) (sym (e node)) ∙ x .first .passes h;
+        none = λ k a b. ap (ltb 0) (sym (e k)) ∙ x .first .none k a b;
+      };
+      is = λ h. x .is h ∙ e node;
+    }
 
 -- what the next one says of the amounts
 module _ {nodes : ℕ} {amount : ℕ → ℕ} {from node count : ℕ} (x : NextFrom nodes amount from node count) where

@@ -1,5 +1,5 @@
 -- The moves of all subdomains, one subdomain after the other: how many there are, and how they are written. Assumes nothing.
-use mathlib.Core.Path.{_≡_, refl, sym, ap, _∙_}
+use mathlib.Core.Path.{_≡_, refl, sym, ap, ap₂, _∙_}
 use mathlib.Core.List.{List, map}
 use Prim.Native.Nat.{ℕ, zero, suc, _+_, _-_, _*_, _≤_, _<_}
 use native.Mathlib.Nat.{zero-add}
@@ -16,10 +16,11 @@ use Rattle.transfer.proofs.Turns.{matched-eq}
 use Rattle.transfer.proofs.Matched.{moves-few}
 
 -- only what nodes hold and are due is looked at
-pub moves-eq : (nodes : ℕ) (holding due due′ : ℕ → ℕ) → ((k : ℕ) → k < nodes → due k ≡ due′ k) → movesOf nodes holding due ≡ movesOf nodes holding due′
-moves-eq nodes holding due due′ e =
-    matched-eq nodes (λ k. surplusOf (holding k) (due k)) (λ k. shortageOf (holding k) (due k)) (λ k. surplusOf (holding k) (due′ k)) (λ k. shortageOf (holding k) (due′ k))
-    (λ k l. ap (surplusOf (holding k)) (e k l)) (λ k l. ap (shortageOf (holding k)) (e k l)) (2 * nodes) 0 0 0 0
+pub moves-eq : (nodes : ℕ) (holding due holding′ due′ : ℕ → ℕ) → ((k : ℕ) → k < nodes → holding k ≡ holding′ k) → ((k : ℕ) → k < nodes → due k ≡ due′ k)
+    → movesOf nodes holding due ≡ movesOf nodes holding′ due′
+moves-eq nodes holding due holding′ due′ h e =
+    matched-eq nodes (λ k. surplusOf (holding k) (due k)) (λ k. shortageOf (holding k) (due k)) (λ k. surplusOf (holding′ k) (due′ k)) (λ k. shortageOf (holding′ k) (due′ k))
+    (λ k l. ap₂ surplusOf (h k l) (e k l)) (λ k l. ap₂ shortageOf (h k l) (e k l)) (2 * nodes) 0 0 0 0
 
 module _ (nodes : ℕ) (table : List ℕ) (due : ℕ → ℕ → ℕ) where
   abbrev pub routesIn : ℕ → List ℕ

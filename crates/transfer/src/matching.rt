@@ -10,10 +10,10 @@ ghost use lib.ListN.{length};
 ghost use lib.Seq.{sets};
 ghost use Rattle.limit.specs.Limit.{maxNodes};
 ghost use Rattle.plan.specs.Tree.{at};
-ghost use Rattle.tree.specs.Totals.{held, totalsOf};
+ghost use Rattle.tree.specs.Totals.{held, tabulate, totalsOf};
 ghost use Rattle.words.specs.Buffer.{placed};
 ghost use Rattle.transfer.specs.Due.{dueOf, Allotted};
-ghost use Rattle.transfer.specs.Matching.{surplusOf, shortageOf, moveOf, NextFrom, movesOf, routeOf, countOf, allRoutes, allCounts};
+ghost use Rattle.transfer.specs.Matching.{moveOf, NextFrom, movesOf, routeOf, countOf, allRoutes, allCounts};
 
 // A node with a surplus or a shortage, and what remains of it; past the last such node, the number of nodes.
 struct Remaining {
@@ -21,18 +21,18 @@ struct Remaining {
     count: u32,
 }
 
-// What a node holds above its due amount.
-fn surplus(holding: u32, due: u32) -> u32
-    ensures { λ r. ⌜ r ≡ surplusOf holding due ⌝ }
+// What each node holds of subdomain n.
+fn holdings(table: &[u32; 4096], nodes: usize, n: usize) -> [u32; 64]
+    requires { ⌜ (nodes ≤ maxNodes) × (n < nodes) ⌝ }
+    ensures { λ r. ⌜ r ≡ tabulate nodes (λ (k : ℕ). held (now (table .entry)) k n) ⌝ }
 {
-    if due < holding { holding - due } else { 0 }
-}
-
-// What a node lacks of its due amount.
-fn shortage(holding: u32, due: u32) -> u32
-    ensures { λ r. ⌜ r ≡ shortageOf holding due ⌝ }
-{
-    if holding < due { due - holding } else { 0 }
+    let mut holding = [0u32; 64];
+    let mut k = 0;
+    while k < nodes {
+        holding[k] = table[64 * k + n];
+        k += 1;
+    }
+    holding
 }
 
 // Writes a move of subdomain n as entry e, unless its count is 0, and gives the number of entries then.
@@ -60,51 +60,23 @@ fn put_move(
     e + 1
 }
 
-// The first node from k on that has a surplus of subdomain n, and its surplus.
-fn next_sender(table: &[u32; 4096], due: &[u32; 64], nodes: usize, n: usize, k: usize) -> Remaining
-    requires { ⌜ (nodes ≤ maxNodes) × (n < nodes) × (k ≤ nodes) ⌝ }
+// The first node from k on whose amount is above its bound, and by how much: the next sender if nodes hold these amounts and are due
+// these bounds, and the next receiver if it is the other way round.
+fn next_above(amounts: &[u32; 64], bounds: &[u32; 64], nodes: usize, k: usize) -> Remaining
+    requires { ⌜ (nodes ≤ maxNodes) × (k ≤ nodes) ⌝ }
     ensures { λ r. ⌜
-        NextFrom nodes (λ (j : ℕ). surplusOf (held (now (table .entry)) j n) (at (now (due .entry)) j)) k (r .node) (r .count) ⌝ }
+        NextFrom nodes (λ (j : ℕ). at (now (amounts .entry)) j - at (now (bounds .entry)) j) k (r .node) (r .count) ⌝ }
 {
-    let mut s = k;
-    while s < nodes {
-        let count = surplus(table[64 * s + n], due[s]);
+    let mut j = k;
+    while j < nodes {
+        let count = numbers::less(amounts[j], bounds[j]);
         if count != 0 {
             return Remaining {
-                node: s,
+                node: j,
                 count: count,
             };
         }
-        s += 1;
-    }
-    Remaining {
-        node: nodes,
-        count: 0,
-    }
-}
-
-// The first node from k on that lacks some of its due amount of subdomain n, and what it lacks.
-fn next_receiver(
-    table: &[u32; 4096],
-    due: &[u32; 64],
-    nodes: usize,
-    n: usize,
-    k: usize,
-) -> Remaining
-    requires { ⌜ (nodes ≤ maxNodes) × (n < nodes) × (k ≤ nodes) ⌝ }
-    ensures { λ r. ⌜
-        NextFrom nodes (λ (j : ℕ). shortageOf (held (now (table .entry)) j n) (at (now (due .entry)) j)) k (r .node) (r .count) ⌝ }
-{
-    let mut r = k;
-    while r < nodes {
-        let count = shortage(table[64 * r + n], due[r]);
-        if count != 0 {
-            return Remaining {
-                node: r,
-                count: count,
-            };
-        }
-        r += 1;
+        j += 1;
     }
     Remaining {
         node: nodes,
@@ -115,7 +87,7 @@ fn next_receiver(
 // Writes the moves of subdomain n behind the first e entries, and gives the number of entries then. Each turn is done with a
 // sender or with a receiver.
 fn put_subdomain(
-    table: &[u32; 4096],
+    holding: &[u32; 64],
     due: &[u32; 64],
     nodes: usize,
     n: usize,
@@ -124,26 +96,26 @@ fn put_subdomain(
     e: usize,
 ) -> usize
     requires { ⌜ (nodes ≤ maxNodes) × (n < nodes) × (e + (nodes - 1) ≤ length (now routes)) × (e + (nodes - 1) ≤ length (now counts)) ⌝ }
-    ensures entries { λ k. ⌜ k ≡ e + length (movesOf nodes (λ (k : ℕ). held (now (table .entry)) k n) (at (now (due .entry)))) ⌝ }
+    ensures entries { λ k. ⌜ k ≡ e + length (movesOf nodes (at (now (holding .entry))) (at (now (due .entry)))) ⌝ }
     ensures routes { λ _. ⌜
         now (routes .exit) ≡ sets (now (routes .entry)) e
-        (map (routeOf n) (movesOf nodes (λ (k : ℕ). held (now (table .entry)) k n) (at (now (due .entry))))) ⌝ }
+        (map (routeOf n) (movesOf nodes (at (now (holding .entry))) (at (now (due .entry))))) ⌝ }
     ensures counts { λ _. ⌜
         now (counts .exit) ≡ sets (now (counts .entry)) e
-        (map countOf (movesOf nodes (λ (k : ℕ). held (now (table .entry)) k n) (at (now (due .entry))))) ⌝ }
+        (map countOf (movesOf nodes (at (now (holding .entry))) (at (now (due .entry))))) ⌝ }
 {
     let mut entries = e;
-    let mut s = next_sender(table, due, nodes, n, 0);
-    let mut r = next_receiver(table, due, nodes, n, 0);
+    let mut s = next_above(holding, due, nodes, 0);
+    let mut r = next_above(due, holding, nodes, 0);
     while s.node < nodes && r.node < nodes {
         let count = numbers::smaller(s.count, r.count);
         entries = put_move(routes, counts, entries, n, s.node, r.node, count);
         if s.count <= r.count {
             r.count -= count;
-            s = next_sender(table, due, nodes, n, s.node + 1);
+            s = next_above(holding, due, nodes, s.node + 1);
         } else {
             s.count -= count;
-            r = next_receiver(table, due, nodes, n, r.node + 1);
+            r = next_above(due, holding, nodes, r.node + 1);
         }
     }
     entries
@@ -175,8 +147,9 @@ pub fn all_moves(
     let mut e = 0;
     let mut n = 0;
     while n < nodes {
+        let holding = holdings(table, nodes, n);
         let due = due_amounts(&helpands, &shares, own[n], nodes, n);
-        e = put_subdomain(table, &due, nodes, n, routes, counts, e);
+        e = put_subdomain(&holding, &due, nodes, n, routes, counts, e);
         n += 1;
     }
     e

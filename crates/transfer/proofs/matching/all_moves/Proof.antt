@@ -36,7 +36,7 @@ fits nodes n e long long₀ h b l q =
 
 put-subdomain-requires : tie.Need-put-subdomain-requires Inv-loop μ-loop
 put-subdomain-requires c κs =
-    let t = c .before .before .before .before .before .before in
+    let t = c .before .before .before .before .before .before .before .before in
     let l = t .before .loop in
     let start = t .before .before .before .before .before in
     let a = start .args in
@@ -53,16 +53,19 @@ put-subdomain-requires c κs =
 loop-again : tie.Need-loop-again Inv-loop μ-loop
 loop-again c =
     let put = c .before .before .before .before in
-    let due = put .before .before .before .before in
-    let turn = due .before .before .before in
+    let due = put .before .before .before .before .before in
+    let held-by = due .before .before .before in
+    let turn = held-by .before in
     let head = turn .before in
     let l = head .loop in
     let a = head .before .before .before .before .args in
     let d = dues (a .t3) (a .t4) (head .before .own-amounts .result) in
     let r = put .put-subdomain in
-    let moves = movesOf (a .nodes) (λ (k : ℕ). held (now (a .table)) k (l .n)) (at (due .due-amounts .result)) in
+    let holding : ℕ → ℕ = λ k. held (now (a .table)) k (l .n) in
+    let moves = movesOf (a .nodes) (at (held-by .holdings .result)) (at (due .due-amounts .result)) in
     let same : moves ≡ movesIn (a .nodes) (now (a .table)) d (l .n) =
-    moves-eq (a .nodes) (λ (k : ℕ). held (now (a .table)) k (l .n)) (at (due .due-amounts .result)) (d (l .n))
+    moves-eq (a .nodes) (at (held-by .holdings .result)) (at (due .due-amounts .result)) holding (d (l .n))
+    (λ k b. ap (λ (xs : List ℕ). at xs k) (held-by .holdings .ensures) ∙ tabulate-at (a .nodes) holding k b)
     (λ k b. ap (λ (xs : List ℕ). at xs k) (due .due-amounts .ensures) ∙ tabulate-at (a .nodes) (d (l .n)) k b) in (
       omega (arith, turn .loop-test .taken),
       written-more (a .nodes) (now (a .table)) d (now (a .routes)) (now (a .counts)) (l .n) (l .routes) (l .counts) (l .e) (l .inv .1) moves
@@ -113,6 +116,7 @@ all-moves-spec =
     μ-loop
     own-amounts-requires
     (λ c. (omega arith, written-none _ _ _ _ _))  -- loop-holds
+    (λ c κs. search needs)  -- holdings-requires
     (λ c. search needs)  -- mul-due-amounts
     (λ c. search needs)  -- array-read-due-amounts
     (λ c κs. search needs)  -- due-amounts-requires

@@ -10,29 +10,36 @@ use borrow.Author.Tests.{ltb-true, ltb-false}
 use lib.ListN.{length}
 use denote.Ref.{now}
 use Rattle.plan.specs.Tree.{at}
-use Rattle.tree.specs.Totals.{held}
-use Rattle.transfer.specs.Matching.{Move, surplusOf, shortageOf, moveOf, movesOf}
+use Rattle.transfer.specs.Matching.{Move, surplusOf, shortageOf, moveOf, NextFrom, movesOf}
 use Rattle.transfer.proofs.Entries.{Pending, begin, finish, room, sender-next, receiver-next}
+use Rattle.transfer.proofs.Next.{next-eq}
 use Rattle.transfer.proofs.Matched.{moves-few}
 use Rattle.transfer.proofs.matching.put_subdomain.Statement.{statement}
 use Rattle.transfer.proofs.matching.put_subdomain.Tie as tie
 
--- what node k has of subdomain n above its due amount, and what it lacks of it
-abbrev above : List ℕ → ℕ → List ℕ → ℕ → ℕ
-above table n due k = surplusOf (held table k n) (at due k)
+-- what node k holds above its due amount, and what it lacks of it
+abbrev above : List ℕ → List ℕ → ℕ → ℕ
+above holding due k = surplusOf (at holding k) (at due k)
 
-abbrev lacks : List ℕ → ℕ → List ℕ → ℕ → ℕ
-lacks table n due k = shortageOf (held table k n) (at due k)
+abbrev lacks : List ℕ → List ℕ → ℕ → ℕ
+lacks holding due k = shortageOf (at holding k) (at due k)
 
-abbrev whole : List ℕ → ℕ → ℕ → List ℕ → List Move
-whole table nodes n due = movesOf nodes (λ (k : ℕ). held table k n) (at due)
+abbrev whole : ℕ → List ℕ → List ℕ → List Move
+whole nodes holding due = movesOf nodes (at holding) (at due)
+
+-- both are what the one amount is above the other
+sender : {nodes : ℕ} (holding due : List ℕ) {from node count : ℕ} → NextFrom nodes (λ k. at holding k - at due k) from node count → NextFrom nodes (above holding due) from node count
+sender holding due x = next-eq (above holding due) (λ k. omega arith) x
+
+receiver : {nodes : ℕ} (holding due : List ℕ) {from node count : ℕ} → NextFrom nodes (λ k. at due k - at holding k) from node count → NextFrom nodes (lacks holding due) from node count
+receiver holding due x = next-eq (lacks holding due) (λ k. omega arith) x
 
 abbrev Inv-loop : tie.InvT-loop
-Inv-loop table due nodes n routes₀ counts₀ e entries₀ s₀ r₀ routes counts entries s r =
-    Pending nodes (above table n due) (lacks table n due) n routes₀ counts₀ e (whole table nodes n due) routes counts entries (s .node) (s .count) (r .node) (r .count)
+Inv-loop holding due nodes n routes₀ counts₀ e entries₀ s₀ r₀ routes counts entries s r =
+    Pending nodes (above holding due) (lacks holding due) n routes₀ counts₀ e (whole nodes holding due) routes counts entries (s .node) (s .count) (r .node) (r .count)
 
 abbrev μ-loop : tie.MeasureT-loop
-μ-loop table due nodes n routes₀ counts₀ e entries₀ s₀ r₀ routes counts entries s r = 2 * nodes - (s .node + r .node)
+μ-loop holding due nodes n routes₀ counts₀ e entries₀ s₀ r₀ routes counts entries s r = 2 * nodes - (s .node + r .node)
 
 -- ---- what is known once the pair's move is computed
 
@@ -47,13 +54,13 @@ module _ (c : tie.After-smaller Inv-loop μ-loop) where
   start = head .before .before .before .before .before
 
   abbrev surplus : ℕ → ℕ
-  surplus = let a = start .args in above (now (a .table)) (a .n) (now (a .due))
+  surplus = let a = start .args in above (now (a .holding)) (now (a .due))
 
   abbrev shortage : ℕ → ℕ
-  shortage = let a = start .args in lacks (now (a .table)) (a .n) (now (a .due))
+  shortage = let a = start .args in lacks (now (a .holding)) (now (a .due))
 
   abbrev all : List Move
-  all = let a = start .args in whole (now (a .table)) (a .nodes) (a .n) (now (a .due))
+  all = let a = start .args in whole (a .nodes) (now (a .holding)) (now (a .due))
 
   -- both are nodes
   sender-lt : head .loop .s .node < start .args .nodes
@@ -72,7 +79,7 @@ module _ (c : tie.After-smaller Inv-loop μ-loop) where
       let b : k ≤ a .e + length all =
       room (a .nodes) surplus shortage (a .n) (now (a .routes)) (now (a .counts)) (a .e) all (l .routes) (l .counts) (l .entries) (l .s .node) (l .s .count) (l .r .node) (l .r .count)
       (l .inv) sender-lt receiver-lt (c .smaller .result) (c .smaller .ensures) in
-      let f : length all ≤ a .nodes - 1 = moves-few (a .nodes) (λ (j : ℕ). held (now (a .table)) j (a .n)) (at (now (a .due))) in (
+      let f : length all ≤ a .nodes - 1 = moves-few (a .nodes) (at (now (a .holding))) (at (now (a .due))) in (
         within k (a .e) (length all) (a .nodes - 1) (length (l .routes)) (length (now (a .routes))) b f (p .2) (l .inv .moves .routes-long),
         within k (a .e) (length all) (a .nodes - 1) (length (l .counts)) (length (now (a .counts))) b f (p .3) (l .inv .moves .counts-long),
       )
@@ -82,15 +89,15 @@ put-move-requires c κs =
     let q = c .before .before in
     (omega arith, omega (arith, sender-lt q), omega (arith, receiver-lt q), has-room q .0, has-room q .1)
 
-next-sender-requires-2 : tie.Need-next-sender-requires-2 Inv-loop μ-loop
-next-sender-requires-2 c κs =
+next-above-requires-3 : tie.Need-next-above-requires-3 Inv-loop μ-loop
+next-above-requires-3 c κs =
     let q = c .before .before .before .before .before .before .before .before .before .before .before .before in
-    (start q .pre .0, start q .pre .1, omega (arith, sender-lt q, receiver-lt q))
+    (start q .pre .0, omega (arith, sender-lt q, receiver-lt q))
 
-next-receiver-requires-2 : tie.Need-next-receiver-requires-2 Inv-loop μ-loop
-next-receiver-requires-2 c κs =
+next-above-requires-4 : tie.Need-next-above-requires-4 Inv-loop μ-loop
+next-above-requires-4 c κs =
     let q = c .before .before .before .before .before .before .before .before .before .before .before .before in
-    (start q .pre .0, start q .pre .1, omega (arith, sender-lt q, receiver-lt q))
+    (start q .pre .0, omega (arith, sender-lt q, receiver-lt q))
 
 -- ---- what holds at the loop's head
 
@@ -98,9 +105,9 @@ loop-holds : tie.Need-loop-holds Inv-loop μ-loop
 loop-holds c =
     let x = c .before in
     let a = x .before .before .before .args in
-    begin (a .nodes) (above (now (a .table)) (a .n) (now (a .due))) (lacks (now (a .table)) (a .n) (now (a .due))) (a .n) (now (a .routes)) (now (a .counts)) (a .e)
-    (x .next-sender .result .node) (x .next-sender .result .count) (c .next-receiver .result .node) (c .next-receiver .result .count)
-    (omega (arith, x .before .before .before .pre .1)) (x .next-sender .ensures) (c .next-receiver .ensures)
+    begin (a .nodes) (above (now (a .holding)) (now (a .due))) (lacks (now (a .holding)) (now (a .due))) (a .n) (now (a .routes)) (now (a .counts)) (a .e)
+    (x .next-above .result .node) (x .next-above .result .count) (c .next-above2 .result .node) (c .next-above2 .result .count)
+    (omega (arith, x .before .before .before .pre .1)) (sender (now (a .holding)) (now (a .due)) (x .next-above .ensures)) (receiver (now (a .holding)) (now (a .due)) (c .next-above2 .ensures))
 
 loop-again : tie.Need-loop-again Inv-loop μ-loop
 loop-again c =
@@ -112,7 +119,7 @@ loop-again c =
     sender-next (a .nodes) (surplus q) (shortage q) (a .n) (now (a .routes)) (now (a .counts)) (a .e) (all q) (l .routes) (l .counts) (l .entries) (l .s .node) (l .s .count) (l .r .node) (l .r .count)
     (l .inv) (sender-lt q) (receiver-lt q) (q .smaller .result) (q .smaller .ensures)
     (p .put-move .last .0) (p .put-move .last .1 .0) (p .put-move .result) (p .put-move .ensures .0) (p .put-move .ensures .1 .0) (p .put-move .ensures .1 .1)
-    (t .if3 .taken) (c .next-sender2 .result .node) (c .next-sender2 .result .count) (c .next-sender2 .ensures)
+    (t .if3 .taken) (c .next-above3 .result .node) (c .next-above3 .result .count) (sender (now (a .holding)) (now (a .due)) (c .next-above3 .ensures))
 
 loop-again-2 : tie.Need-loop-again-2 Inv-loop μ-loop
 loop-again-2 c =
@@ -124,20 +131,20 @@ loop-again-2 c =
     receiver-next (a .nodes) (surplus q) (shortage q) (a .n) (now (a .routes)) (now (a .counts)) (a .e) (all q) (l .routes) (l .counts) (l .entries) (l .s .node) (l .s .count) (l .r .node) (l .r .count)
     (l .inv) (sender-lt q) (receiver-lt q) (q .smaller .result) (q .smaller .ensures)
     (p .put-move .last .0) (p .put-move .last .1 .0) (p .put-move .result) (p .put-move .ensures .0) (p .put-move .ensures .1 .0) (p .put-move .ensures .1 .1)
-    (t .if3 .left) (c .next-receiver2 .result .node) (c .next-receiver2 .result .count) (c .next-receiver2 .ensures)
+    (t .if3 .left) (c .next-above4 .result .node) (c .next-above4 .result .count) (receiver (now (a .holding)) (now (a .due)) (c .next-above4 .ensures))
 
 returns : tie.Need-returns Inv-loop μ-loop
 returns c =
     let l = c .before .before .before .before in
     let a = l .before .before .before .before .before .args in
-    finish (a .nodes) (above (now (a .table)) (a .n) (now (a .due))) (lacks (now (a .table)) (a .n) (now (a .due))) (a .n) (now (a .routes)) (now (a .counts)) (a .e) (whole (now (a .table)) (a .nodes) (a .n) (now (a .due)))
+    finish (a .nodes) (above (now (a .holding)) (now (a .due))) (lacks (now (a .holding)) (now (a .due))) (a .n) (now (a .routes)) (now (a .counts)) (a .e) (whole (a .nodes) (now (a .holding)) (now (a .due)))
     (l .loop .routes) (l .loop .counts) (l .loop .entries) (l .loop .s .node) (l .loop .s .count) (l .loop .r .node) (l .loop .r .count) (l .loop .inv) (inr (ltb-false (l .loop .r .node) (a .nodes) (c .if2 .left)))
 
 returns-2 : tie.Need-returns-2 Inv-loop μ-loop
 returns-2 c =
     let l = c .before .before in
     let a = l .before .before .before .before .before .args in
-    finish (a .nodes) (above (now (a .table)) (a .n) (now (a .due))) (lacks (now (a .table)) (a .n) (now (a .due))) (a .n) (now (a .routes)) (now (a .counts)) (a .e) (whole (now (a .table)) (a .nodes) (a .n) (now (a .due)))
+    finish (a .nodes) (above (now (a .holding)) (now (a .due))) (lacks (now (a .holding)) (now (a .due))) (a .n) (now (a .routes)) (now (a .counts)) (a .e) (whole (a .nodes) (now (a .holding)) (now (a .due)))
     (l .loop .routes) (l .loop .counts) (l .loop .entries) (l .loop .s .node) (l .loop .s .count) (l .loop .r .node) (l .loop .r .count) (l .loop .inv) (inl (c .if1 .left))
 
 pub put-subdomain-spec : {M : Type 1} → statement M
@@ -146,19 +153,19 @@ put-subdomain-spec =
     (tie.spec
     Inv-loop
     μ-loop
-    (λ c κs. search needs)  -- next-sender-requires
-    (λ c κs. search needs)  -- next-receiver-requires
+    (λ c κs. search needs)  -- next-above-requires
+    (λ c κs. search needs)  -- next-above-requires-2
     loop-holds
     (λ c κs. search needs)  -- smaller-requires
     put-move-requires
     (λ c. search needs)  -- sub-r
-    (λ c. search needs)  -- add-next-sender
-    next-sender-requires-2
+    (λ c. search needs)  -- add-next-above
+    next-above-requires-3
     (λ c. search needs)  -- loop-less
     loop-again
     (λ c. search needs)  -- sub-s
-    (λ c. search needs)  -- add-next-receiver
-    next-receiver-requires-2
+    (λ c. search needs)  -- add-next-above-2
+    next-above-requires-4
     (λ c. search needs)  -- loop-less-2
     loop-again-2
     (λ c. search needs)  -- same-length
