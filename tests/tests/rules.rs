@@ -36,7 +36,7 @@ fn primary_before_kept() {
     }
 }
 
-/// In kind 0 too, what others hold goes home.
+/// In kind 0 too, what others hold goes to its owner.
 #[test]
 fn primary_with_moves() {
     let cells = [cell(0, 1), cell(1, 0), cell(2, 2)];
@@ -47,7 +47,7 @@ fn primary_with_moves() {
     };
     leads_to(&step, 0, [0, 1, 2], [0; 3]);
     for implementation in IMPLEMENTATIONS {
-        let Judged { moves, .. } = judged(implementation, &step, "strangers");
+        let Judged { moves, .. } = judged(implementation, &step, "other nodes");
         // Subdomain 0 from 1 to 0, subdomain 1 from 0 to 1.
         assert_eq!(moves.routes, [64, 4096 + 1]);
         assert_eq!(moves.counts, [36, 36]);
@@ -111,9 +111,9 @@ fn the_rest_fills_up() {
     leads_to(&Step { sheet, old }, 1, [0, 0, 0], [0, 22, 32]);
 }
 
-/// What a stranger holds it does not keep.
+/// What a node outside the family holds it does not keep.
 #[test]
-fn strangers_keep_nothing() {
+fn other_nodes_keep_nothing() {
     // Node 2 helps node 1 and holds all of subdomain 0.
     let cells = [cell(1, 1), cell(2, 0), cell(2, 2)];
     let sheet = sheet(3, 10, &cells, &[30, 60, 10]).bytes();

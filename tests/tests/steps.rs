@@ -207,7 +207,7 @@ const EACH_KIND: [Named; 9] = [
     ("one holder for each subdomain", |step| {
         step.sheet.n > 1 && step.sheet.cells.len() <= step.sheet.n as usize
     }),
-    ("a holder from outside the old family", strangers_hold),
+    ("a holder from outside the old family", other_nodes_hold),
     ("P no multiple of N", |step| {
         step.sheet.total() % step.sheet.n > 0
     }),
@@ -254,7 +254,7 @@ fn is_full(step: &Judged) -> bool {
 }
 
 /// Whether someone holds particles who is not of the family.
-fn strangers_hold(step: &Judged) -> bool {
+fn other_nodes_hold(step: &Judged) -> bool {
     let helpand = |node: u32| match &step.old {
         Some(old) => old.helpands[node as usize],
         None => node,
