@@ -1,10 +1,8 @@
 // The bench program, document 01: reads a sheet and an old plan or nothing from standard input, and prints the step.
 use libc::STDIN_FILENO;
 use libc::STDOUT_FILENO;
+use run::FRONT_SIZE;
 use run::TEXT_SIZE;
-
-// The longest input that can be accepted, and one byte: a longer one prints what its first bytes print (run, proofs/LongInput.antt).
-const FRONT: usize = 33_305;
 
 // Prints the text for this input.
 fn print(input: &[u8]) {
@@ -29,9 +27,9 @@ fn skip_all() {
 }
 
 fn main() {
-    let mut input = [0u8; FRONT];
+    let mut input = run::input_front();
     let n = io::read_full(STDIN_FILENO, &mut input);
-    if n == FRONT {
+    if n == FRONT_SIZE {
         skip_all();
     }
     print(&input[..n]);

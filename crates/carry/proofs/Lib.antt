@@ -1,4 +1,3 @@
 pub mod Carried
 pub mod ReadBack
-pub mod Vectors
 pub mod Answers

@@ -11,8 +11,8 @@ use lib.ListN.{length, take, drop}
 use lib.Seq.{take-at}
 use Rattle.fold.specs.Sum.{sum}
 use Rattle.fold.proofs.Tests.{passed, handed}
-use Rattle.limit.specs.Limit.{limitOf}
-use Rattle.plan.specs.Tree.{at}
+use Rattle.limit.specs.Limit.{limitOf, tableSize}
+use Rattle.arrays.specs.Arrays.{at}
 use Rattle.sheet.specs.declared.SheetAnswer.{SheetAnswer}
 use Rattle.sheet.specs.Sheet.{readSheet, accepted as sheetAccepted}
 use Rattle.sheet.specs.Table.{tableOf}
@@ -98,7 +98,7 @@ module _ (s m : List ℕ) (size : ℕ) (d : Done s m size) where
       writable-kept (readSheet s .n) (readSheet s .t) (tableIn s) (routesIn m) (countsIn m) old-writable acceptable (d .within)
 
   -- no particle is lost
-  pub next-sum : sum 4096 (at (nextTable s m)) ≡ readSheet s .p
+  pub next-sum : sum tableSize (at (nextTable s m)) ≡ readSheet s .p
   next-sum =
       let k = old-writable in
       let fine = acceptable-fine (readSheet s .n) (k .n-high) (routesIn m) (countsIn m) acceptable in

@@ -6,6 +6,7 @@ use mathlib.Core.List.{List}
 use mathlib.Core.Bool.{Bool, cond, not}
 use lib.Dec.{eqb, ltb}
 use lib.ListN.{length}
+use Rattle.words.specs.Checks.{refuseIf, refuseAs}
 use Rattle.words.specs.Buffer.{placed}
 use Rattle.sheet.specs.declared.Sheet.{Sheet}
 use Rattle.sheet.specs.Sheet.{readSheet, refusalNumber as sheetNumber, accepted as sheetAccepted}
@@ -65,21 +66,18 @@ nextSheet s m = sheetBytes (readSheet s .n) (readSheet s .t) (nextTable s m)
 
 -- ---- the checks, in the order written
 
-abbrev pub refuseIf : Bool → ℕ → CarryAnswer → CarryAnswer
-refuseIf test k rest = cond test (refused k) rest
-
 -- 41, 42 and 43, with a buffer of so many bytes
 unfoldable pub pairAnswer : List ℕ → List ℕ → ℕ → CarryAnswer
 pairAnswer s m size =
-    refuseIf (not (eqb (readSheet s .n) (readMoves m .n))) 41
-    (refuseIf (not (withinIn s m)) 42
-    (refuseIf (ltb size (length (nextSheet s m))) 43
+    refuseIf (not (eqb (readSheet s .n) (readMoves m .n))) (refused 41)
+    (refuseIf (not (withinIn s m)) (refused 42)
+    (refuseIf (ltb size (length (nextSheet s m))) (refused 43)
     (accepted (length (nextSheet s m)))))
 
 unfoldable pub carryAnswer : List ℕ → List ℕ → ℕ → CarryAnswer
 carryAnswer s m size =
-    refuseIf (not (eqb (readSheet s .refusal) 0)) (readSheet s .refusal)
-    (refuseIf (not (eqb (readMoves m .refusal) 0)) (readMoves m .refusal)
+    refuseAs refused (readSheet s .refusal)
+    (refuseAs refused (readMoves m .refusal)
     (pairAnswer s m size))
 
 -- the buffer afterwards: it begins with the sheet that follows, or is as it was

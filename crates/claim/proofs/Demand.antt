@@ -12,23 +12,21 @@ use lib.ListN.{length, take, replicate}
 use lib.Seq.{getD-take, take-at}
 use Rattle.fold.proofs.Tests.{either, all-fails, and-left, and-right, and-both}
 use Rattle.limit.specs.Limit.{limitOf}
-use Rattle.words.specs.Words.{padded}
+use Rattle.arrays.specs.Arrays.{padded, at}
 use Rattle.sheet.specs.declared.SheetAnswer.{SheetAnswer}
 use Rattle.sheet.specs.Sheet.{readSheet}
-use Rattle.sheet.specs.Table.{tableIn}
+use Rattle.sheet.specs.Table.{tableIn, held}
 use Rattle.sheet.proofs.Accepted.{sheet-accepted}
 use Rattle.plan.specs.declared.Plan.{Plan}
-use Rattle.plan.specs.Tree.{at, Tree}
+use Rattle.plan.specs.Tree.{Tree}
 use Rattle.plan.specs.Plan.{readPlan, helpandsOf, sharesOf}
 use Rattle.plan.proofs.Accepted.{plan-accepted, helpands-are}
-use Rattle.plan.proofs.Checks.{padded-same}
 use Rattle.moves.specs.declared.MovesAnswer.{MovesAnswer}
 use Rattle.moves.specs.Moves.{readMoves, routesOf, countsOf, accepted as movesAccepted}
-use Rattle.tree.specs.Totals.{held, primary}
+use Rattle.tree.specs.Primary.{primary}
 use Rattle.tree.specs.Weigh.{holds}
 use Rattle.tree.proofs.Keeping.{division-iff-holds}
 use Rattle.transfer.specs.Carry.{carried as carriedTable}
-use Rattle.weigh.specs.Weigh.{totalsIn}
 use Rattle.rebuild.specs.Target.{targetOf}
 use Rattle.decide.specs.declared.Decision.{Decision}
 use Rattle.decide.proofs.Decided.{KeptFine, RebuiltFine, decided-kept, decided-rebuilt}
@@ -42,6 +40,8 @@ use Rattle.carry.specs.Carry.{nextTable, nextSheet, carryAnswer, nextAfter}
 use Rattle.carry.proofs.ReadBack as carried
 use Rattle.claim.specs.Claim.{Overloaded, AcceptedTree, NoTree, Fits, Rival, Balanced, Claim, Demand3, carriedAnswer, carriedNext}
 use Rattle.claim.proofs.Agree.{tree-agree, within-agree, target-agree, due-agree}
+use Rattle.arrays.proofs.Padded.{padded-same}
+use Rattle.sheet.specs.Totals.{totalsIn}
 
 -- ---- the old plan, as the demand has it and as it is read
 

@@ -8,12 +8,11 @@ use Prim.Native.Nat.{ℕ, _≤_, _<_}
 use lib.Dec.{eqb}
 use lib.ListN.{length, take}
 use Rattle.sheet.specs.Sheet.{readSheet}
-use Rattle.sheet.specs.Table.{tableIn}
-use Rattle.plan.specs.Tree.{at, Tree}
+use Rattle.sheet.specs.Table.{tableIn, held}
+use Rattle.plan.specs.Tree.{Tree}
 use Rattle.plan.specs.Plan.{readPlan, helpandsOf, sharesOf, accepted as planAccepted}
-use Rattle.tree.specs.Totals.{held}
+use Rattle.sheet.specs.Totals.{totalsIn}
 use Rattle.tree.specs.Division.{WithinLimit, OnTarget, ownOf}
-use Rattle.weigh.specs.Weigh.{totalsIn}
 use Rattle.rebuild.specs.Target.{targetOf}
 use Rattle.transfer.specs.Due.{dueOf}
 use Rattle.planner.specs.declared.StepAnswer.{StepAnswer}
@@ -24,6 +23,7 @@ use Rattle.carry.specs.Carry.{nextSheet, carryAnswer, nextAfter}
 use Rattle.carry.specs.Carry as carry
 use Rattle.claim.specs.declared.Outcome.{Outcome}
 use Rattle.claim.specs.declared.Outcome.the-variants.{Planned, Refused}
+use Rattle.arrays.specs.Arrays.{at}
 
 -- ---- what the demand is about
 

@@ -13,13 +13,13 @@ use Rattle.fold.specs.Sum.{only, sum}
 use Rattle.fold.proofs.Sums.{sum-eq, sum-zeros, sum-term}
 use Rattle.fold.proofs.Tests.{either, and-left, and-right, all-of, only-max}
 use Rattle.limit.specs.Limit.{maxNodes, maxTolerance, maxTotal, limitOf}
-use Rattle.plan.specs.Tree.{at, helpandsBelow, Tree}
+use Rattle.plan.specs.Tree.{helpandsBelow, Tree}
 use Rattle.plan.proofs.RoundTrip.{ReadBack, tree-read-written, roots-read-written}
-use Rattle.tree.specs.Totals.{held, totalOf, totalsOf, primary}
+use Rattle.sheet.specs.Table.{held}
 use Rattle.tree.specs.Family.{helps, overHelpers}
 use Rattle.tree.specs.Weigh.{least, holds}
 use Rattle.tree.specs.Division.{WithinLimit, OnTarget, ownOf}
-use Rattle.tree.proofs.Tabulate.{zeros-at, tabulate-at, length-tabulate}
+use Rattle.arrays.specs.Arrays.{at}
 use Rattle.tree.proofs.Weighing.{least-is}
 use Rattle.tree.proofs.Keeping.{holds-at}
 use Rattle.shares.specs.Shares.{shareOf}
@@ -30,6 +30,10 @@ use Rattle.rebuild.proofs.TargetSums.{targets-within-limit, WithinTargets}
 use Rattle.rebuild.proofs.Rebuilding.{Balanced, rebuilt-on-target}
 use Rattle.decide.specs.declared.Decision.{Decision}
 use Rattle.decide.specs.Decide.{primaryPlan, leastsOf, keptPlan, rebuiltPlan, decided}
+use Rattle.arrays.proofs.Padded.{zeros-at}
+use Rattle.arrays.proofs.Tabulate.{tabulate-at, length-tabulate}
+use Rattle.sheet.specs.Totals.{totalOf, totalsOf}
+use Rattle.tree.specs.Primary.{primary}
 
 -- a sheet's table and totals with its limit, and an old tree or none
 pub record Given (nodes p t : ℕ) (table totals : List ℕ) (tree : Bool) (old : List ℕ) : Type 0 where

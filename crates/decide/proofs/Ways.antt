@@ -5,13 +5,14 @@ use mathlib.Core.List.{List}
 use Prim.Native.Nat.{ℕ}
 use lib.Dec.{leb}
 use Rattle.fold.specs.All.{all}
-use Rattle.plan.specs.Tree.{at}
-use Rattle.tree.specs.Totals.{held, primary}
+use Rattle.arrays.specs.Arrays.{at}
+use Rattle.sheet.specs.Table.{held}
 use Rattle.tree.specs.Weigh.{holds}
 use Rattle.tree.proofs.Weighing.{holds-tabulated}
 use Rattle.shares.specs.Shares.{sharesOf}
 use Rattle.decide.specs.declared.Decision.{Decision}
 use Rattle.decide.specs.Decide.{primaryPlan, leastsOf, rebuiltPlan, treePlan, decided}
+use Rattle.tree.specs.Primary.{primary}
 
 module _ (nodes p limit : ℕ) (table totals old : List ℕ) where
   -- ---- with an old tree, whose leasts were worked out and tested

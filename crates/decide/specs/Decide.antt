@@ -3,12 +3,13 @@ use mathlib.Core.Bool.{Bool, _&&_, cond}
 use mathlib.Core.List.{List}
 use Prim.Native.Nat.{ℕ}
 use lib.ListN.{replicate}
-use Rattle.plan.specs.Tree.{at}
-use Rattle.tree.specs.Totals.{held, tabulate, primary}
+use Rattle.arrays.specs.Arrays.{at, tabulate}
+use Rattle.sheet.specs.Table.{held}
 use Rattle.tree.specs.Weigh.{least, holds}
 use Rattle.shares.specs.Shares.{sharesOf}
 use Rattle.rebuild.specs.Rebuild.{rebuiltOf}
 use Rattle.decide.specs.declared.Decision.{Decision}
+use Rattle.tree.specs.Primary.{primary}
 
 -- each node's own number
 abbrev pub ownNumbers : ℕ → List ℕ

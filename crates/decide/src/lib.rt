@@ -1,12 +1,14 @@
 // Document 01, 'Deciding': the plan of a step is primary, or the old tree kept, or a tree rebuilt.
+use limit::TABLE_SIZE;
 ghost use mathlib.Core.Path.{_≡_};
 ghost use mathlib.Core.Bool.{true};
 ghost use Prim.Native.Nat.{ℕ, _≤_};
 ghost use Rattle.fold.specs.Sum.{sum};
 ghost use Rattle.limit.specs.Limit.{maxNodes, maxTotal};
-ghost use Rattle.plan.specs.Tree.{at, helpandsBelow, Tree};
-ghost use Rattle.tree.specs.Totals.{totalsOf};
+ghost use Rattle.plan.specs.Tree.{helpandsBelow, Tree};
+ghost use Rattle.sheet.specs.Totals.{totalsOf};
 ghost use Rattle.decide.specs.Decide.{ownNumbers, primaryPlan, rebuiltPlan, treePlan, decided};
+ghost use Rattle.arrays.specs.Arrays.{at};
 
 // A plan without its N and limit.
 pub struct Decision {
@@ -58,7 +60,7 @@ fn rebuilt_plan(totals: [u32; 64], old: [u32; 64], nodes: usize, p: u32) -> Deci
 
 // The old tree kept if it holds, and rebuilt otherwise.
 fn weighed_plan(
-    table: &[u32; 4096],
+    table: &[u32; TABLE_SIZE],
     totals: [u32; 64],
     old: [u32; 64],
     nodes: usize,
@@ -84,7 +86,7 @@ fn weighed_plan(
 
 // The plan of a step with these totals, which add up to p. `tree` says whether there is an old tree.
 pub fn decide(
-    table: &[u32; 4096],
+    table: &[u32; TABLE_SIZE],
     totals: [u32; 64],
     tree: bool,
     old: [u32; 64],

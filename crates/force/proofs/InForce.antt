@@ -17,7 +17,7 @@ use Rattle.fold.proofs.Tests.{either, or-left, or-right, all-at}
 use Rattle.limit.specs.Limit.{maxNodes}
 use Rattle.words.specs.Words.{words}
 use Rattle.plan.specs.declared.PlanAnswer.{PlanAnswer}
-use Rattle.plan.specs.Tree.{at, isRoot, Tree}
+use Rattle.plan.specs.Tree.{isRoot, Tree}
 use Rattle.plan.specs.Plan.{helpandsOf, readPlan}
 use Rattle.plan.proofs.Trees.{tree-alone}
 use Rattle.plan.proofs.Accepted.{Accepted, plan-accepted, helpands-are}
@@ -25,6 +25,7 @@ use Rattle.plan.proofs.AcceptedTree.{accepted-tree}
 use Rattle.force.specs.declared.PartAnswer.{PartAnswer}
 use Rattle.force.specs.Force.{Where, ofOld, ofNew, emptyStretch, isRefused, sameHelpands, noTree, inForce, Points, partOf}
 use Rattle.force.proofs.Stretch.{words-part}
+use Rattle.arrays.specs.Arrays.{at}
 
 -- ---- no test passed
 

@@ -7,7 +7,7 @@ use Prim.Native.Nat.{ℕ, _*_}
 use native.Mathlib.Omega.{arith}
 use borrow.Author.Tests.{eq-eqb, ne-eqb}
 use Rattle.plan.specs.declared.PlanRefusal.{PlanRefusal}
-use Rattle.plan.specs.Tree.{at}
+use Rattle.arrays.specs.Arrays.{at}
 use Rattle.plan.specs.Plan.{accepted, refused, refusalNumber, helpandsOf, readPlan}
 use Rattle.plan.proofs.Answers.{number-more}
 use Rattle.force.specs.Force.{ofOld, ofNew, emptyStretch, sameHelpands, inForce}

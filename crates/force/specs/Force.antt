@@ -10,7 +10,7 @@ use lib.Dec.{eqb}
 use denote.Ref.{RefT, ptr, now}
 use Rattle.fold.specs.All.{all}
 use Rattle.plan.specs.declared.PlanAnswer.{PlanAnswer}
-use Rattle.plan.specs.Tree.{at}
+use Rattle.arrays.specs.Arrays.{at}
 use Rattle.plan.specs.Plan.{helpandsOf, readPlan}
 use Rattle.force.specs.declared.PartAnswer.{PartAnswer}
 use Rattle.force.specs.declared.Chosen.{Chosen}

@@ -4,7 +4,7 @@ use plan::PlanReading;
 ghost use mathlib.Core.Path.{_≡_};
 ghost use Prim.Native.Nat.{_+_, _*_, _≤_};
 ghost use lib.ListN.{length};
-ghost use Rattle.plan.specs.Tree.{at};
+ghost use Rattle.arrays.specs.Arrays.{at};
 ghost use Rattle.plan.specs.Plan.{helpandsOf};
 ghost use Rattle.force.specs.Force.{inForce, Points, partOf, whereOf, sameHelpands};
 

@@ -5,6 +5,10 @@ use Prim.Native.Nat.{ℕ, _+_, _-_, _*_, _/_, max}
 abbrev pub maxNodes : ℕ
 maxNodes = 64
 
+-- a table of counts has a count for each of 64 holders and 64 subdomains
+abbrev pub tableSize : ℕ
+tableSize = 4096
+
 abbrev pub maxTolerance : ℕ
 maxTolerance = 99
 

@@ -5,6 +5,9 @@ ghost use Rattle.limit.specs.Limit.{maxNodes, maxTolerance, maxTotal, li
 
 pub const MAX_NODES: u32 = 64;
 
+// A table has a count for each of 64 holders and 64 subdomains.
+pub const TABLE_SIZE: usize = 4096;
+
 pub const MAX_TOLERANCE: u32 = 99;
 
 pub const TOLERANCE_SCALE: u32 = 100;

@@ -12,14 +12,24 @@ use borrow.Author.Tests.{ltb-true, leb-true, eqb-false, not-true, lt-ltb, le-leb
 use Rattle.fold.proofs.Tests.{and-left, and-right}
 use Rattle.limit.specs.Limit.{maxTotal}
 use Rattle.words.proofs.Words.{length-encode}
-use Rattle.moves.specs.Moves.{subdomain, sender, receiver, routeFine, countFine}
+use Rattle.moves.specs.Moves.{route, subdomain, sender, receiver, routeFine, countFine}
 use Rattle.moves.specs.Write.{movesBytes}
 
 -- ---- routes
 
--- "A route is subdomain × 4,096 + sender × 64 + receiver."
-pub route-parts : (r : ℕ) → subdomain r * 4096 + sender r * 64 + receiver r ≡ r
+-- a route is put together from its parts, and they are taken from it
+pub route-parts : (r : ℕ) → route (subdomain r) (sender r) (receiver r) ≡ r
 route-parts r = omega arith
+
+module _ (n s r : ℕ) (hs : s < 64) (hr : r < 64) where
+  pub route-subdomain : subdomain (route n s r) ≡ n
+  route-subdomain = omega arith
+
+  pub route-sender : sender (route n s r) ≡ s
+  route-sender = omega arith
+
+  pub route-receiver : receiver (route n s r) ≡ r
+  route-receiver = omega arith
 
 pub record FineRoute (n r : ℕ) : Type 0 where
   pub subdomain-below : subdomain r < n

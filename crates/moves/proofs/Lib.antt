@@ -2,4 +2,3 @@ pub mod Laws
 pub mod Answers
 pub mod Accepted
 pub mod RoundTrip
-pub mod Vectors

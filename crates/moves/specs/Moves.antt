@@ -7,6 +7,7 @@ use lib.Dec.{ltb, leb, eqb}
 use Rattle.fold.specs.All.{every}
 use Rattle.fold.specs.Rising.{rising}
 use Rattle.limit.specs.Limit.{maxNodes, maxTotal}
+use Rattle.words.specs.Checks.{refuseIf}
 use Rattle.words.specs.Words.{words, part}
 use Rattle.moves.specs.declared.MovesRefusal.{MovesRefusal}
 use Rattle.moves.specs.declared.MovesRefusal.the-variants.{Short, Nodes, Entries, Length, Route, Count}
@@ -45,6 +46,10 @@ abbrev pub countsOf : List ℕ → ℕ → List ℕ
 countsOf s e = part (2 + e) e (words s)
 
 -- "A route is subdomain × 4,096 + sender × 64 + receiver."
+abbrev pub route : ℕ → ℕ → ℕ → ℕ
+route n s r = n * 4096 + s * 64 + r
+
+-- its parts
 abbrev pub subdomain : ℕ → ℕ
 subdomain r = r / 4096
 
@@ -64,25 +69,22 @@ countFine k = ltb 0 k && leb k maxTotal
 
 -- ---- the checks, in the order written
 
-abbrev pub refuseIf : Bool → ℕ → MovesAnswer → MovesAnswer
-refuseIf test k rest = cond test (refused k) rest
-
 -- 35 and 36: "Routes come before counts."
 abbrev pub entriesAnswer : List ℕ → ℕ → ℕ → MovesAnswer
 entriesAnswer s n e =
-    refuseIf (not (rising (routeFine n) 0 (routesOf s e))) 35
-    (refuseIf (not (every countFine (countsOf s e))) 36
+    refuseIf (not (rising (routeFine n) 0 (routesOf s e))) (refused 35)
+    (refuseIf (not (every countFine (countsOf s e))) (refused 36)
     (accepted n e))
 
 -- 32 to 34, with the words N and E of moves of at least 8 bytes
 abbrev pub headAnswer : List ℕ → ℕ → ℕ → MovesAnswer
 headAnswer s n e =
-    refuseIf (ltb n 1 || ltb maxNodes n) 32
-    (refuseIf (ltb (n * (n - 1)) e) 33
-    (refuseIf (not (eqb (length s) (4 * (2 + 2 * e)))) 34
+    refuseIf (ltb n 1 || ltb maxNodes n) (refused 32)
+    (refuseIf (ltb (n * (n - 1)) e) (refused 33)
+    (refuseIf (not (eqb (length s) (4 * (2 + 2 * e)))) (refused 34)
     (entriesAnswer s n e)))
 
 unfoldable pub readMoves : List ℕ → MovesAnswer
 readMoves s =
-    refuseIf (ltb (length s) 8) 31
+    refuseIf (ltb (length s) 8) (refused 31)
     (headAnswer s (getD (words s) 0 0) (getD (words s) 1 0))

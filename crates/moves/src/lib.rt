@@ -1,4 +1,5 @@
-// The record `moves`: how many particles of which subdomain go from whom to whom. *Read moves* stands here, the writer in `write`.
+// The record `moves`: how many particles of which subdomain go from whom to whom. *Read moves* stands here, routes in `route`, the writer in
+// `write`.
 ghost use mathlib.Core.Path.{_≡_};
 ghost use Prim.Native.Nat.{_+_, _*_, _≤_};
 ghost use lib.ListN.{length};
@@ -7,6 +8,7 @@ ghost use Rattle.fold.specs.Rising.{rising};
 ghost use Rattle.limit.specs.Limit.{maxNodes};
 ghost use Rattle.moves.specs.Moves.{routesOf, countsOf, routeFine, countFine, entriesAnswer, readMoves, refusalNumber, answerOf};
 
+pub mod route;
 pub mod write;
 
 // What accepted moves give: N and E.

@@ -17,9 +17,11 @@ use Rattle.words.proofs.Words.{length-words, length-part}
 use Rattle.plan.specs.declared.Plan.{Plan}
 use Rattle.plan.specs.declared.PlanAnswer.{PlanAnswer}
 use Rattle.plan.specs.declared.PlanReading.the-variants as reading
-use Rattle.plan.specs.Tree.{at, helpandsBelow, shapeFine, sharesFine}
-use Rattle.plan.specs.Plan.{refused, accepted, answerOf, refuseIf, helpandsOf, sharesOf, kindFine, arraysAnswer, headAnswer, readPlan}
+use Rattle.plan.specs.Tree.{helpandsBelow, shapeFine, sharesFine}
+use Rattle.plan.specs.Plan.{refused, accepted, answerOf, helpandsOf, sharesOf, kindFine, arraysAnswer, headAnswer, readPlan}
 use Rattle.plan.proofs.Reading.{read-head, head-fine, arrays-fine}
+use Rattle.arrays.specs.Arrays.{at}
+use Rattle.words.specs.Checks.{refuseIf}
 
 -- the answer a of an accepted plan s
 pub record Accepted (s : List ℕ) (a : PlanAnswer) : Type 0 where
@@ -57,7 +59,7 @@ kind-fine-of n kind h (inr d) = rw (le-leb kind 2 h, ne-eqb n 1 d, or-true)
 -- ---- the inversion
 
 -- a check that did not refuse
-went : (b : Bool) (k : ℕ) (rest : PlanAnswer) → 0 < k → refuseIf b k rest .refusal ≡ 0 → (b ≡ false) × (rest .refusal ≡ 0)
+went : (b : Bool) (k : ℕ) (rest : PlanAnswer) → 0 < k → refuseIf b (refused k) rest .refusal ≡ 0 → (b ≡ false) × (rest .refusal ≡ 0)
 went b k rest h = passed (λ a. a .refusal) b (refused k) rest (λ z. omega arith)
 
 pub plan-accepted : (s : List ℕ) → readPlan s .refusal ≡ 0 → Accepted s (readPlan s)

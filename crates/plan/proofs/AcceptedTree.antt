@@ -7,10 +7,11 @@ use Prim.Native.Nat.{ℕ, _+_, _*_, _≤_}
 use lib.ListN.{length, getD}
 use Rattle.limit.specs.Limit.{maxNodes, maxLimit}
 use Rattle.words.specs.Words.{words}
-use Rattle.plan.specs.Tree.{at, sharesFine, Tree}
+use Rattle.plan.specs.Tree.{sharesFine, Tree}
 use Rattle.plan.specs.Plan.{accepted, helpandsOf, sharesOf, readPlan}
 use Rattle.plan.proofs.Accepted.{plan-accepted, accepted-read}
 use Rattle.plan.proofs.Trees.{shape-tree, tree-below, tree-shape}
+use Rattle.arrays.specs.Arrays.{at}
 
 -- THEOREM: Where the head and the length of a plan of kind 1 or 2 are right, its helpands are a tree and its shares are right, it is
 -- accepted.

@@ -7,19 +7,13 @@ use native.Mathlib.Omega.{arith}
 use borrow.Author.Tests.{ltb-true}
 use lib.Dec.{ltb, leb, eqb}
 use Rattle.fold.specs.Sum.{only}
-use Rattle.fold.specs.All.{all}
-use Rattle.fold.proofs.Tests.{all-at}
+use Rattle.fold.proofs.Tests.{all-at, all-eq}
 use Rattle.fold.proofs.Sums.{sum-eq}
 use Rattle.plan.specs.Tree.{helpandsBelow, isRoot, roots, reaches, shapeFine, shareFine, sharesFine}
 
-all-agree : (n : ℕ) (p q : ℕ → Bool) → ((k : ℕ) → k < n → p k ≡ q k) → all n p ≡ all n q
-unfolding all
-all-agree zero p q e = refl
-all-agree (suc n) p q e = ap₂ _&&_ (all-agree n p q (λ k l. e k (omega arith))) (e n (omega arith))
-
 module _ (n : ℕ) (f g : ℕ → ℕ) (same : (k : ℕ) → k < n → f k ≡ g k) where
   pub below-agree : helpandsBelow n f ≡ helpandsBelow n g
-  below-agree = all-agree n (λ k. ltb (f k) n) (λ k. ltb (g k) n) (λ k l. ap (λ (x : ℕ). ltb x n) (same k l))
+  below-agree = all-eq n (λ k. ltb (f k) n) (λ k. ltb (g k) n) (λ k l. ap (λ (x : ℕ). ltb x n) (same k l))
 
   root-agree : (k : ℕ) → k < n → isRoot f k ≡ isRoot g k
   root-agree k l = ap (λ (x : ℕ). eqb x k) (same k l)
@@ -38,10 +32,10 @@ module _ (n : ℕ) (f g : ℕ → ℕ) (same : (k : ℕ) → k < n → f k ≡ g
 
     pub shape-agree : (kind : ℕ) → shapeFine n kind f ≡ shapeFine n kind g
     shape-agree kind =
-        ap₂ (cond (eqb kind 0)) (all-agree n (isRoot f) (isRoot g) root-agree)
-        (ap₂ (λ (x : ℕ) (b : Bool). eqb x 1 && b) roots-agree (all-agree n (reaches f n) (reaches g n) (reaches-agree n)))
+        ap₂ (cond (eqb kind 0)) (all-eq n (isRoot f) (isRoot g) root-agree)
+        (ap₂ (λ (x : ℕ) (b : Bool). eqb x 1 && b) roots-agree (all-eq n (reaches f n) (reaches g n) (reaches-agree n)))
 
   pub shares-agree : (limit : ℕ) (x y : ℕ → ℕ) → ((k : ℕ) → k < n → x k ≡ y k) → sharesFine n limit f x ≡ sharesFine n limit g y
   shares-agree limit x y e =
-      all-agree n (shareFine limit f x) (shareFine limit g y)
+      all-eq n (shareFine limit f x) (shareFine limit g y)
       (λ k l. ap₂ (λ (b : Bool) (z : ℕ). leb z limit && (not b || eqb z 0)) (root-agree k l) (e k l))

@@ -4,13 +4,12 @@ use mathlib.Core.Bool.{Bool, true, false}
 use mathlib.Core.List.{List}
 use Prim.Native.Nat.{ℕ}
 use native.Mathlib.Omega.{arith}
-use Rattle.words.specs.Words.{padded}
-use Rattle.words.proofs.Words.{padded-at}
+use Rattle.arrays.specs.Arrays.{padded, at}
 use Rattle.plan.specs.declared.Checked.{Checked}
 use Rattle.plan.specs.declared.Checked.the-variants.{Passed, Refused}
 use Rattle.plan.specs.declared.PlanRefusal.{PlanRefusal}
-use Rattle.plan.specs.Tree.{at}
 use Rattle.plan.specs.Checks.{checkedOf}
+use Rattle.arrays.proofs.Padded.{padded-at}
 
 pub checked-passed : (b : Bool) {x : Checked} → x ≡ checkedOf b → x ≡ Passed → b ≡ true
 checked-passed true e f = refl
@@ -23,6 +22,3 @@ checked-refused true e f =
     let z : _≡_ {A = ℕ} 0 1 = cc in
     absurd (omega arith)
 checked-refused false e f = refl
-
-pub padded-same : (xs : List ℕ) → at (padded xs) ≡ at xs
-padded-same xs = fun-ext (padded-at xs)

@@ -9,13 +9,15 @@ use lib.ListN.{length, getD}
 use Rattle.limit.specs.Limit.{maxNodes, maxLimit}
 use Rattle.words.specs.Words.{words}
 use Rattle.plan.specs.declared.PlanAnswer.{PlanAnswer}
-use Rattle.plan.specs.Tree.{at, helpandsBelow, shapeFine, sharesFine}
-use Rattle.plan.specs.Plan.{refused, accepted, helpandsOf, sharesOf, refuseIf, kindFine, arraysAnswer, headAnswer, readPlan}
+use Rattle.plan.specs.Tree.{helpandsBelow, shapeFine, sharesFine}
+use Rattle.plan.specs.Plan.{refused, accepted, helpandsOf, sharesOf, kindFine, arraysAnswer, headAnswer, readPlan}
+use Rattle.arrays.specs.Arrays.{at}
+use Rattle.words.specs.Checks.{refuseIf}
 
-refuses : (b : Bool) (k : ℕ) (rest : PlanAnswer) → b ≡ true → refuseIf b k rest ≡ refused k
+refuses : (b : Bool) (k : ℕ) (rest : PlanAnswer) → b ≡ true → refuseIf b (refused k) rest ≡ refused k
 refuses b k rest e = rw e
 
-passes : (b : Bool) (k : ℕ) (rest : PlanAnswer) → b ≡ false → refuseIf b k rest ≡ rest
+passes : (b : Bool) (k : ℕ) (rest : PlanAnswer) → b ≡ false → refuseIf b (refused k) rest ≡ rest
 passes b k rest e = rw e
 
 module _ (s : List ℕ) where

@@ -14,7 +14,7 @@ use Rattle.fold.proofs.Tests.{all-at, all-of}
 use Rattle.limit.specs.Limit.{maxNodes, maxLimit}
 use Rattle.words.specs.Words.{words, encode}
 use Rattle.words.proofs.Words.{Below, below-none, below-cons, below-append, words-encode, encode-words, part-first, part-second, take-three, record-split}
-use Rattle.plan.specs.Tree.{at, helpandsBelow, isRoot, shapeFine, sharesFine, Tree}
+use Rattle.plan.specs.Tree.{helpandsBelow, isRoot, shapeFine, sharesFine, Tree}
 use Rattle.plan.specs.Plan.{accepted, helpandsOf, sharesOf, readPlan}
 use Rattle.plan.specs.Write.{planWords, planBytes}
 use Rattle.plan.proofs.Accepted.{plan-accepted, accepted-read, words-are}
@@ -22,6 +22,7 @@ use Rattle.plan.proofs.Agree.{below-agree, shape-agree, shares-agree}
 use Rattle.plan.proofs.Shares.{shares-fine, share-limit}
 use Rattle.plan.proofs.Trees.{tree-alone, tree-below, tree-shape}
 use Rattle.plan.proofs.Writing.{length-plan}
+use Rattle.arrays.specs.Arrays.{at}
 
 -- ---- what can be written
 

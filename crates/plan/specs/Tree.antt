@@ -1,16 +1,10 @@
 -- The helpands of a plan: the shape that *read plan* asks for, and what a tree is.
 use mathlib.Core.Path.{_≡_}
 use Prim.Native.Nat.{ℕ, zero, suc, _<_}
-use mathlib.Core.List.{List}
 use mathlib.Core.Bool.{Bool, cond, _||_, _&&_, not}
-use lib.ListN.{getD}
 use lib.Dec.{ltb, leb, eqb}
 use Rattle.fold.specs.Sum.{only, sum}
 use Rattle.fold.specs.All.{all}
-
--- entry k of an array
-abbrev pub at : List ℕ → ℕ → ℕ
-at xs k = getD xs k 0
 
 -- ---- 16: "a helpand not below N"
 

@@ -1,5 +1,5 @@
 -- The plan of two arrays: "Plan: N, kind, limit; N helpands; N shares."
-use Prim.Native.Nat.{ℕ}
+use Prim.Native.Nat.{ℕ, _+_, _*_}
 use mathlib.Core.List.{List, [], _∷_, _++_}
 use lib.ListN.{take}
 use Rattle.words.specs.Words.{encode}
@@ -9,3 +9,7 @@ planWords n kind limit helpands shares = (n ∷ kind ∷ limit ∷ []) ++ take n
 
 unfoldable pub planBytes : ℕ → ℕ → ℕ → List ℕ → List ℕ → List ℕ
 planBytes n kind limit helpands shares = encode (planWords n kind limit helpands shares)
+
+-- its length in bytes: "length not 4 × (3+2N)" is refused
+abbrev pub planLength : ℕ → ℕ
+planLength n = 4 * (3 + 2 * n)

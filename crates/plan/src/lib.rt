@@ -63,7 +63,7 @@ fn kind_fine(n: u32, kind: u32) -> bool
 
 // The helpands and shares of a plan whose header and length are right.
 fn read_arrays(s: &[u8], n: u32, kind: u32, limit: u32) -> PlanReading
-    requires { ⌜ (4 * (3 + 2 * n) ≤ length (now s)) × (n ≤ maxNodes) ⌝ }
+    requires { ⌜ (4 * (3 + 2 * n) ≤ length (now s)) × (1 ≤ n) × (n ≤ maxNodes) ⌝ }
     ensures { λ r. ⌜ answerOf r ≡ arraysAnswer (now (s .entry)) n kind limit ⌝ }
 {
     let k = n as usize;

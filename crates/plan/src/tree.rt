@@ -6,23 +6,16 @@ ghost use mathlib.Core.Bool.{true};
 ghost use Prim.Native.Nat.{_≤_};
 ghost use Rattle.fold.specs.All.{all};
 ghost use Rattle.limit.specs.Limit.{maxNodes};
-ghost use Rattle.plan.specs.Tree.{at, helpandsBelow, isRoot, roots, reaches, shapeFine, sharesFine};
+ghost use Rattle.plan.specs.Tree.{helpandsBelow, isRoot, roots, reaches, shapeFine, sharesFine};
 ghost use Rattle.plan.specs.Checks.{checkedOf};
+ghost use Rattle.arrays.specs.Arrays.{at};
 
 // Whether each helpand of nodes below n is a node below n.
 pub fn helpands_below(helpands: [u32; 64], n: u32) -> bool
-    requires { ⌜ n ≤ maxNodes ⌝ }
+    requires { ⌜ (1 ≤ n) × (n ≤ maxNodes) ⌝ }
     ensures { λ r. ⌜ r ≡ helpandsBelow n (at helpands) ⌝ }
 {
-    let nodes = n as usize;
-    let mut k = 0;
-    while k < nodes {
-        if n <= helpands[k] {
-            return false;
-        }
-        k += 1;
-    }
-    true
+    arrays::all_at_most(helpands, n as usize, n - 1)
 }
 
 // Whether each node is a root.

@@ -11,25 +11,26 @@ use lib.ListN.{length, replicate, length-append, length-replicate}
 use Rattle.fold.specs.Sum.{sum}
 use Rattle.fold.proofs.Sums.{sum-eq}
 use Rattle.fold.proofs.Tests.{either, all-of}
-use Rattle.limit.specs.Limit.{maxTotal}
+use Rattle.limit.specs.Limit.{maxTotal, tableSize}
 use Rattle.sheet.specs.declared.Sheet.{Sheet}
 use Rattle.sheet.specs.Sheet.{cellFine, accepted}
-use Rattle.sheet.specs.Table.{tableOf}
+use Rattle.sheet.specs.Table.{tableOf, held}
 use Rattle.sheet.proofs.Laws.{cell-holder, cell-subdomain}
 use Rattle.sheet.proofs.Accepted.{Accepted, reading-accepted}
 use Rattle.sheet.proofs.Tables.{table-outside, table-sum, table-within}
-use Rattle.plan.specs.Tree.{at, helpandsBelow, Tree}
+use Rattle.plan.specs.Tree.{helpandsBelow, Tree}
 use Rattle.plan.specs.Plan.{readPlan, helpandsOf}
 use Rattle.plan.proofs.Accepted.{plan-accepted, helpands-are}
 use Rattle.plan.proofs.AcceptedTree.{accepted-tree}
-use Rattle.plan.proofs.Checks.{padded-same}
+use Rattle.arrays.specs.Arrays.{at}
 use Rattle.plan.proofs.Trees.{tree-below}
-use Rattle.tree.specs.Totals.{held, totalOf, totalsOf}
-use Rattle.tree.proofs.Tabulate.{tabulate-at, length-tabulate}
-use Rattle.tree.proofs.Totalled.{totals-sum}
+use Rattle.sheet.specs.Totals.{totalOf, totalsOf}
 use Rattle.decide.specs.Decide.{ownNumbers, decided}
 use Rattle.decide.proofs.Decided.{Given, Fine, decided-fine}
 use Rattle.planner.specs.Step.{OldAnswer, oldRefused, oldRead, readOld, oldHelpands, decisionIn, Read}
+use Rattle.arrays.proofs.Padded.{padded-same}
+use Rattle.arrays.proofs.Tabulate.{tabulate-at, length-tabulate}
+use Rattle.sheet.proofs.Totalled.{totals-sum}
 
 -- ---- an old plan with a tree
 
@@ -70,7 +71,7 @@ module _ (s o : List ℕ) (h : Sheet) (tree : Bool) (r : Read s o h tree) where
   facts = reading-accepted s h (r .sheet)
 
   -- the table's sum does not wrap
-  pub sum-within : sum 4096 (at table) ≤ maxTotal
+  pub sum-within : sum tableSize (at table) ≤ maxTotal
   sum-within = table-within s (accepted (h .n) (h .t) (h .e) (h .p) (h .limit)) facts
 
   outside : (k n : ℕ) → n < 64 → (k < h .n → n < h .n → ⊥) → held table k n ≡ 0

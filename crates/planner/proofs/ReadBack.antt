@@ -19,7 +19,7 @@ use Rattle.moves.specs.Moves.{readMoves, routesOf, countsOf, accepted as movesA
 use Rattle.moves.proofs.RoundTrip.{Writable, read-written, routes-written, counts-written}
 use Rattle.transfer.specs.Matching.{allRoutes, allCounts}
 use Rattle.transfer.proofs.Carrying.{Carries}
-use Rattle.weigh.specs.Weigh.{totalsIn}
+use Rattle.sheet.specs.Totals.{totalsIn}
 use Rattle.decide.proofs.Decided.{Fine}
 use Rattle.planner.specs.declared.StepAnswer.{StepAnswer}
 use Rattle.planner.specs.Step.{refused, planned, readOld, decisionIn, planIn, dueIn, movesOf, movesIn, writtenAnswer, stepAnswer, after, Read}

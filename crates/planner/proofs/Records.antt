@@ -7,15 +7,16 @@ use native.Mathlib.Nat.{mul-le-mul}
 use native.Mathlib.Omega.{arith}
 use lib.ListN.{length, drop, length-append}
 use lib.Seq.{take-at, take-all, take-length}
+use Rattle.limit.specs.Limit.{tableSize}
 use Rattle.fold.specs.Sum.{sum}
 use Rattle.words.specs.Buffer.{placed}
 use Rattle.sheet.specs.declared.Sheet.{Sheet}
 use Rattle.sheet.specs.declared.SheetAnswer.{SheetAnswer}
 use Rattle.sheet.specs.Sheet.{readSheet}
 use Rattle.sheet.proofs.Tables.{length-table}
-use Rattle.plan.specs.Tree.{at, helpandsBelow, Tree}
+use Rattle.plan.specs.Tree.{helpandsBelow, Tree}
 use Rattle.moves.specs.Write.{movesBytes}
-use Rattle.tree.specs.Totals.{totalsOf}
+use Rattle.sheet.specs.Totals.{totalsOf}
 use Rattle.transfer.specs.Due.{Allotted}
 use Rattle.transfer.specs.Matching.{allRoutes, allCounts}
 use Rattle.transfer.proofs.Carrying.{Carries, carries-totals}
@@ -24,6 +25,7 @@ use Rattle.decide.specs.Decide.{decided}
 use Rattle.planner.specs.declared.StepAnswer.{StepAnswer}
 use Rattle.planner.specs.Step.{decisionIn, planOf, planIn, dueIn, movesOf, movesIn, writtenAnswer, decidedAnswer, after, Read}
 use Rattle.planner.proofs.Facts.{table, totals, old, facts, sum-within, given, decision, decision-fine}
+use Rattle.arrays.specs.Arrays.{at}
 
 -- moves at the front of two arrays are written as they are
 moves-front : (n : ℕ) (routes counts a b : List ℕ) → length routes ≡ length counts
@@ -51,7 +53,7 @@ module _ (s o : List ℕ) (h : Sheet) (tree : Bool) (r : Read s o h tree) where
       (sum-within s o h tree r) refl allotted
 
   -- N × (N−1) is at most the size of the arrays
-  pub product-small : h .n * (h .n - 1) ≤ 4096
+  pub product-small : h .n * (h .n - 1) ≤ tableSize
   product-small =
       let l : h .n ≤ 64 = facts s o h tree r .n-high in
       let m : h .n - 1 ≤ 64 = omega (arith, l) in
@@ -90,7 +92,7 @@ module _ (s o : List ℕ) (h : Sheet) (tree : Bool) (r : Read s o h tree) where
     here-carries : Carries (h .n) t (dueIn (h .n) u d)
     here-carries = rw (here-decision, here-totals, k .table-is) carries-due
 
-    pub here-few : length routes ≤ 4096
+    pub here-few : length routes ≤ tableSize
     here-few = omega (arith, here-carries .accepted .few, product-small)
 
     -- the arrays have the moves at their front

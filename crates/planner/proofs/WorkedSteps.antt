@@ -9,13 +9,13 @@ use Rattle.fold.specs.Collect.{collect}
 use Rattle.fold.specs.Rising.{rising}
 use Rattle.words.specs.Words.{words, encode}
 use Rattle.limit.specs.Limit.{limitOf}
-use Rattle.sheet.specs.Sheet.{runningSum, readSheet}
-use Rattle.sheet.specs.Table.{stored, zeros, tableOf}
+use Rattle.sheet.specs.Sheet.{runningSum, readHeader, readSheet}
+use Rattle.sheet.specs.Table.{countAt, countsFrom, tableOf}
 use Rattle.plan.specs.Tree.{reaches}
 use Rattle.plan.specs.Plan.{arraysAnswer, headAnswer, readPlan}
 use Rattle.plan.specs.Write.{planBytes}
 use Rattle.moves.specs.Write.{movesBytes}
-use Rattle.tree.specs.Totals.{tabulate}
+use Rattle.arrays.specs.Arrays.{tabulate}
 use Rattle.tree.specs.Weigh.{leastWithin}
 use Rattle.shares.specs.Fill.{ahead, fill}
 use Rattle.shares.specs.Shares.{space, amount, shareWithin}
@@ -29,8 +29,8 @@ use Rattle.planner.specs.Worked.{steps, expected, outcome}
 
 -- THEOREM. On steps A to K the definitions of *plan a step* give the answers, the plans and the moves of the list.
 pub steps-worked : map outcome steps ≡ map expected steps
-unfolding steps readSheet words encode rising runningSum limitOf readOld readPlan headAnswer arraysAnswer all sum reaches
-    tableOf stored zeros tabulate collect decided leastWithin shareWithin amount space ahead fill rebuiltOf startOf runOf
+unfolding steps readSheet readHeader words encode rising runningSum limitOf readOld readPlan headAnswer arraysAnswer all sum reaches
+    tableOf countsFrom countAt tabulate collect decided leastWithin shareWithin amount space ahead fill rebuiltOf startOf runOf
     turnOf finishOf targetOf best decisionIn planIn planBytes movesOf movesIn movesBytes dueWith matched writtenAnswer
     stepAnswer
 steps-worked = refl

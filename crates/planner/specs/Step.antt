@@ -6,18 +6,18 @@ use mathlib.Core.List.{List}
 use Prim.Native.Nat.{ℕ}
 use lib.Dec.{eqb, ltb}
 use lib.ListN.{length}
-use Rattle.words.specs.Words.{padded}
+use Rattle.arrays.specs.Arrays.{padded, at}
+use Rattle.words.specs.Checks.{refuseIf, refuseAs}
 use Rattle.words.specs.Buffer.{placed}
 use Rattle.sheet.specs.declared.Sheet.{Sheet}
 use Rattle.sheet.specs.Sheet.{readSheet, refusalNumber as sheetNumber, accepted as sheetAccepted}
 use Rattle.sheet.specs.Table.{tableIn}
-use Rattle.plan.specs.Tree.{at}
 use Rattle.plan.specs.Plan.{readPlan, helpandsOf, refusalNumber as planNumber}
 use Rattle.plan.specs.Write.{planBytes}
 use Rattle.moves.specs.Write.{movesBytes}
 use Rattle.transfer.specs.Due.{dueOf}
 use Rattle.transfer.specs.Matching.{allRoutes, allCounts}
-use Rattle.weigh.specs.Weigh.{totalsIn}
+use Rattle.sheet.specs.Totals.{totalsIn}
 use Rattle.decide.specs.declared.Decision.{Decision}
 use Rattle.decide.specs.Decide.{ownNumbers, decided}
 use Rattle.planner.specs.declared.StepRefusal.{StepRefusal}
@@ -109,14 +109,11 @@ movesIn s o = movesOf (readSheet s .n) (tableIn s) (totalsIn s) (decisionIn s o)
 
 -- ---- the checks, in the order written
 
-abbrev pub refuseIf : Bool → ℕ → StepAnswer → StepAnswer
-refuseIf test k rest = cond test (refused k) rest
-
 -- 22 and 23, for a plan and moves to be written to buffers of so many bytes
 unfoldable pub writtenAnswer : ℕ → ℕ → List ℕ → List ℕ → ℕ → ℕ → StepAnswer
 writtenAnswer kind limit plan moves planSize movesSize =
-    refuseIf (ltb planSize (length plan)) 22
-    (refuseIf (ltb movesSize (length moves)) 23
+    refuseIf (ltb planSize (length plan)) (refused 22)
+    (refuseIf (ltb movesSize (length moves)) (refused 23)
     (planned kind limit (length plan) (length moves)))
 
 abbrev pub decidedAnswer : List ℕ → List ℕ → ℕ → ℕ → StepAnswer
@@ -126,8 +123,8 @@ decidedAnswer s o planSize movesSize =
 -- "A refused sheet ends planning before the old plan is looked at."
 unfoldable pub stepAnswer : List ℕ → List ℕ → ℕ → ℕ → StepAnswer
 stepAnswer s o planSize movesSize =
-    refuseIf (not (eqb (readSheet s .refusal) 0)) (readSheet s .refusal)
-    (refuseIf (not (eqb (readOld o (readSheet s .n) .refusal) 0)) (readOld o (readSheet s .n) .refusal)
+    refuseAs refused (readSheet s .refusal)
+    (refuseAs refused (readOld o (readSheet s .n) .refusal)
     (decidedAnswer s o planSize movesSize))
 
 -- a buffer afterwards: the record in front, or as it was

@@ -1,5 +1,6 @@
 // *Plan a step*: from a sheet and an old plan to the new plan and the moves, in two lent buffers.
 use decide::Decision;
+use limit::TABLE_SIZE;
 use plan::PlanReading;
 use plan::PlanRefusal;
 use sheet::Sheet;
@@ -10,7 +11,7 @@ ghost use mathlib.Core.Logic.{_≢_};
 ghost use mathlib.Core.Bool.{true};
 ghost use Prim.Native.Nat.{_+_, _*_, _≤_};
 ghost use lib.ListN.{length};
-ghost use Rattle.limit.specs.Limit.{maxNodes};
+ghost use Rattle.limit.specs.Limit.{maxNodes, tableSize};
 ghost use Rattle.sheet.specs.Sheet.{answerOf as sheetAnswer};
 ghost use Rattle.moves.specs.Write.{movesBytes};
 ghost use Rattle.planner.specs.Step.{refused, numberOf, answerOf, oldOf, readOld, oldHelpands, planOf, planIn, movesIn, writtenAnswer, decidedAnswer, stepAnswer, after, planAfter, movesAfter, Read};
@@ -110,7 +111,7 @@ fn write_records(
     counts: &[u32],
     e: usize,
 ) -> Step
-    requires { ⌜ (n ≤ maxNodes) × (e ≤ 4096) × (e ≤ length (now routes)) × (e ≤ length (now counts)) ⌝ }
+    requires { ⌜ (n ≤ maxNodes) × (e ≤ tableSize) × (e ≤ length (now routes)) × (e ≤ length (now counts)) ⌝ }
     ensures answer { λ r. ⌜
         answerOf r ≡ writtenAnswer (d .kind) limit (planOf n limit d) (movesBytes n e (now (routes .entry)) (now (counts .entry)))
         (length (now (plan .entry))) (length (now (moves .entry))) ⌝ }
@@ -155,11 +156,11 @@ fn plan_read(
 {
     let nodes = s.n as usize;
     let table = sheet::table::unpack(sheet, s.e as usize);
-    let totals = tree::totals(&table, nodes);
+    let totals = sheet::totals::totals(&table, nodes);
     let helpands = old_helpands(old, tree, nodes);
     let d = decide::decide(&table, totals, tree, helpands, nodes, s.p, s.limit);
-    let mut routes = [0u32; 4096];
-    let mut counts = [0u32; 4096];
+    let mut routes = [0u32; TABLE_SIZE];
+    let mut counts = [0u32; TABLE_SIZE];
     let new = d.helpands;
     let shares = d.shares;
     let e = transfer::matching::all_moves(

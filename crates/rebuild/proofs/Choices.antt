@@ -14,8 +14,7 @@ use Rattle.fold.specs.declared.Found.the-variants.{At, Nothing}
 use Rattle.fold.specs.Best.{best, never}
 use Rattle.fold.proofs.Tests.{either, and-left, and-right, and-both}
 use Rattle.fold.proofs.Scans.{best-skips, best-begins, best-stays, best-found, best-nothing}
-use Rattle.plan.specs.Tree.{at}
-use Rattle.tree.specs.Totals.{tabulate}
+use Rattle.arrays.specs.Arrays.{at, tabulate}
 use Rattle.rebuild.specs.declared.Balance.{Balance}
 use Rattle.rebuild.specs.Rebuild.{groupA, groupB, inB, largestInB, chosen, lowestInB, newHelpand, newShare, finishOf}
 

@@ -18,14 +18,14 @@ use Rattle.fold.specs.Best.{larger, smaller}
 use Rattle.fold.proofs.Tests.{either, and-left, and-right, only-is, only-not}
 use Rattle.fold.proofs.Sums.{sum-eq, sum-zeros, sum-ones}
 use Rattle.fold.proofs.Scans.{best-found, best-nothing, best-some, largest-le}
-use Rattle.plan.specs.Tree.{at}
+use Rattle.arrays.specs.Arrays.{at}
 use Rattle.rebuild.specs.declared.Balance.{Balance}
 use Rattle.rebuild.specs.Target.{targetOf, targetsOf}
 use Rattle.rebuild.specs.Rebuild.{is, inA, inB, largestInB, needOf, oldServes, turnOf, nextL, nextG, startOf, runOf}
 use Rattle.rebuild.proofs.Choices.{in-a-is, in-b-is, in-a-of, in-b-of}
-use Rattle.tree.proofs.Tabulate.{tabulate-at}
 use Rattle.rebuild.proofs.TargetSums.{target-near, target-sum}
 use Rattle.rebuild.proofs.Turns.{Changed, Inv, above, turned, stamp}
+use Rattle.arrays.proofs.Tabulate.{tabulate-at}
 
 -- a store in a list changes one place
 changed : {A : Type 0} (xs : List A) (i : ℕ) (v d : A) → i < length xs → Changed (λ k. getD xs k d) (λ k. getD (set xs i v) k d) i v

@@ -17,20 +17,20 @@ use Rattle.fold.proofs.Tests.{either, only-is, only-zero, all-at}
 use Rattle.fold.proofs.Sums.{sum-eq}
 use Rattle.fold.proofs.Scans.{best-found, best-some}
 use Rattle.limit.specs.Limit.{maxNodes, limitOf}
-use Rattle.plan.specs.Tree.{at, helpandsBelow, isRoot, walk, Tree}
+use Rattle.plan.specs.Tree.{helpandsBelow, isRoot, walk, Tree}
 use Rattle.plan.proofs.Trees.{walk-own}
 use Rattle.tree.specs.Family.{helps, overHelpers}
-use Rattle.tree.specs.Totals.{tabulate}
+use Rattle.arrays.specs.Arrays.{at, tabulate}
 use Rattle.tree.specs.Division.{OnTarget, WithinLimit, load, ownOf}
 use Rattle.rebuild.specs.declared.Balance.{Balance}
 use Rattle.rebuild.specs.declared.Rebuilt.{Rebuilt}
 use Rattle.rebuild.specs.Target.{targetOf}
 use Rattle.rebuild.specs.Rebuild.{is, inB, needOf, nextL, nextG, startOf, runOf, lowestInB, newHelpand, newShare, finishOf, rebuiltOf}
-use Rattle.tree.proofs.Tabulate.{tabulate-at, length-tabulate}
 use Rattle.rebuild.proofs.TargetSums.{target-limit}
 use Rattle.rebuild.proofs.Choices.{in-b-is, in-b-of, in-b-done, first-lowest, finish-at, helpand-in, helpand-out, share-in, share-out}
 use Rattle.rebuild.proofs.Turns.{level}
 use Rattle.rebuild.proofs.Loops.{Kept, kept-few, next-none, serve, run-kept, start-kept}
+use Rattle.arrays.proofs.Tabulate.{tabulate-at, length-tabulate}
 
 -- a rank that falls along the helpands leads to the root
 reach-rank : (nodes : ℕ) (h : ℕ → ℕ) (r : ℕ) (rank : ℕ → ℕ) → h r ≡ r → ((k : ℕ) → k < nodes → h k < nodes)

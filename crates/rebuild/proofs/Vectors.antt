@@ -7,8 +7,7 @@ use lib.ListN.{length, take}
 use Rattle.fold.specs.Sum.{total}
 use Rattle.fold.specs.Best.{best}
 use Rattle.fold.specs.Collect.{collect}
-use Rattle.words.specs.Words.{padded}
-use Rattle.tree.specs.Totals.{tabulate}
+use Rattle.arrays.specs.Arrays.{padded, tabulate}
 use Rattle.rebuild.specs.Target.{targetOf}
 use Rattle.rebuild.specs.Rebuild.{turnOf, startOf, runOf, finishOf, rebuiltOf}
 

@@ -3,7 +3,7 @@ use Prim.Native.Nat.{ℕ, _+_, _/_, _%_}
 use mathlib.Core.List.{List}
 use lib.Dec.{ltb}
 use Rattle.fold.specs.Sum.{only}
-use Rattle.tree.specs.Totals.{tabulate}
+use Rattle.arrays.specs.Arrays.{tabulate}
 
 -- "There is a target for every node: P/N rounded down, plus 1 for nodes below P mod N."
 unfoldable pub targetOf : ℕ → ℕ → ℕ → ℕ

@@ -6,9 +6,10 @@ ghost use mathlib.Core.Bool.{true};
 ghost use Prim.Native.Nat.{_≤_, _<_};
 ghost use Rattle.fold.specs.Sum.{sum};
 ghost use Rattle.limit.specs.Limit.{maxNodes, maxTotal};
-ghost use Rattle.plan.specs.Tree.{at, helpandsBelow};
+ghost use Rattle.plan.specs.Tree.{helpandsBelow};
 ghost use Rattle.rebuild.specs.Target.{targetsOf};
 ghost use Rattle.rebuild.specs.Rebuild.{turnOf, finishOf, rebuiltOf};
+ghost use Rattle.arrays.specs.Arrays.{at};
 
 pub mod scan;
 

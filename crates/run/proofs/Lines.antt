@@ -8,18 +8,17 @@ use native.Mathlib.Omega.{arith}
 use lib.ListN.{length, getD, drop, List·getD-append}
 use Rattle.fold.specs.Collect.{collect}
 use Rattle.fold.proofs.Lists.{collect-eq}
-use Rattle.words.specs.Words.{words, part, padded}
+use Rattle.words.specs.Words.{words, part}
 use Rattle.words.specs.Buffer.{placed}
-use Rattle.plan.specs.Tree.{at}
+use Rattle.arrays.specs.Arrays.{padded, at, tabulate}
 use Rattle.plan.specs.Plan.{readPlan, helpandsOf, sharesOf}
-use Rattle.plan.proofs.Checks.{padded-same}
 use Rattle.moves.specs.Moves.{readMoves, routesOf, countsOf}
 use Rattle.moves.proofs.Accepted.{moves-accepted, routes-are, counts-are}
-use Rattle.tree.specs.Totals.{tabulate}
 use Rattle.tree.specs.Division.{ownOf}
-use Rattle.weigh.specs.Weigh.{totalsIn}
+use Rattle.sheet.specs.Totals.{totalsIn}
 use Rattle.text.specs.Text.{headLine, nodeLine, moveLine, movesText, stepText}
 use Rattle.run.specs.Run.{ownIn, recordsText, Printable}
+use Rattle.arrays.proofs.Padded.{padded-same}
 
 -- a text with each array read by index
 abbrev byIndex : ℕ → ℕ → ℕ → (ℕ → ℕ) → (ℕ → ℕ) → List ℕ → List ℕ → List ℕ

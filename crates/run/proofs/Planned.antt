@@ -18,7 +18,7 @@ use Rattle.sheet.specs.Sheet.{readSheet}
 use Rattle.sheet.specs.Table.{tableIn}
 use Rattle.sheet.proofs.Accepted.{Accepted, sheet-accepted}
 use Rattle.plan.specs.declared.PlanAnswer.{PlanAnswer}
-use Rattle.plan.specs.Tree.{at}
+use Rattle.arrays.specs.Arrays.{at}
 use Rattle.plan.specs.Plan.{readPlan, helpandsOf, sharesOf, accepted as planAccepted}
 use Rattle.plan.proofs.Accepted.{plan-accepted}
 use Rattle.moves.specs.declared.MovesAnswer.{MovesAnswer}
@@ -29,7 +29,7 @@ use Rattle.tree.specs.Family.{helps, overHelpers}
 use Rattle.transfer.specs.Due.{Allotted}
 use Rattle.transfer.specs.Matching.{allRoutes, allCounts}
 use Rattle.transfer.proofs.Acceptable.{Acceptable}
-use Rattle.weigh.specs.Weigh.{totalsIn}
+use Rattle.sheet.specs.Totals.{totalsIn}
 use Rattle.decide.specs.declared.Decision.{Decision}
 use Rattle.decide.proofs.Decided.{Fine}
 use Rattle.planner.specs.declared.StepAnswer.{StepAnswer}

@@ -2,17 +2,20 @@
 use mathlib.Core.Path.{_≡_}
 use mathlib.Core.Bool.{cond}
 use mathlib.Core.List.{List}
-use Prim.Native.Nat.{ℕ}
+use Prim.Native.Nat.{ℕ, _+_}
 use lib.Dec.{eqb}
 use lib.ListN.{take, drop}
+use Rattle.limit.specs.Limit.{maxNodes}
 use Rattle.sheet.specs.Sheet.{readSheet}
-use Rattle.plan.specs.Tree.{at}
+use Rattle.sheet.specs.Write.{longestSheet}
+use Rattle.plan.specs.Write.{planLength}
+use Rattle.moves.specs.Write.{longestMoves}
+use Rattle.arrays.specs.Arrays.{at, tabulate}
 use Rattle.plan.specs.Plan.{readPlan, helpandsOf, sharesOf}
 use Rattle.moves.specs.Moves.{readMoves, routesOf, countsOf}
-use Rattle.tree.specs.Totals.{tabulate}
 use Rattle.tree.specs.Division.{ownOf}
 use Rattle.transfer.specs.Due.{Allotted}
-use Rattle.weigh.specs.Weigh.{totalsIn}
+use Rattle.sheet.specs.Totals.{totalsIn}
 use Rattle.planner.specs.declared.StepAnswer.{StepAnswer}
 use Rattle.planner.specs.Step.{stepAnswer, planIn, movesIn}
 use Rattle.text.specs.Text.{stepText, refusedText}
@@ -34,12 +37,12 @@ recordsText s p m =
 
 -- ---- a step, for a sheet s and an old plan o
 
--- buffers that are long enough for every plan, 4 × (3+2 × 64), and for all moves, 4 × (2+2 × 64 × 63)
+-- buffers that are long enough for every plan, 524 bytes, and for all moves, 32,264
 abbrev pub planSize : ℕ
-planSize = 524
+planSize = planLength maxNodes
 
 abbrev pub movesSize : ℕ
-movesSize = 32264
+movesSize = longestMoves maxNodes
 
 abbrev pub answerIn : List ℕ → List ℕ → StepAnswer
 answerIn s o = stepAnswer s o planSize movesSize
@@ -53,6 +56,10 @@ textIn s o = cond (eqb (answerIn s o .refusal) 0) (recordsText s (planIn s o) (m
 -- "Standard input is a sheet followed at once by an old plan or nothing."
 unfoldable pub runText : List ℕ → List ℕ
 runText input = textIn (take (splitAt input) input) (drop (splitAt input) input)
+
+-- the longest input that can be accepted has 33,304 bytes; of a longer one the first 33,305 decide what is printed
+abbrev pub frontSize : ℕ
+frontSize = longestSheet maxNodes + planLength maxNodes + 1
 
 -- as many bytes as no run exceeds: at most 64 for each of 1 + 64 + 64 × 63 lines
 abbrev pub textSize : ℕ

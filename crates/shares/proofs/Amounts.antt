@@ -6,12 +6,11 @@ use Prim.Native.Nat.{ℕ, _+_, _-_, _≤_, _<_, min}
 use native.Mathlib.Omega.{arith}
 use Rattle.fold.specs.Sum.{sum}
 use Rattle.fold.proofs.Sums.{sum-le, sum-eq, sum-add, sum-more, sum-split}
-use Rattle.plan.specs.Tree.{at}
-use Rattle.tree.specs.Totals.{tabulate}
+use Rattle.arrays.specs.Arrays.{at, tabulate}
 use Rattle.shares.specs.Fill.{room, fill}
 use Rattle.shares.specs.Shares.{space, kept, rest, amount}
-use Rattle.tree.proofs.Tabulate.{tabulate-at, tabulate-eq}
 use Rattle.shares.proofs.FillLaws.{fill-eq, fill-space, fill-keeps, fill-sum}
+use Rattle.arrays.proofs.Tabulate.{tabulate-at, tabulate-eq}
 
 -- a sum over fewer numbers is no larger
 sum-fewer : (m n : ℕ) (f : ℕ → ℕ) → m ≤ n → sum m f ≤ sum n f

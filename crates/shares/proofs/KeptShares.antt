@@ -6,17 +6,19 @@ use mathlib.Core.List.{List}
 use Prim.Native.Nat.{ℕ, _-_, _≤_, _<_, min}
 use native.Mathlib.Omega.{arith}
 use Rattle.fold.specs.Sum.{sum}
-use Rattle.plan.specs.Tree.{at, Tree}
-use Rattle.tree.specs.Totals.{held, totalOf, totalsOf}
+use Rattle.plan.specs.Tree.{Tree}
+use Rattle.sheet.specs.Table.{held}
 use Rattle.tree.specs.Family.{helps, overHelpers}
 use Rattle.tree.specs.Division.{WithinLimit, ownOf}
 use Rattle.shares.specs.Shares.{space, amount, sharesOf, RootDown}
-use Rattle.tree.proofs.Tabulate.{tabulate-at}
+use Rattle.arrays.specs.Arrays.{at}
 use Rattle.shares.proofs.Families.{helps-of, helper-below}
 use Rattle.shares.proofs.Spaces.{space-own, space-helper, spaces-sum}
 use Rattle.shares.proofs.Amounts.{amount-space, amount-keeps, amount-sum}
 use Rattle.shares.proofs.Filling.{Fitting, share-spare, shares-most, own-given, filled-within}
 use Rattle.shares.proofs.Levels.{array-described}
+use Rattle.arrays.proofs.Tabulate.{tabulate-at}
+use Rattle.sheet.specs.Totals.{totalOf, totalsOf}
 
 -- ---- a tree that holds, with its leasts, and holdings that add up to the totals
 

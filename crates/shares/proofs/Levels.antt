@@ -5,9 +5,10 @@ use mathlib.Core.Logic.{_≢_}
 use Prim.Native.Nat.{ℕ, zero, suc, _<_}
 use native.Mathlib.Decide.{ℕ-discrete}
 use borrow.Author.Tests.{eq-eqb, ne-eqb}
-use Rattle.plan.specs.Tree.{at, walk, Tree}
+use Rattle.plan.specs.Tree.{walk, Tree}
 use Rattle.shares.specs.Shares.{amount, shareWithin, shareOf, sharesOf, RootDown}
-use Rattle.tree.proofs.Tabulate.{tabulate-at}
+use Rattle.arrays.specs.Arrays.{at}
+use Rattle.arrays.proofs.Tabulate.{tabulate-at}
 
 module _ (nodes : ℕ) (h : ℕ → ℕ) (limit : ℕ) (least total : ℕ → ℕ) (held : ℕ → ℕ → ℕ) where
   -- ---- by depth

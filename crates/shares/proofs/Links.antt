@@ -7,7 +7,7 @@ use native.Mathlib.Decide.{ℕ-discrete}
 use native.Mathlib.Omega.{arith}
 use lib.ListN.{length, set, replicate, length-set, getD-replicate}
 use lib.Seq.{getD-set-same, getD-set-other}
-use Rattle.plan.specs.Tree.{at}
+use Rattle.arrays.specs.Arrays.{at}
 use Rattle.tree.specs.Family.{helps}
 use Rattle.fold.specs.First.{FirstFrom}
 use Rattle.fold.proofs.First.{first-end, first-here, first-later}

@@ -5,9 +5,7 @@ use Prim.Native.Nat.{ℕ}
 use lib.ListN.{getD, length}
 use Rattle.fold.specs.Sum.{sum}
 use Rattle.fold.specs.Collect.{collect}
-use Rattle.words.specs.Words.{padded}
-use Rattle.plan.specs.Tree.{at}
-use Rattle.tree.specs.Totals.{tabulate}
+use Rattle.arrays.specs.Arrays.{padded, at, tabulate}
 use Rattle.tree.specs.Weigh.{leastWithin, least}
 use Rattle.shares.specs.Fill.{ahead, fill}
 use Rattle.shares.specs.Shares.{space, amount, shareWithin, sharesOf}

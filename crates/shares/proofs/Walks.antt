@@ -8,14 +8,15 @@ use native.Mathlib.Decide.{ℕ-discrete, decLt}
 use native.Mathlib.Omega.{arith}
 use lib.ListN.{length, set, replicate}
 use lib.Seq.{getD-set-same, getD-set-other, ext-getD}
-use Rattle.plan.specs.Tree.{at, walk, Tree}
+use Rattle.plan.specs.Tree.{walk, Tree}
 use Rattle.plan.proofs.Trees.{walk-inside}
-use Rattle.tree.specs.Totals.{tabulate}
+use Rattle.arrays.specs.Arrays.{at, tabulate}
 use Rattle.tree.specs.Family.{helps}
 use Rattle.fold.specs.First.{FirstFrom}
 use Rattle.shares.specs.Walk.{Walked}
-use Rattle.tree.proofs.Tabulate.{length-tabulate, tabulate-behind, zeros-at}
 use Rattle.shares.proofs.Families.{helps-yes}
+use Rattle.arrays.proofs.Tabulate.{length-tabulate, tabulate-behind}
+use Rattle.arrays.proofs.Padded.{zeros-at}
 
 walk-none : (h : ℕ → ℕ) (steps k n : ℕ) → steps ≡ 0 → walk h steps k ≡ n → k ≡ n
 unfolding walk

@@ -7,7 +7,7 @@ use Prim.Native.Nat.{ℕ, zero, suc, _-_, _<_, min}
 use lib.Dec.{eqb}
 use Rattle.fold.specs.Sum.{only, sum}
 use Rattle.plan.specs.Tree.{isRoot}
-use Rattle.tree.specs.Totals.{tabulate}
+use Rattle.arrays.specs.Arrays.{tabulate}
 use Rattle.tree.specs.Family.{helps}
 use Rattle.shares.specs.Fill.{fill}
 

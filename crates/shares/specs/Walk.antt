@@ -5,10 +5,12 @@ use mathlib.Core.List.{List}
 use Prim.Native.Nat.{ℕ, _+_, _≤_, _<_}
 use Rattle.fold.specs.First.{FirstFrom}
 use Rattle.limit.specs.Limit.{maxNodes}
-use Rattle.plan.specs.Tree.{at, walk, Tree}
-use Rattle.tree.specs.Totals.{held, tabulate, totalsOf}
+use Rattle.plan.specs.Tree.{walk, Tree}
+use Rattle.sheet.specs.Table.{held}
 use Rattle.tree.specs.Family.{helps}
 use Rattle.shares.specs.Shares.{amount, sharesOf}
+use Rattle.arrays.specs.Arrays.{at, tabulate}
+use Rattle.sheet.specs.Totals.{totalsOf}
 
 -- a tree of so many nodes, and the totals of a table of counts
 pub record Fine (nodes : ℕ) (helpands totals table : List ℕ) : Type 0 where

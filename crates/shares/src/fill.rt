@@ -3,8 +3,7 @@ use fold::numbers;
 ghost use mathlib.Core.Path.{_≡_};
 ghost use Prim.Native.Nat.{_+_, _-_, _≤_, _<_, min};
 ghost use Rattle.limit.specs.Limit.{maxNodes};
-ghost use Rattle.plan.specs.Tree.{at};
-ghost use Rattle.tree.specs.Totals.{tabulate};
+ghost use Rattle.arrays.specs.Arrays.{at, tabulate};
 ghost use Rattle.shares.specs.Fill.{fill};
 
 // What a member has in all that keeps some, once it is topped up from what is left, up to its space.

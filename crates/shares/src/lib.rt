@@ -6,10 +6,12 @@ ghost use mathlib.Core.Path.{_≡_};
 ghost use Prim.Native.Nat.{ℕ, _≤_, _<_};
 ghost use lib.ListN.{length};
 ghost use Rattle.limit.specs.Limit.{maxNodes};
-ghost use Rattle.plan.specs.Tree.{at, Tree};
-ghost use Rattle.tree.specs.Totals.{held, totalsOf};
+ghost use Rattle.plan.specs.Tree.{Tree};
+ghost use Rattle.sheet.specs.Table.{held};
 ghost use Rattle.shares.specs.Shares.{sharesOf};
 ghost use Rattle.shares.specs.Walk.{Fine, Linked, sharesIn, Walked};
+ghost use Rattle.arrays.specs.Arrays.{at};
+ghost use Rattle.sheet.specs.Totals.{totalsOf};
 
 // Links from helper to helper, so that nobody searches all nodes for the helpers of one: at n the lowest helper of n, at 64 + k the
 // next after k of the node that k helps, and the number of nodes where there is none.

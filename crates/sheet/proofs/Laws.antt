@@ -10,7 +10,7 @@ use lib.Dec.{eqb, ltb}
 use lib.ListN.{length, getD}
 use Rattle.fold.specs.Sum.{total}
 use Rattle.fold.proofs.Tests.{and-left, and-right, and-both}
-use Rattle.limit.specs.Limit.{maxTotal}
+use Rattle.limit.specs.Limit.{maxNodes, maxTotal, tableSize}
 use Rattle.sheet.specs.declared.CountSum.the-variants.{Sum, Bad}
 use Rattle.sheet.specs.Sheet.{cellFine, runningSum}
 
@@ -28,6 +28,10 @@ cell-of n c h d = and-both (ltb (c / 64) n) (ltb (c % 64) n) (lt-ltb (c / 64) n 
 -- a cell is below 64 × N
 pub cell-below : (n c : ℕ) → cellFine n c ≡ true → c < 64 * n
 cell-below n c e = omega (arith, cell-holder n c e)
+
+-- so a cell behind the table names a node not below N
+pub cell-beyond : (n c : ℕ) → n ≤ maxNodes → tableSize ≤ c → cellFine n c ≡ false
+cell-beyond n c l h = rw (le-ltb (c / 64) n (omega arith))
 
 -- ---- the running sum
 

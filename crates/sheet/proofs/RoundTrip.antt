@@ -23,7 +23,7 @@ use Rattle.words.specs.Words.{words, encode}
 use Rattle.words.proofs.Words.{Below, below-none, below-cons, below-append, words-encode, encode-words, part-first, part-second, take-three, record-split}
 use Rattle.sheet.specs.declared.CountSum.the-variants.{Sum}
 use Rattle.sheet.specs.declared.SheetAnswer.{SheetAnswer}
-use Rattle.sheet.specs.Sheet.{accepted, cellsOf, countsOf, cellFine, runningSum, readSheet}
+use Rattle.sheet.specs.Sheet.{accepted, cellsOf, countsOf, cellFine, runningSum, readHeader, readSheet}
 use Rattle.sheet.specs.Table.{countAt, tableOf}
 use Rattle.sheet.specs.Write.{filled, filledCells, filledCounts, sheetWords, sheetBytes}
 use Rattle.sheet.proofs.Laws.{cell-below, cell-subdomain, sum-of}
@@ -211,7 +211,7 @@ module _ (n t : ℕ) (table : List ℕ) (w : Writable n t table) where
 
   -- THEOREM. A sheet that was written is accepted, with the N and t that were written and the table's sum.
   pub read-written : readSheet (sheetBytes n t table) ≡ accepted n t e p (limitOf p n t)
-  unfolding readSheet
+  unfolding readSheet readHeader
   read-written =
       let s = sheetBytes n t table in
       let l = length-sheet n t table in

@@ -1,3 +1,5 @@
 pub mod Sheet
 pub mod Table
+pub mod Totals
 pub mod Write
+pub mod Inner

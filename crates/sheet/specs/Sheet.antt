@@ -6,11 +6,14 @@ use lib.ListN.{length, getD}
 use lib.Dec.{ltb, eqb}
 use Rattle.fold.specs.Rising.{rising}
 use Rattle.limit.specs.Limit.{maxNodes, maxTolerance, maxTotal, limitOf}
+use Rattle.words.specs.Checks.{refuseIf, refuseAs}
 use Rattle.words.specs.Words.{words, part}
 use Rattle.sheet.specs.declared.SheetRefusal.{SheetRefusal}
 use Rattle.sheet.specs.declared.SheetRefusal.the-variants.{Short, Nodes, Tolerance, Entries, Length, Cell, Count}
 use Rattle.sheet.specs.declared.SheetReading.{SheetReading}
 use Rattle.sheet.specs.declared.SheetReading.the-variants.{Accepted, Refused}
+use Rattle.sheet.specs.declared.HeaderReading.{HeaderReading}
+use Rattle.sheet.specs.declared.HeaderReading.the-variants.{Accepted as HeaderRead, Refused as HeaderUnread}
 use Rattle.sheet.specs.declared.SheetAnswer.{SheetAnswer}
 use Rattle.sheet.specs.declared.CountSum.{CountSum}
 use Rattle.sheet.specs.declared.CountSum.the-variants.{Sum, Bad}
@@ -46,7 +49,11 @@ cellsOf s e = part 3 e (words s)
 abbrev pub countsOf : List ℕ → ℕ → List ℕ
 countsOf s e = part (3 + e) e (words s)
 
--- "A cell is holder × 64 + subdomain"; it names two nodes below n
+-- "A cell is holder × 64 + subdomain."
+abbrev pub cell : ℕ → ℕ → ℕ
+cell holder subdomain = 64 * holder + subdomain
+
+-- it names two nodes below n
 abbrev pub cellFine : ℕ → ℕ → Bool
 cellFine n c = ltb (c / 64) n && ltb (c % 64) n
 
@@ -59,30 +66,51 @@ runningSum sum (c ∷ cs) =
 
 -- ---- the checks, in the order written
 
-abbrev pub refuseIf : Bool → ℕ → SheetAnswer → SheetAnswer
-refuseIf test k rest = cond test (refused k) rest
+-- N, t and E of a header, or why it is refused
+pub record HeaderAnswer : Type 0 where
+  pub refusal : ℕ
+  pub n : ℕ
+  pub t : ℕ
+  pub e : ℕ
+
+abbrev pub headerRefused : ℕ → HeaderAnswer
+headerRefused k = record { refusal = k; n = 0; t = 0; e = 0 }
+
+abbrev pub headerAccepted : ℕ → ℕ → ℕ → HeaderAnswer
+headerAccepted n t e = record { refusal = 0; n = n; t = t; e = e }
+
+-- the same for each case of the enum
+abbrev pub headerOf : HeaderReading → HeaderAnswer
+headerOf (HeaderRead h) = headerAccepted (h .n) (h .t) (h .e)
+headerOf (HeaderUnread r) = headerRefused (refusalNumber r)
+
+-- 2 to 4, with the words N, t and E
+abbrev pub rangesAnswer : ℕ → ℕ → ℕ → HeaderAnswer
+rangesAnswer n t e =
+    refuseIf (ltb n 1 || ltb maxNodes n) (headerRefused 2)
+    (refuseIf (ltb t 1 || ltb maxTolerance t) (headerRefused 3)
+    (refuseIf (ltb (n * n) e) (headerRefused 4)
+    (headerAccepted n t e)))
+
+-- 1 to 4, which look at the header alone
+unfoldable pub readHeader : List ℕ → HeaderAnswer
+readHeader s =
+    refuseIf (ltb (length s) 12) (headerRefused 1)
+    (rangesAnswer (getD (words s) 0 0) (getD (words s) 1 0) (getD (words s) 2 0))
 
 -- 7, or the values
 abbrev pub summedAnswer : ℕ → ℕ → ℕ → CountSum → SheetAnswer
 summedAnswer n t e (Sum p) = accepted n t e p (limitOf p n t)
 summedAnswer n t e Bad = refused 7
 
--- 6 and 7: "All cells come before all counts."
+-- 5 to 7: "All cells come before all counts."
 abbrev pub entriesAnswer : List ℕ → ℕ → ℕ → ℕ → SheetAnswer
 entriesAnswer s n t e =
-    refuseIf (not (rising (cellFine n) 0 (cellsOf s e))) 6
-    (summedAnswer n t e (runningSum 0 (countsOf s e)))
-
--- 2 to 5, with the words N, t and E of a sheet of at least 12 bytes
-abbrev pub headAnswer : List ℕ → ℕ → ℕ → ℕ → SheetAnswer
-headAnswer s n t e =
-    refuseIf (ltb n 1 || ltb maxNodes n) 2
-    (refuseIf (ltb t 1 || ltb maxTolerance t) 3
-    (refuseIf (ltb (n * n) e) 4
-    (refuseIf (not (eqb (length s) (4 * (3 + 2 * e)))) 5
-    (entriesAnswer s n t e))))
+    refuseIf (not (eqb (length s) (4 * (3 + 2 * e)))) (refused 5)
+    (refuseIf (not (rising (cellFine n) 0 (cellsOf s e))) (refused 6)
+    (summedAnswer n t e (runningSum 0 (countsOf s e))))
 
 unfoldable pub readSheet : List ℕ → SheetAnswer
 readSheet s =
-    refuseIf (ltb (length s) 12) 1
-    (headAnswer s (getD (words s) 0 0) (getD (words s) 1 0) (getD (words s) 2 0))
+    let h = readHeader s in
+    refuseAs refused (h .refusal) (entriesAnswer s (h .n) (h .t) (h .e))

@@ -1,5 +1,5 @@
 -- The sheet of a table of counts: "Sheet: N, t, E; E cells; E counts", cells rising, counts at least 1.
-use Prim.Native.Nat.{ℕ, _*_}
+use Prim.Native.Nat.{ℕ, _+_, _*_}
 use mathlib.Core.List.{List, [], _∷_, _++_, map}
 use mathlib.Core.Bool.{cond}
 use lib.Dec.{eqb}
@@ -24,3 +24,7 @@ sheetWords n t table = (n ∷ t ∷ length (filledCells n table) ∷ []) ++ fill
 
 unfoldable pub sheetBytes : ℕ → ℕ → List ℕ → List ℕ
 sheetBytes n t table = encode (sheetWords n t table)
+
+-- the length in bytes of the longest sheet of n nodes: "E above N × N" is refused
+abbrev pub longestSheet : ℕ → ℕ
+longestSheet n = 4 * (3 + 2 * (n * n))

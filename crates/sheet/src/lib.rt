@@ -1,13 +1,14 @@
 // The record `sheet`: who holds how many particles of which subdomain. *Read sheet* stands here, the table of its counts in
-// `table`, the writer in `write`.
+// `table`, the totals of the subdomains in `totals`, the writer in `write`.
 ghost use mathlib.Core.Path.{_≡_};
 ghost use Prim.Native.Nat.{_+_, _*_, _≤_};
 ghost use lib.ListN.{length};
 ghost use Rattle.fold.specs.Rising.{rising};
 ghost use Rattle.limit.specs.Limit.{maxNodes, maxTolerance};
-ghost use Rattle.sheet.specs.Sheet.{cellsOf, countsOf, cellFine, runningSum, entriesAnswer, readSheet, refusalNumber, answerOf};
+ghost use Rattle.sheet.specs.Sheet.{cellsOf, countsOf, cellFine, runningSum, headerOf, readHeader, entriesAnswer, readSheet, refusalNumber, answerOf};
 
 pub mod table;
+pub mod totals;
 pub mod write;
 
 // What an accepted sheet gives: N, t, E, P and L.
@@ -28,6 +29,18 @@ pub enum SheetRefusal {
     Length,
     Cell,
     Count,
+}
+
+// The three words of a header, and what reading them answers.
+pub struct Header {
+    pub n: u32,
+    pub t: u32,
+    pub e: u32,
+}
+
+pub enum HeaderReading {
+    Accepted(Header),
+    Refused(SheetRefusal),
 }
 
 pub enum SheetReading {
@@ -101,12 +114,15 @@ fn sum_counts(s: &[u8], e: usize) -> CountSum
     CountSum::Sum(sum)
 }
 
-// The cells and counts of a sheet whose header and length are right.
+// The cells and counts of a sheet whose header is right.
 fn read_entries(s: &[u8], n: u32, t: u32, e: u32) -> SheetReading
-    requires { ⌜ (4 * (3 + 2 * e) ≤ length (now s)) × (1 ≤ n) × (n ≤ maxNodes) × (t ≤ maxTolerance) ⌝ }
+    requires { ⌜ (1 ≤ n) × (n ≤ maxNodes) × (t ≤ maxTolerance) ⌝ }
     ensures { λ r. ⌜ answerOf r ≡ entriesAnswer (now (s .entry)) n t e ⌝ }
 {
     let k = e as usize;
+    if s.len() != 4 * (3 + 2 * k) {
+        return SheetReading::Refused(SheetRefusal::Length);
+    }
     if cells_fine(s, n, k) {
         match sum_counts(s, k) {
             CountSum::Sum(p) => SheetReading::Accepted(Sheet {
@@ -123,35 +139,42 @@ fn read_entries(s: &[u8], n: u32, t: u32, e: u32) -> SheetReading
     }
 }
 
-// *Read sheet*.
-pub fn read_sheet(s: &[u8]) -> SheetReading
-    ensures { λ r. ⌜ answerOf r ≡ readSheet (now (s .entry)) ⌝ }
+// The header of a sheet: the checks that look at its three words alone.
+pub fn read_header(s: &[u8]) -> HeaderReading
+    ensures { λ r. ⌜ headerOf r ≡ readHeader (now (s .entry)) ⌝ }
 {
     if s.len() < 12 {
-        return SheetReading::Refused(SheetRefusal::Short);
+        return HeaderReading::Refused(SheetRefusal::Short);
     }
     let n = words::word_number(s, 0);
     let t = words::word_number(s, 1);
     let e = words::word_number(s, 2);
     if n < 1 {
-        return SheetReading::Refused(SheetRefusal::Nodes);
+        return HeaderReading::Refused(SheetRefusal::Nodes);
     }
     if limit::MAX_NODES < n {
-        return SheetReading::Refused(SheetRefusal::Nodes);
+        return HeaderReading::Refused(SheetRefusal::Nodes);
     }
     if t < 1 {
-        return SheetReading::Refused(SheetRefusal::Tolerance);
+        return HeaderReading::Refused(SheetRefusal::Tolerance);
     }
     if limit::MAX_TOLERANCE < t {
-        return SheetReading::Refused(SheetRefusal::Tolerance);
+        return HeaderReading::Refused(SheetRefusal::Tolerance);
     }
     if n * n < e {
-        return SheetReading::Refused(SheetRefusal::Entries);
+        return HeaderReading::Refused(SheetRefusal::Entries);
     }
-    if s.len() != 4 * (3 + 2 * e as usize) {
-        return SheetReading::Refused(SheetRefusal::Length);
+    HeaderReading::Accepted(Header { n: n, t: t, e: e })
+}
+
+// *Read sheet*.
+pub fn read_sheet(s: &[u8]) -> SheetReading
+    ensures { λ r. ⌜ answerOf r ≡ readSheet (now (s .entry)) ⌝ }
+{
+    match read_header(s) {
+        HeaderReading::Accepted(h) => read_entries(s, h.n, h.t, h.e),
+        HeaderReading::Refused(r) => SheetReading::Refused(r),
     }
-    read_entries(s, n, t, e)
 }
 
 // Document 01's number of a refusal.

@@ -2,4 +2,3 @@ pub mod Digits
 pub mod Lengths
 pub mod Writing
 pub mod Splitting
-pub mod Vectors

@@ -4,7 +4,7 @@ use mathlib.Core.Path.{_≡_, refl, sym, ap, _∙_}
 use mathlib.Core.Logic.{_⊎_, inl, inr}
 use mathlib.Core.Bool.{true, false, true≢false}
 use mathlib.Core.List.{List, [], _∷_}
-use Prim.Native.Nat.{ℕ, zero, suc, _+_, _-_, _≤_, _<_}
+use Prim.Native.Nat.{ℕ, zero, suc, _+_, _-_, _*_, _≤_, _<_}
 use native.Mathlib.Nat.{add-zero}
 use native.Mathlib.Decide.{ℕ-discrete, decLt}
 use native.Mathlib.Omega.{arith}
@@ -12,28 +12,29 @@ use borrow.Author.Tests.{le-leb, leb-true, eq-eqb, ne-eqb}
 use lib.Dec.{leb, eqb}
 use lib.ListN.{length, getD, set, drop, length-set, List·getD-eq-default}
 use lib.Seq.{set-out, getD-set-same, getD-set-other, ext-getD}
+use Rattle.limit.specs.Limit.{tableSize}
 use Rattle.fold.specs.Sum.{only, sum}
 use Rattle.fold.proofs.Tests.{either, and-left, and-right, and-both, only-is, only-not}
 use Rattle.fold.proofs.Sums.{sum-set}
 use Rattle.words.specs.Words.{words}
 use Rattle.words.proofs.Words.{part-more}
-use Rattle.plan.specs.Tree.{at}
+use Rattle.arrays.specs.Arrays.{at}
 use Rattle.moves.specs.Moves.{routesOf, countsOf}
 use Rattle.transfer.specs.Carry.{fromCell, intoCell, sends, receives, withinFrom, sendsWithin, carriedFrom, carried, Ready}
 use Rattle.transfer.proofs.Ends.{moved-none, moved-one, moved-here}
 
 -- ---- cells
 
-pub from-below : (route : ℕ) → route < 262144 → fromCell route < 4096
+pub from-below : (route : ℕ) → route < 64 * tableSize → fromCell route < tableSize
 from-below route h = omega arith
 
-pub into-below : (route : ℕ) → route < 262144 → intoCell route < 4096
+pub into-below : (route : ℕ) → route < 64 * tableSize → intoCell route < tableSize
 into-below route h = omega arith
 
 -- ---- the entry that was read: the moves left begin with it
 
 pub record Entry (moves : List ℕ) (e i route count : ℕ) : Type 0 where
-  pub below : route < 262144
+  pub below : route < 64 * tableSize
   pub routes : drop i (routesOf moves e) ≡ route ∷ drop (i + 1) (routesOf moves e)
   pub counts : drop i (countsOf moves e) ≡ count ∷ drop (i + 1) (countsOf moves e)
 
@@ -158,7 +159,7 @@ applied table route count = set (taken table route count) (intoCell route) (at (
 
 -- ---- one move passes the test, or fails it
 
-module _ (table : List ℕ) (route count : ℕ) (routes counts : List ℕ) (size : length table ≡ 4096) (below : route < 262144) where
+module _ (table : List ℕ) (route count : ℕ) (routes counts : List ℕ) (size : length table ≡ tableSize) (below : route < 64 * tableSize) where
   pub within-fails : at table (fromCell route) < count → sendsWithin table (route ∷ routes) (count ∷ counts) ≡ false
   within-fails h =
       within-false table (route ∷ routes) (count ∷ counts) (fromCell route) (omega (arith, from-below route below))
@@ -188,8 +189,8 @@ module _ (table : List ℕ) (route count : ℕ) (routes counts : List ℕ) (size
 
 -- ---- one move applied
 
-module _ (table : List ℕ) (route count : ℕ) (size : length table ≡ 4096) (below : route < 262144) where
-  pub applied-length : length (applied table route count) ≡ 4096
+module _ (table : List ℕ) (route count : ℕ) (size : length table ≡ tableSize) (below : route < 64 * tableSize) where
+  pub applied-length : length (applied table route count) ≡ tableSize
   applied-length = simp length-set size
 
   into-lt : intoCell route < length (taken table route count)
@@ -200,25 +201,25 @@ module _ (table : List ℕ) (route count : ℕ) (size : length table ≡ 4096) (
     applied-at c = omega (arith, less-at table (fromCell route) count c enough, plus-at (taken table route count) (intoCell route) count c into-lt)
 
     -- all entries add up to the same
-    pub taken-sum : sum 4096 (at (taken table route count)) + count ≡ sum 4096 (at table)
+    pub taken-sum : sum tableSize (at (taken table route count)) + count ≡ sum tableSize (at table)
     taken-sum =
         omega (
           arith,
-          sum-set 4096 table (fromCell route) (at table (fromCell route) - count) (from-below route below) (omega (arith, from-below route below)),
+          sum-set tableSize table (fromCell route) (at table (fromCell route) - count) (from-below route below) (omega (arith, from-below route below)),
           enough,
         )
 
-    pub applied-sum : sum 4096 (at (applied table route count)) ≡ sum 4096 (at table)
+    pub applied-sum : sum tableSize (at (applied table route count)) ≡ sum tableSize (at table)
     applied-sum =
-        omega (arith, taken-sum, sum-set 4096 (taken table route count) (intoCell route) (at (taken table route count) (intoCell route) + count) (into-below route below) into-lt)
+        omega (arith, taken-sum, sum-set tableSize (taken table route count) (intoCell route) (at (taken table route count) (intoCell route) + count) (into-below route below) into-lt)
 
-  module _ (routes counts : List ℕ) (within : (c : ℕ) → c < 4096 → sends (route ∷ routes) (count ∷ counts) c ≤ at table c) where
+  module _ (routes counts : List ℕ) (within : (c : ℕ) → c < tableSize → sends (route ∷ routes) (count ∷ counts) c ≤ at table c) where
     pub applied-enough : count ≤ at table (fromCell route)
     applied-enough =
         omega (arith, within (fromCell route) (from-below route below), moved-here fromCell route count routes counts (fromCell route) refl)
 
     -- what is left to send is there still
-    pub applied-within : (c : ℕ) → c < 4096 → sends routes counts c ≤ at (applied table route count) c
+    pub applied-within : (c : ℕ) → c < tableSize → sends routes counts c ≤ at (applied table route count) c
     applied-within c h = omega (arith, within c h, moved-one fromCell route count routes counts c, applied-at applied-enough c)
 
     pub carried-more : carried table (route ∷ routes) (count ∷ counts) ≡ carried (applied table route count) routes counts
@@ -227,7 +228,7 @@ module _ (table : List ℕ) (route count : ℕ) (size : length table ≡ 4096) (
         ext-getD 0 (carried table (route ∷ routes) (count ∷ counts)) (carried next routes counts)
         (length-carried (route ∷ routes) (count ∷ counts) table ∙ size ∙ sym (length-carried routes counts next ∙ applied-length))
         (λ c l.
-        let b : c < 4096 = omega (arith, length-carried (route ∷ routes) (count ∷ counts) table) in
+        let b : c < tableSize = omega (arith, length-carried (route ∷ routes) (count ∷ counts) table) in
         let lt : c < length table = omega arith in
         let ln : c < length next = omega (arith, applied-length) in
         same (at (carried table (route ∷ routes) (count ∷ counts)) c) (at (carried next routes counts) c) (at table c) (at next c)

@@ -18,13 +18,12 @@ use Rattle.fold.specs.Rising.{rising}
 use Rattle.fold.proofs.Tests.{either, and-left, and-right, and-both, only-is, only-not}
 use Rattle.fold.proofs.Sums.{sum-add, sum-eq, sum-only, sum-term}
 use Rattle.fold.proofs.Lists.{rises, rising-more, rising-none, rising-from}
-use Rattle.limit.specs.Limit.{maxNodes, maxTotal}
+use Rattle.limit.specs.Limit.{maxNodes, maxTotal, tableSize}
 use Rattle.words.proofs.Words.{Below, below-none, below-append, below-tail}
-use Rattle.sheet.specs.Sheet.{cellFine}
+use Rattle.sheet.specs.Sheet.{cellFine, cell}
 use Rattle.sheet.proofs.Laws.{cell-holder, cell-subdomain}
-use Rattle.plan.specs.Tree.{at}
-use Rattle.tree.specs.Totals.{held, totalOf, totalsOf}
-use Rattle.tree.proofs.Tabulate.{tabulate-at}
+use Rattle.arrays.specs.Arrays.{at}
+use Rattle.sheet.specs.Table.{held}
 use Rattle.moves.specs.Moves.{subdomain, routeFine, countFine}
 use Rattle.transfer.specs.Due.{dueOf, Allotted}
 use Rattle.transfer.specs.Matching.{surplusOf, shortageOf, movesIn, allRoutes, allCounts}
@@ -36,6 +35,8 @@ use Rattle.transfer.proofs.Matched.{surplus-apart, moves-few, routes-ri
 use Rattle.transfer.proofs.Subdomains.{routesIn, countsIn, lengths-in, lengths, few-all}
 use Rattle.transfer.proofs.Applied.{carried-at, within-of}
 use Rattle.transfer.proofs.Kept.{Fine, acceptable-fine, sends-outside}
+use Rattle.arrays.proofs.Tabulate.{tabulate-at}
+use Rattle.sheet.specs.Totals.{totalOf, totalsOf}
 
 -- ---- lists in two parts
 
@@ -52,7 +53,7 @@ every-append p (x ∷ xs) ys e f = and-both (p x) (every p (xs ++ ys)) (and-left
 
 -- ---- cells: each names two nodes, or does not
 
-each-cell : (nodes : ℕ) (Q : ℕ → Type 0) → ((k n : ℕ) → k < nodes → n < nodes → Q (64 * k + n)) → ((c : ℕ) → cellFine nodes c ≡ false → Q c) → (c : ℕ) → Q c
+each-cell : (nodes : ℕ) (Q : ℕ → Type 0) → ((k n : ℕ) → k < nodes → n < nodes → Q (cell k n)) → ((c : ℕ) → cellFine nodes c ≡ false → Q c) → (c : ℕ) → Q c
 each-cell nodes Q p q c = split (either (cellFine nodes c))
   where
     split : (cellFine nodes c ≡ true) ⊎ (cellFine nodes c ≡ false) → Q c
@@ -73,30 +74,30 @@ module _ (nodes : ℕ) (table : List ℕ) (due : ℕ → ℕ → ℕ) (h64 : nod
 
   -- ---- the record
 
-  routes-all : (n : ℕ) → n ≤ nodes → (rising (routeFine nodes) 0 (collect n (routesIn nodes table due)) ≡ true) × Below (n * 4096) (collect n (routesIn nodes table due))
+  routes-all : (n : ℕ) → n ≤ nodes → (rising (routeFine nodes) 0 (collect n (routesIn nodes table due)) ≡ true) × Below (n * tableSize) (collect n (routesIn nodes table due))
   unfolding collect
   routes-all zero h = (rising-none (routeFine nodes) 0, below-none 0)
   routes-all (suc n) h =
       let ih = routes-all n (omega arith) in
-      let new : Below (suc n * 4096) (routesIn nodes table due n) =
+      let new : Below (suc n * tableSize) (routesIn nodes table due n) =
       λ i l. omega (arith, routes-in nodes (above n) (lacks n) n h64 i l) in
-      let up : Below (suc n * 4096) (collect n (routesIn nodes table due)) = λ i l. omega (arith, ih .1 i l) in (
-        rising-append (routeFine nodes) 0 (n * 4096) (collect n (routesIn nodes table due)) (routesIn nodes table due n) (omega arith) (ih .1) (ih .0)
+      let up : Below (suc n * tableSize) (collect n (routesIn nodes table due)) = λ i l. omega (arith, ih .1 i l) in (
+        rising-append (routeFine nodes) 0 (n * tableSize) (collect n (routesIn nodes table due)) (routesIn nodes table due n) (omega arith) (ih .1) (ih .0)
             (routes-rise nodes (above n) (lacks n) (λ k. surplus-apart (held table k n) (due n k)) n (omega arith) h64),
-        below-append (suc n * 4096) (collect n (routesIn nodes table due)) (routesIn nodes table due n) up new,
+        below-append (suc n * tableSize) (collect n (routesIn nodes table due)) (routesIn nodes table due n) up new,
       )
 
-  counts-all : sum 4096 (at table) ≤ maxTotal → (n : ℕ) → n ≤ nodes → every countFine (collect n (countsIn nodes table due)) ≡ true
+  counts-all : sum tableSize (at table) ≤ maxTotal → (n : ℕ) → n ≤ nodes → every countFine (collect n (countsIn nodes table due)) ≡ true
   unfolding collect
   counts-all small zero h = unfold every in refl
   counts-all small (suc n) h =
       every-append countFine (collect n (countsIn nodes table due)) (countsIn nodes table due n) (counts-all small n (omega arith))
-      (counts-fine nodes (above n) (lacks n) (λ k l. most (held table k n) (due n k) (sum 4096 (at table)) (sum-term 4096 (at table) (64 * k + n) (omega arith)) small))
+      (counts-fine nodes (above n) (lacks n) (λ k l. most (held table k n) (due n k) (sum tableSize (at table)) (sum-term tableSize (at table) (cell k n) (omega arith)) small))
     where
       most : (x d p : ℕ) → x ≤ p → p ≤ maxTotal → surplusOf x d ≤ maxTotal
       most x d p a b = omega arith
 
-  pub acceptable : sum 4096 (at table) ≤ maxTotal → Acceptable nodes (allRoutes nodes table due) (allCounts nodes table due)
+  pub acceptable : sum tableSize (at table) ≤ maxTotal → Acceptable nodes (allRoutes nodes table due) (allCounts nodes table due)
   acceptable small =
       record {
         same = lengths nodes table due nodes;
@@ -108,10 +109,10 @@ module _ (nodes : ℕ) (table : List ℕ) (due : ℕ → ℕ → ℕ) (h64 : nod
   -- ---- what each cell sends and receives
 
   -- a cell of subdomain n is met in subdomain n alone
-  module _ (end : ℕ → ℕ) (k n : ℕ) (hn : n < nodes) (own : (route : ℕ) → subdomain route < 64 → end route ≡ 64 * k + n → subdomain route ≡ n) where
-    moved-own : moved end (allRoutes nodes table due) (allCounts nodes table due) (64 * k + n) ≡ moved end (routesIn nodes table due n) (countsIn nodes table due n) (64 * k + n)
+  module _ (end : ℕ → ℕ) (k n : ℕ) (hn : n < nodes) (own : (route : ℕ) → subdomain route < 64 → end route ≡ cell k n → subdomain route ≡ n) where
+    moved-own : moved end (allRoutes nodes table due) (allCounts nodes table due) (cell k n) ≡ moved end (routesIn nodes table due n) (countsIn nodes table due n) (cell k n)
     moved-own =
-        moved-collect end nodes (routesIn nodes table due) (countsIn nodes table due) (64 * k + n) (lengths-in nodes table due) .1
+        moved-collect end nodes (routesIn nodes table due) (countsIn nodes table due) (cell k n) (lengths-in nodes table due) .1
         ∙ sum-eq nodes part (λ j. only (eqb j n) (part j)) (λ j l. elim (ℕ-discrete j n) [
           | yes e ↦ sym (only-is (eqb j n) (part j) (eq-eqb j n e))
           | no d ↦ absent j l d ∙ sym (only-not (eqb j n) (part j) (ne-eqb j n d))
@@ -119,11 +120,11 @@ module _ (nodes : ℕ) (table : List ℕ) (due : ℕ → ℕ → ℕ) (h64 : nod
         ∙ sum-only nodes part n hn
       where
         part : ℕ → ℕ
-        part j = moved end (routesIn nodes table due j) (countsIn nodes table due j) (64 * k + n)
+        part j = moved end (routesIn nodes table due j) (countsIn nodes table due j) (cell k n)
 
         absent : (j : ℕ) → j < nodes → j ≢ n → part j ≡ 0
         absent j l d =
-            moved-absent end (routesIn nodes table due j) (countsIn nodes table due j) (64 * k + n) (λ i b e.
+            moved-absent end (routesIn nodes table due j) (countsIn nodes table due j) (cell k n) (λ i b e.
             let s = routes-in nodes (above j) (lacks j) j h64 i b in
             d (sym s ∙ own (getD (routesIn nodes table due j) i 0) (omega (arith, s)) e))
 
@@ -142,17 +143,17 @@ module _ (nodes : ℕ) (table : List ℕ) (due : ℕ → ℕ → ℕ) (h64 : nod
         both : (x d : ℕ) → x + shortageOf x d ≡ d + surplusOf x d
         both x d = omega arith
 
-    sends-above : (k n : ℕ) → k < nodes → n < nodes → sends (allRoutes nodes table due) (allCounts nodes table due) (64 * k + n) ≡ above n k
+    sends-above : (k n : ℕ) → k < nodes → n < nodes → sends (allRoutes nodes table due) (allCounts nodes table due) (cell k n) ≡ above n k
     sends-above k n hk hn =
         moved-own fromCell k n hn (λ route b e. omega (arith, e, b))
         ∙ sends-surplus nodes (above n) (lacks n) (equal n hn) n k h64 (omega arith) hk
 
-    receives-lacks : (k n : ℕ) → k < nodes → n < nodes → receives (allRoutes nodes table due) (allCounts nodes table due) (64 * k + n) ≡ lacks n k
+    receives-lacks : (k n : ℕ) → k < nodes → n < nodes → receives (allRoutes nodes table due) (allCounts nodes table due) (cell k n) ≡ lacks n k
     receives-lacks k n hk hn =
         moved-own intoCell k n hn (λ route b e. omega (arith, e, b))
         ∙ receives-shortage nodes (above n) (lacks n) (equal n hn) n k h64 (omega arith) hk
 
-    module _ (size : length table ≡ 4096) (small : sum 4096 (at table) ≤ maxTotal) where
+    module _ (size : length table ≡ tableSize) (small : sum tableSize (at table) ≤ maxTotal) where
       fine : Fine nodes (allRoutes nodes table due)
       fine = acceptable-fine nodes h64 (allRoutes nodes table due) (allCounts nodes table due) (acceptable small)
 
@@ -180,8 +181,8 @@ module _ (nodes : ℕ) (table : List ℕ) (due : ℕ → ℕ → ℕ) (h64 : nod
 
       pub due-reached : (k n : ℕ) → k < nodes → n < nodes → held (carried table (allRoutes nodes table due) (allCounts nodes table due)) k n ≡ due n k
       due-reached k n hk hn =
-          let l : 64 * k + n < length table = omega arith in
-          carried-at (allRoutes nodes table due) (allCounts nodes table due) table (64 * k + n) l ∙ rw (sends-above k n hk hn, receives-lacks k n hk hn) (evens (held table k n) (due n k))
+          let l : cell k n < length table = omega arith in
+          carried-at (allRoutes nodes table due) (allCounts nodes table due) table (cell k n) l ∙ rw (sends-above k n hk hn, receives-lacks k n hk hn) (evens (held table k n) (due n k))
         where
           evens : (x d : ℕ) → x - surplusOf x d + shortageOf x d ≡ d
           evens x d = omega arith
@@ -204,7 +205,7 @@ pub record Carries (nodes : ℕ) (table : List ℕ) (due : ℕ → ℕ → ℕ) 
   pub reached : (k n : ℕ) → k < nodes → n < nodes → held (carried table (allRoutes nodes table due) (allCounts nodes table due)) k n ≡ due n k
 
 -- THEOREM 5. The moves that are computed from a table of counts and a plan's helpands and shares carry out its due amounts.
-pub carries : (nodes : ℕ) (table : List ℕ) (h total share : ℕ → ℕ) → nodes ≤ maxNodes → length table ≡ 4096 → sum 4096 (at table) ≤ maxTotal
+pub carries : (nodes : ℕ) (table : List ℕ) (h total share : ℕ → ℕ) → nodes ≤ maxNodes → length table ≡ tableSize → sum tableSize (at table) ≤ maxTotal
     → ((n : ℕ) → n < nodes → total n ≡ totalOf nodes table n) → Allotted nodes h total share → Carries nodes table (dueOf nodes h total share)
 carries nodes table h total share h64 size small totals a =
     let due = dueOf nodes h total share in
@@ -219,7 +220,7 @@ carries nodes table h total share h64 size small totals a =
     }
 
 -- the same for the array of all totals
-pub carries-totals : (nodes : ℕ) (table totals : List ℕ) (h share : ℕ → ℕ) → nodes ≤ maxNodes → length table ≡ 4096 → sum 4096 (at table) ≤ maxTotal
+pub carries-totals : (nodes : ℕ) (table totals : List ℕ) (h share : ℕ → ℕ) → nodes ≤ maxNodes → length table ≡ tableSize → sum tableSize (at table) ≤ maxTotal
     → totals ≡ totalsOf nodes table → Allotted nodes h (at totals) share → Carries nodes table (dueOf nodes h (at totals) share)
 carries-totals nodes table totals h share h64 size small e =
     carries nodes table h (at totals) share h64 size small (λ n l. ap (λ (xs : List ℕ). at xs n) e ∙ tabulate-at nodes (totalOf nodes table) n l)

@@ -13,7 +13,7 @@ use borrow.Author.Tests.{eq-eqb, ne-eqb}
 use Rattle.fold.specs.Sum.{only, sum}
 use Rattle.fold.proofs.Tests.{only-is, only-not}
 use Rattle.fold.proofs.Sums.{sum-more, sum-eq, sum-add, sum-only, sum-split}
-use Rattle.plan.specs.Tree.{at}
+use Rattle.arrays.specs.Arrays.{at}
 use Rattle.tree.specs.Family.{helps, overHelpers}
 use Rattle.tree.proofs.Families.{helps-yes, helps-other, helps-self}
 use Rattle.transfer.specs.Due.{dueWith, dueOf}

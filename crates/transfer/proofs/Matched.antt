@@ -11,26 +11,22 @@ use native.Mathlib.Omega.{arith}
 use borrow.Author.Tests.{lt-ltb, le-ltb}
 use lib.Dec.{ltb}
 use lib.ListN.{length, getD}
+use Rattle.sheet.specs.Sheet.{cell}
 use Rattle.fold.specs.Sum.{only, sum}
 use Rattle.fold.specs.All.{every}
 use Rattle.fold.specs.Rising.{rising}
 use Rattle.fold.proofs.Tests.{only-is, only-not, only-max, every-more}
-use Rattle.fold.proofs.Sums.{sum-none, sum-more, sum-split, sum-add, sum-le, sum-const}
+use Rattle.fold.proofs.Sums.{sum-none, sum-more, sum-fewer, sum-add, sum-le, sum-const}
 use Rattle.fold.proofs.Lists.{rising-none, rising-more, rising-from}
-use Rattle.limit.specs.Limit.{maxNodes, maxTotal}
-use Rattle.moves.specs.Moves.{subdomain, sender, receiver, routeFine, countFine}
-use Rattle.moves.proofs.Laws.{route-of, count-of}
+use Rattle.limit.specs.Limit.{maxNodes, maxTotal, tableSize}
+use Rattle.moves.specs.Moves.{route, subdomain, sender, receiver, routeFine, countFine}
+use Rattle.moves.proofs.Laws.{route-subdomain, route-sender, route-receiver, route-of, count-of}
 use Rattle.transfer.specs.Matching.{Move, surplusOf, shortageOf, matched, movesOf, routeOf, countOf}
 use Rattle.transfer.specs.Carry.{fromCell, intoCell, sends, receives}
 use Rattle.transfer.proofs.Turns.{Turn, walk}
 use Rattle.transfer.proofs.Ends.{moved-none, moved-here, moved-other}
 
 -- ---- prefix sums
-
-pub sum-up : (f : ℕ → ℕ) (a b : ℕ) → a ≤ b → sum a f ≤ sum b f
-sum-up f a b h =
-    let e : a + (b - a) ≡ b = omega arith in
-    omega (arith, rw e at (sum-split a (b - a) f))
 
 -- what [S k, S (k+1)) has beyond p
 abbrev beyond : (ℕ → ℕ) → ℕ → ℕ → ℕ
@@ -42,8 +38,8 @@ module _ (f : ℕ → ℕ) (k i x m : ℕ) (fits : x + m ≤ f i) where
 
   beyond-other : k ≢ i → beyond f k (sum i f + x + m) ≡ beyond f k (sum i f + x)
   beyond-other d = elim (decLt k i) [
-    | yes l ↦ omega (arith, sum-up f (k + 1) i (omega arith))
-    | no g ↦ omega (arith, sum-more i f, sum-up f (i + 1) k (omega (arith, g, d)))
+    | yes l ↦ omega (arith, sum-fewer (k + 1) i f (omega arith))
+    | no g ↦ omega (arith, sum-more i f, sum-fewer (i + 1) k f (omega (arith, g, d)))
   ]
 
 -- how many numbers below n have an amount
@@ -54,19 +50,7 @@ filled-one : (f : ℕ → ℕ) (n : ℕ) → 0 < f n → filledBelow f (n + 1) �
 filled-one f n h = omega (arith, sum-more n (λ k. only (ltb 0 (f k)) 1), only-is (ltb 0 (f n)) 1 (lt-ltb 0 (f n) h))
 
 filled-up : (f : ℕ → ℕ) (a b : ℕ) → a ≤ b → filledBelow f a ≤ filledBelow f b
-filled-up f = sum-up (λ k. only (ltb 0 (f k)) 1)
-
--- ---- a move's route
-
-module _ (n : ℕ) (m : Move) (hs : m .sender < 64) (hr : m .receiver < 64) where
-  pub route-subdomain : subdomain (routeOf n m) ≡ n
-  route-subdomain = omega arith
-
-  pub route-sender : sender (routeOf n m) ≡ m .sender
-  route-sender = omega arith
-
-  pub route-receiver : receiver (routeOf n m) ≡ m .receiver
-  route-receiver = omega arith
+filled-up f a b = sum-fewer a b (λ k. only (ltb 0 (f k)) 1)
 
 module _ (nodes : ℕ) (surplus shortage : ℕ → ℕ) where
   -- the whole list
@@ -124,34 +108,34 @@ module _ (nodes : ℕ) (surplus shortage : ℕ → ℕ) where
       route-fine m hs hr d =
           let bs : m .sender < 64 = omega arith in
           let br : m .receiver < 64 = omega arith in
-          let es = route-sender n m bs br in
-          let er = route-receiver n m bs br in
+          let es = route-sender n (m .sender) (m .receiver) bs br in
+          let er = route-receiver n (m .sender) (m .receiver) bs br in
           route-of nodes (routeOf n m)
           (record {
-            subdomain-below = omega (arith, route-subdomain n m bs br);
+            subdomain-below = omega (arith, route-subdomain n (m .sender) (m .receiver) bs br);
             sender-below = omega (arith, es);
             receiver-below = omega (arith, er);
             apart = λ q. d (sym es ∙ q ∙ er);
           })
 
       rise : (turns s sent r got : ℕ) → sent ≤ surplus s → got ≤ shortage r → 2 * nodes ≤ turns + (s + r)
-          → rising (routeFine nodes) (n * 4096 + s * 64 + r) (map (routeOf n) (matched nodes surplus shortage turns s sent r got)) ≡ true
+          → rising (routeFine nodes) (route n s r) (map (routeOf n) (matched nodes surplus shortage turns s sent r got)) ≡ true
       rise =
-          walk nodes surplus shortage (λ s sent r got l. rising (routeFine nodes) (n * 4096 + s * 64 + r) (map (routeOf n) l) ≡ true)
-          (λ s sent r got e. rising-none (routeFine nodes) (n * 4096 + s * 64 + r))
+          walk nodes surplus shortage (λ s sent r got l. rising (routeFine nodes) (route n s r) (map (routeOf n) l) ≡ true)
+          (λ s sent r got e. rising-none (routeFine nodes) (route n s r))
           (λ s sent r got m s′ sent′ r′ got′ rest t e p.
-          rising-from (routeFine nodes) (n * 4096 + s′ * 64 + r′) (n * 4096 + s * 64 + r) (map (routeOf n) rest)
+          rising-from (routeFine nodes) (route n s′ r′) (route n s r) (map (routeOf n) rest)
           (⊎-elim (λ w. omega (arith, w)) (λ w. omega (arith, w)) (t .next)) p)
           (λ s sent r got m s′ sent′ r′ got′ rest t h p.
-          let route = n * 4096 + s * 64 + r in
+          let there = route n s r in
           let fine = route-fine (record { sender = s; receiver = r; count = m }) (t .s-lt) (t .r-lt) (λ q. omega (arith, apart s, t .surplus-le, t .shortage-le, ap shortage q)) in
-          rising-more (routeFine nodes) route route (map (routeOf n) rest) (omega arith) fine
-          ∙ rising-from (routeFine nodes) (n * 4096 + s′ * 64 + r′) (route + 1) (map (routeOf n) rest)
+          rising-more (routeFine nodes) there there (map (routeOf n) rest) (omega arith) fine
+          ∙ rising-from (routeFine nodes) (route n s′ r′) (there + 1) (map (routeOf n) rest)
           (⊎-elim (λ w. omega (arith, w)) (λ w. omega (arith, w)) (t .next)) p)
 
-      pub routes-rise : rising (routeFine nodes) (n * 4096) (map (routeOf n) all) ≡ true
+      pub routes-rise : rising (routeFine nodes) (n * tableSize) (map (routeOf n) all) ≡ true
       routes-rise =
-          let low : n * 4096 + 0 * 64 + 0 ≡ n * 4096 = omega arith in
+          let low : route n 0 0 ≡ n * tableSize = omega arith in
           rw low at (rise (2 * nodes) 0 0 0 0 (omega arith) (omega arith) (omega arith))
 
   -- each count is some sender's, and not 0
@@ -180,7 +164,7 @@ module _ (nodes : ℕ) (surplus shortage : ℕ → ℕ) where
         (λ s sent r got m s′ sent′ r′ got′ rest t h p. at-first s r m rest (omega (arith, t .s-lt)) (omega (arith, t .r-lt)) p)
       where
         at-first : (s r m : ℕ) (rest : List Move) → s < 64 → r < 64 → In rest → In (record { sender = s; receiver = r; count = m } ∷ rest)
-        at-first s r m rest hs hr p zero l = route-subdomain n (record { sender = s; receiver = r; count = m }) hs hr
+        at-first s r m rest hs hr p zero l = route-subdomain n s r hs hr
         at-first s r m rest hs hr p (suc i) l = p i (omega arith)
 
     pub routes-in : In all
@@ -193,15 +177,15 @@ module _ (nodes : ℕ) (surplus shortage : ℕ → ℕ) where
     abbrev Left : ℕ → ℕ → ℕ → ℕ → List Move → Type 0
     Left s sent r got l =
         sum s surplus + sent ≡ sum r shortage + got
-        → (sends (map (routeOf n) l) (map countOf l) (64 * k + n) ≡ beyond surplus k (sum s surplus + sent))
-        × (receives (map (routeOf n) l) (map countOf l) (64 * k + n) ≡ beyond shortage k (sum r shortage + got))
+        → (sends (map (routeOf n) l) (map countOf l) (cell k n) ≡ beyond surplus k (sum s surplus + sent))
+        × (receives (map (routeOf n) l) (map countOf l) (cell k n) ≡ beyond shortage k (sum r shortage + got))
 
     left-stop : (s sent r got : ℕ) → (nodes ≤ s) ⊎ (nodes ≤ r) → Left s sent r got []
     left-stop s sent r got h q =
-        let us = sum-up surplus (k + 1) nodes (omega arith) in
-        let ur = sum-up shortage (k + 1) nodes (omega arith) in
-        let p : sum nodes surplus ≤ sum s surplus + sent = ⊎-elim (λ l. omega (arith, sum-up surplus nodes s l)) (λ l. omega (arith, sum-up shortage nodes r l)) h in
-        (omega (arith, moved-none fromCell [] (64 * k + n)), omega (arith, moved-none intoCell [] (64 * k + n)))
+        let us = sum-fewer (k + 1) nodes surplus (omega arith) in
+        let ur = sum-fewer (k + 1) nodes shortage (omega arith) in
+        let p : sum nodes surplus ≤ sum s surplus + sent = ⊎-elim (λ l. omega (arith, sum-fewer nodes s surplus l)) (λ l. omega (arith, sum-fewer nodes r shortage l)) h in
+        (omega (arith, moved-none fromCell [] (cell k n)), omega (arith, moved-none intoCell [] (cell k n)))
 
     left-move : (s sent r got m s′ sent′ r′ got′ : ℕ) (rest : List Move) → Turn nodes surplus shortage s sent r got m s′ sent′ r′ got′
         → Left s′ sent′ r′ got′ rest → Left s sent r got (record { sender = s; receiver = r; count = m } ∷ rest)
@@ -210,16 +194,16 @@ module _ (nodes : ℕ) (surplus shortage : ℕ → ℕ) where
         let mv : Move = record { sender = s; receiver = r; count = m } in
         let hs : s < 64 = omega (arith, t .s-lt) in
         let hr : r < 64 = omega (arith, t .r-lt) in
-        let ed = route-subdomain n mv hs hr in
-        let es = route-sender n mv hs hr in
-        let er = route-receiver n mv hs hr in (
+        let ed = route-subdomain n (mv .sender) (mv .receiver) hs hr in
+        let es = route-sender n (mv .sender) (mv .receiver) hs hr in
+        let er = route-receiver n (mv .sender) (mv .receiver) hs hr in (
           (elim (ℕ-discrete k s) [
-            | yes e ↦ omega (arith, ih .0, t .sends, beyond-here surplus k s sent m (t .surplus-le) e, moved-here fromCell (routeOf n mv) m (map (routeOf n) rest) (map countOf rest) (64 * k + n) (omega arith))
-            | no d ↦ omega (arith, ih .0, t .sends, beyond-other surplus k s sent m (t .surplus-le) d, moved-other fromCell (routeOf n mv) m (map (routeOf n) rest) (map countOf rest) (64 * k + n) (λ z. d (omega arith)))
+            | yes e ↦ omega (arith, ih .0, t .sends, beyond-here surplus k s sent m (t .surplus-le) e, moved-here fromCell (routeOf n mv) m (map (routeOf n) rest) (map countOf rest) (cell k n) (omega arith))
+            | no d ↦ omega (arith, ih .0, t .sends, beyond-other surplus k s sent m (t .surplus-le) d, moved-other fromCell (routeOf n mv) m (map (routeOf n) rest) (map countOf rest) (cell k n) (λ z. d (omega arith)))
           ]),
           (elim (ℕ-discrete k r) [
-            | yes e ↦ omega (arith, ih .1, t .gets, beyond-here shortage k r got m (t .shortage-le) e, moved-here intoCell (routeOf n mv) m (map (routeOf n) rest) (map countOf rest) (64 * k + n) (omega arith))
-            | no d ↦ omega (arith, ih .1, t .gets, beyond-other shortage k r got m (t .shortage-le) d, moved-other intoCell (routeOf n mv) m (map (routeOf n) rest) (map countOf rest) (64 * k + n) (λ z. d (omega arith)))
+            | yes e ↦ omega (arith, ih .1, t .gets, beyond-here shortage k r got m (t .shortage-le) e, moved-here intoCell (routeOf n mv) m (map (routeOf n) rest) (map countOf rest) (cell k n) (omega arith))
+            | no d ↦ omega (arith, ih .1, t .gets, beyond-other shortage k r got m (t .shortage-le) d, moved-other intoCell (routeOf n mv) m (map (routeOf n) rest) (map countOf rest) (cell k n) (λ z. d (omega arith)))
           ]),
         )
 
@@ -233,10 +217,10 @@ module _ (nodes : ℕ) (surplus shortage : ℕ → ℕ) where
         (2 * nodes) 0 0 0 0 (omega arith) (omega arith) (omega arith)
 
     -- each node sends its surplus, and receives its shortage
-    pub sends-surplus : sends (map (routeOf n) all) (map countOf all) (64 * k + n) ≡ surplus k
+    pub sends-surplus : sends (map (routeOf n) all) (map countOf all) (cell k n) ≡ surplus k
     sends-surplus = omega (arith, left-all (omega (arith, sum-none surplus, sum-none shortage)) .0, sum-none surplus, sum-more k surplus)
 
-    pub receives-shortage : receives (map (routeOf n) all) (map countOf all) (64 * k + n) ≡ shortage k
+    pub receives-shortage : receives (map (routeOf n) all) (map countOf all) (cell k n) ≡ shortage k
     receives-shortage = omega (arith, left-all (omega (arith, sum-none surplus, sum-none shortage)) .1, sum-none shortage, sum-more k shortage)
 
 -- ---- surplus and shortage of holdings and due amounts

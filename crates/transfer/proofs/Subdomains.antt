@@ -10,7 +10,7 @@ use Rattle.fold.specs.Collect.{collect}
 use Rattle.fold.proofs.Lists.{collect-more, collect-eq}
 use Rattle.words.specs.Buffer.{placed}
 use Rattle.words.proofs.Buffer.{sets-append, sets-placed}
-use Rattle.tree.specs.Totals.{held}
+use Rattle.sheet.specs.Table.{held}
 use Rattle.transfer.specs.Matching.{Move, surplusOf, shortageOf, movesOf, routeOf, countOf, movesIn, allRoutes, allCounts}
 use Rattle.transfer.proofs.Turns.{matched-eq}
 use Rattle.transfer.proofs.Matched.{moves-few}

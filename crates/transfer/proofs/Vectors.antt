@@ -6,7 +6,7 @@ use mathlib.Core.List.{List, [], _∷_, _++_}
 use lib.ListN.{replicate}
 use Rattle.fold.specs.Sum.{sum}
 use Rattle.fold.specs.Collect.{collect}
-use Rattle.plan.specs.Tree.{at}
+use Rattle.arrays.specs.Arrays.{at}
 use Rattle.transfer.specs.Due.{dueWith, dueOf}
 use Rattle.transfer.specs.Matching.{matched, allRoutes, allCounts}
 use Rattle.transfer.specs.Carry.{moved, withinFrom, sendsWithin, carriedFrom, carried}

@@ -5,18 +5,19 @@ use mathlib.Core.List.{List, [], _∷_}
 use mathlib.Core.Bool.{Bool, true, _&&_}
 use lib.Dec.{leb, eqb}
 use lib.ListN.{length, getD}
+use Rattle.sheet.specs.Sheet.{cell}
 use Rattle.fold.specs.Sum.{only, sum}
-use Rattle.limit.specs.Limit.{maxTotal}
+use Rattle.limit.specs.Limit.{maxTotal, tableSize}
 use Rattle.words.specs.Words.{words}
-use Rattle.plan.specs.Tree.{at}
+use Rattle.arrays.specs.Arrays.{at}
 use Rattle.moves.specs.Moves.{subdomain, sender, receiver}
 
--- "A cell is holder × 64 + subdomain.": the cell that a route leads from, and the cell that it leads to
+-- the cell that a route leads from, and the cell that it leads to
 abbrev pub fromCell : ℕ → ℕ
-fromCell route = 64 * sender route + subdomain route
+fromCell route = cell (sender route) (subdomain route)
 
 abbrev pub intoCell : ℕ → ℕ
-intoCell route = 64 * receiver route + subdomain route
+intoCell route = cell (receiver route) (subdomain route)
 
 -- the sum of the counts of all moves whose end is cell c
 unfoldable pub moved : (ℕ → ℕ) → List ℕ → List ℕ → ℕ → ℕ
@@ -52,7 +53,7 @@ carried table routes counts = carriedFrom routes counts 0 table
 -- what testing and applying moves ask: a table whose sum is in range, and the bytes of moves with e entries, each route one of
 -- 64 × 4,096
 pub record Ready (table moves : List ℕ) (e : ℕ) : Type 0 where
-  pub size : length table ≡ 4096
-  pub small : sum 4096 (at table) ≤ maxTotal
+  pub size : length table ≡ tableSize
+  pub small : sum tableSize (at table) ≤ maxTotal
   pub long : 4 * (2 + 2 * e) ≤ length moves
-  pub below : (i : ℕ) → i < e → getD (words moves) (2 + i) 0 < 262144
+  pub below : (i : ℕ) → i < e → getD (words moves) (2 + i) 0 < 64 * tableSize

@@ -6,7 +6,8 @@ use mathlib.Core.Bool.{cond, _&&_}
 use lib.Dec.{ltb, leb, eqb}
 use Rattle.fold.specs.First.{FirstFrom}
 use Rattle.fold.specs.Collect.{collect}
-use Rattle.tree.specs.Totals.{held}
+use Rattle.sheet.specs.Table.{held}
+use Rattle.moves.specs.Moves.{route}
 
 -- "Each node keeps the smaller of holding and due amount. Nodes with a surplus send, nodes with a shortage receive."
 abbrev pub surplusOf : ℕ → ℕ → ℕ
@@ -53,9 +54,9 @@ movesOf nodes holding due =
 
 -- ---- all subdomains, from a table of counts and what is due of each subdomain to each node
 
--- "A route is subdomain × 4,096 + sender × 64 + receiver."
+-- the route of a move of subdomain n
 abbrev pub routeOf : ℕ → Move → ℕ
-routeOf n m = n * 4096 + m .sender * 64 + m .receiver
+routeOf n m = route n (m .sender) (m .receiver)
 
 abbrev pub countOf : Move → ℕ
 countOf m = m .count

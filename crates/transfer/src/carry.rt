@@ -1,7 +1,10 @@
 // Document 01, *Carry out*: "42, some cell sends in all more than the old sheet gives it", and the table that follows, "each cell
 // less what it sends, plus what it receives".
+use limit::TABLE_SIZE;
+use moves::route;
 ghost use mathlib.Core.Path.{_≡_};
 ghost use mathlib.Core.Bool.{true};
+ghost use Rattle.sheet.specs.Sheet.{cell};
 ghost use Rattle.moves.specs.Moves.{routesOf, countsOf};
 ghost use Rattle.transfer.specs.Carry.{fromCell, intoCell, sendsWithin, carried, Ready};
 
@@ -9,23 +12,29 @@ ghost use Rattle.transfer.specs.Carry.{fromCell, intoCell, sendsWithin, 
 fn from_cell(route: u32) -> usize
     ensures { λ c. ⌜ c ≡ fromCell route ⌝ }
 {
-    (64 * (route / 64 % 64) + route / 4096) as usize
+    sheet::table::cell(
+        route::sender(route) as usize,
+        route::subdomain(route) as usize,
+    )
 }
 
 // The cell that a route leads to.
 fn into_cell(route: u32) -> usize
     ensures { λ c. ⌜ c ≡ intoCell route ⌝ }
 {
-    (64 * (route % 64) + route / 4096) as usize
+    sheet::table::cell(
+        route::receiver(route) as usize,
+        route::subdomain(route) as usize,
+    )
 }
 
 // Whether no cell sends in all more than the table has, under the record `moves` of e entries. What a cell sends is added up in 64
 // bits, which no count makes wrap, and tested against the table alone: what arrives plays no part.
-pub fn sends_within(table: &[u32; 4096], moves: &[u8], e: usize) -> bool
+pub fn sends_within(table: &[u32; TABLE_SIZE], moves: &[u8], e: usize) -> bool
     requires { ⌜ Ready (now table) (now moves) e ⌝ }
     ensures { λ r. ⌜ r ≡ sendsWithin (now (table .entry)) (routesOf (now (moves .entry)) e) (countsOf (now (moves .entry)) e) ⌝ }
 {
-    let mut sent = [0u64; 4096];
+    let mut sent = [0u64; TABLE_SIZE];
     let mut i = 0;
     while i < e {
         let from = from_cell(words::word_number(moves, 2 + i));
@@ -41,7 +50,7 @@ pub fn sends_within(table: &[u32; 4096], moves: &[u8], e: usize) -> bool
 }
 
 // Applies moves that passed this test, in place: no cell has less than it sends, and none comes to more than the table's sum.
-pub fn apply_moves(table: &mut [u32; 4096], moves: &[u8], e: usize)
+pub fn apply_moves(table: &mut [u32; TABLE_SIZE], moves: &[u8], e: usize)
     requires { ⌜ Ready (now table) (now moves) e × (sendsWithin (now table) (routesOf (now moves) e) (countsOf (now moves) e) ≡ true) ⌝ }
     ensures { λ _. ⌜ now (table .exit) ≡ carried (now (table .entry)) (routesOf (now (moves .entry)) e) (countsOf (now (moves .entry)) e) ⌝ }
 {

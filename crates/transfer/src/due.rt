@@ -3,8 +3,7 @@
 ghost use mathlib.Core.Path.{_≡_};
 ghost use Prim.Native.Nat.{ℕ, _≤_, _<_};
 ghost use Rattle.limit.specs.Limit.{maxNodes};
-ghost use Rattle.plan.specs.Tree.{at};
-ghost use Rattle.tree.specs.Totals.{tabulate};
+ghost use Rattle.arrays.specs.Arrays.{at, tabulate};
 ghost use Rattle.tree.specs.Division.{ownOf};
 ghost use Rattle.transfer.specs.Due.{dueWith, Allotted};
 

@@ -3,17 +3,21 @@
 use crate::due::due_amounts;
 use crate::due::own_amounts;
 use fold::numbers;
+use limit::TABLE_SIZE;
+use moves::route;
+use sheet::table;
 ghost use mathlib.Core.Path.{_≡_};
 ghost use Prim.Native.Nat.{ℕ, _+_, _-_, _*_, _≤_, _<_};
 ghost use mathlib.Core.List.{map};
 ghost use lib.ListN.{length};
 ghost use lib.Seq.{sets};
 ghost use Rattle.limit.specs.Limit.{maxNodes};
-ghost use Rattle.plan.specs.Tree.{at};
-ghost use Rattle.tree.specs.Totals.{held, tabulate, totalsOf};
+ghost use Rattle.arrays.specs.Arrays.{at, tabulate};
+ghost use Rattle.sheet.specs.Table.{held};
 ghost use Rattle.words.specs.Buffer.{placed};
 ghost use Rattle.transfer.specs.Due.{dueOf, Allotted};
 ghost use Rattle.transfer.specs.Matching.{moveOf, NextFrom, movesOf, routeOf, countOf, allRoutes, allCounts};
+ghost use Rattle.sheet.specs.Totals.{totalsOf};
 
 // A node with a surplus or a shortage, and what remains of it; past the last such node, the number of nodes.
 struct Remaining {
@@ -22,14 +26,14 @@ struct Remaining {
 }
 
 // What each node holds of subdomain n.
-fn holdings(table: &[u32; 4096], nodes: usize, n: usize) -> [u32; 64]
+fn holdings(table: &[u32; TABLE_SIZE], nodes: usize, n: usize) -> [u32; 64]
     requires { ⌜ (nodes ≤ maxNodes) × (n < nodes) ⌝ }
     ensures { λ r. ⌜ r ≡ tabulate nodes (λ (k : ℕ). held (now (table .entry)) k n) ⌝ }
 {
     let mut holding = [0u32; 64];
     let mut k = 0;
     while k < nodes {
-        holding[k] = table[64 * k + n];
+        holding[k] = table::held(table, k, n);
         k += 1;
     }
     holding
@@ -55,7 +59,7 @@ fn put_move(
     if count == 0 {
         return e;
     }
-    routes[e] = (n * 4096 + s * 64 + r) as u32;
+    routes[e] = route::route(n, s, r);
     counts[e] = count;
     e + 1
 }
@@ -124,7 +128,7 @@ fn put_subdomain(
 // The moves that give each node its due amounts: routes and counts are written from the front of the two arrays, and the number of
 // moves is given.
 pub fn all_moves(
-    table: &[u32; 4096],
+    table: &[u32; TABLE_SIZE],
     totals: [u32; 64],
     helpands: [u32; 64],
     shares: [u32; 64],

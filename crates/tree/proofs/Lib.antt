@@ -1,5 +1,3 @@
-pub mod Tabulate
-pub mod Totalled
 pub mod Families
 pub mod Weighing
 pub mod Passing

@@ -12,13 +12,14 @@ use lib.Seq.{getD-set-same, getD-set-other}
 use Rattle.fold.specs.Sum.{only, sum}
 use Rattle.fold.proofs.Tests.{only-is, only-not}
 use Rattle.fold.proofs.Sums.{sum-none, sum-more}
-use Rattle.plan.specs.Tree.{at, walk, Tree}
+use Rattle.plan.specs.Tree.{walk, Tree}
 use Rattle.plan.proofs.Trees.{walk-inside}
 use Rattle.tree.specs.Family.{helps}
 use Rattle.tree.specs.Weigh.{least}
 use Rattle.tree.specs.Descent.{Weighed}
 use Rattle.tree.proofs.Families.{helps-yes}
 use Rattle.tree.proofs.Weighing.{walk-suc, least-is}
+use Rattle.arrays.specs.Arrays.{at}
 
 -- a chain that comes to n from elsewhere comes through a helper of n
 through-helper : (nodes : ℕ) (h : ℕ → ℕ) → ((k : ℕ) → k < nodes → h k < nodes) → (n steps j : ℕ) → j < nodes → j ≢ n → walk h steps j ≡ n

@@ -8,13 +8,13 @@ use native.Mathlib.Numerals.{sub-one}
 use native.Mathlib.Omega.{arith}
 use lib.Dec.{leb}
 use Rattle.fold.specs.All.{all}
-use Rattle.plan.specs.Tree.{at, walk, Tree}
-use Rattle.tree.specs.Totals.{tabulate}
+use Rattle.plan.specs.Tree.{walk, Tree}
+use Rattle.arrays.specs.Arrays.{at, tabulate}
 use Rattle.tree.specs.Family.{helps, overHelpers}
 use Rattle.tree.specs.Weigh.{leastWithin, spareWithin, least, holds}
 use Rattle.tree.specs.Descent.{Shallow}
-use Rattle.tree.proofs.Tabulate.{tabulate-within}
 use Rattle.tree.proofs.Families.{helps-of, helps-ne, helpers-eq}
+use Rattle.arrays.proofs.Tabulate.{tabulate-within}
 
 -- ---- how deep a tree is
 

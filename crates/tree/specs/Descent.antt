@@ -4,9 +4,10 @@ use mathlib.Core.Bool.{true}
 use mathlib.Core.List.{List}
 use Prim.Native.Nat.{ℕ, zero, suc, _≤_, _<_}
 use Rattle.limit.specs.Limit.{maxNodes}
-use Rattle.plan.specs.Tree.{at, walk, Tree}
+use Rattle.plan.specs.Tree.{walk, Tree}
 use Rattle.tree.specs.Family.{helps}
 use Rattle.tree.specs.Weigh.{least}
+use Rattle.arrays.specs.Arrays.{at}
 
 -- the tree below n has fewer than so many levels
 unfoldable pub Shallow : ℕ → (ℕ → ℕ) → ℕ → ℕ → Type 0

@@ -1,4 +1,4 @@
-pub mod Totals
+pub mod Primary
 pub mod Family
 pub mod Weigh
 pub mod Division

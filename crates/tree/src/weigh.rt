@@ -8,8 +8,8 @@ ghost use lib.Dec.{leb};
 ghost use lib.ListN.{length};
 ghost use Rattle.fold.specs.All.{all};
 ghost use Rattle.limit.specs.Limit.{maxNodes};
-ghost use Rattle.plan.specs.Tree.{at, Tree};
-ghost use Rattle.tree.specs.Totals.{tabulate};
+ghost use Rattle.plan.specs.Tree.{Tree};
+ghost use Rattle.arrays.specs.Arrays.{at, tabulate};
 ghost use Rattle.tree.specs.Weigh.{least};
 ghost use Rattle.tree.specs.Descent.{Weighable, Weighed};
 
@@ -100,5 +100,5 @@ pub fn holds(leasts: [u32; 64], nodes: usize, limit: u32) -> bool
     requires { ⌜ nodes ≤ maxNodes ⌝ }
     ensures { λ r. ⌜ r ≡ all nodes (λ n. leb (at leasts n) limit) ⌝ }
 {
-    super::all_within(leasts, nodes, limit)
+    arrays::all_at_most(leasts, nodes, limit)
 }

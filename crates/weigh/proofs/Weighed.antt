@@ -10,13 +10,13 @@ use lib.Seq.{sets}
 use Rattle.fold.specs.Sum.{sum}
 use Rattle.fold.specs.All.{all}
 use Rattle.fold.specs.Collect.{collect}
-use Rattle.limit.specs.Limit.{maxTotal}
-use Rattle.words.specs.Words.{padded, encode}
+use Rattle.limit.specs.Limit.{maxTotal, tableSize}
+use Rattle.words.specs.Words.{encode}
 use Rattle.words.specs.Buffer.{placed}
 use Rattle.words.proofs.Words.{length-encode}
 use Rattle.words.proofs.Buffer.{sets-placed}
-use Rattle.tree.specs.Totals.{tabulate, totalsOf}
-use Rattle.tree.proofs.Tabulate.{length-row, take-tabulate}
+use Rattle.sheet.specs.Totals.{totalsOf}
+use Rattle.arrays.specs.Arrays.{padded, tabulate, at}
 use Rattle.tree.proofs.Weighing.{holds-tabulated}
 use Rattle.sheet.specs.declared.Sheet.{Sheet}
 use Rattle.sheet.specs.declared.SheetAnswer.{SheetAnswer}
@@ -24,14 +24,15 @@ use Rattle.sheet.specs.Sheet.{readSheet, accepted}
 use Rattle.sheet.specs.Table.{tableOf}
 use Rattle.sheet.proofs.Accepted.{Accepted, reading-accepted}
 use Rattle.sheet.proofs.Tables.{table-within}
-use Rattle.plan.specs.Tree.{at, Tree}
+use Rattle.plan.specs.Tree.{Tree}
 use Rattle.plan.specs.Plan.{readPlan, helpandsOf}
 use Rattle.plan.proofs.AcceptedTree.{accepted-tree}
-use Rattle.plan.proofs.Checks.{padded-same}
 use Rattle.plan.specs.declared.Plan.{Plan}
 use Rattle.plan.specs.declared.PlanAnswer.{PlanAnswer}
 use Rattle.weigh.specs.declared.WeighAnswer.{WeighAnswer}
 use Rattle.weigh.specs.Weigh.{refused, weighed, leastIn, holdsIn, leastBytes, pairAnswer, weighAnswer, bytesAfter, Read, Weighable}
+use Rattle.arrays.proofs.Tabulate.{length-row, take-tabulate}
+use Rattle.arrays.proofs.Padded.{padded-same}
 
 module _ (s p : List ℕ) (h : Sheet) (w : Weighable s p h) where
   -- the sheet's facts
@@ -39,7 +40,7 @@ module _ (s p : List ℕ) (h : Sheet) (w : Weighable s p h) where
   facts = reading-accepted s h (w .sheet)
 
   -- the table's sum does not wrap
-  pub sum-within : sum 4096 (at (tableOf s (h .e))) ≤ maxTotal
+  pub sum-within : sum tableSize (at (tableOf s (h .e))) ≤ maxTotal
   sum-within = table-within s (accepted (h .n) (h .t) (h .e) (h .p) (h .limit)) facts
 
   -- the plan's helpands are a tree

@@ -8,15 +8,15 @@ use lib.Dec.{eqb, ltb}
 use lib.ListN.{length}
 use Rattle.fold.specs.Sum.{only}
 use Rattle.fold.specs.Collect.{collect}
+use Rattle.words.specs.Checks.{refuseIf, refuseAs}
 use Rattle.words.specs.Words.{encode}
 use Rattle.words.specs.Buffer.{placed}
 use Rattle.sheet.specs.declared.Sheet.{Sheet}
 use Rattle.sheet.specs.Sheet.{readSheet, refusalNumber as sheetNumber, accepted as sheetAccepted}
-use Rattle.sheet.specs.Table.{tableIn}
-use Rattle.plan.specs.Tree.{at}
+use Rattle.arrays.specs.Arrays.{at}
 use Rattle.plan.specs.declared.Plan.{Plan}
 use Rattle.plan.specs.Plan.{readPlan, helpandsOf, refusalNumber as planNumber, accepted as planAccepted}
-use Rattle.tree.specs.Totals.{totalsOf}
+use Rattle.sheet.specs.Totals.{totalsIn}
 use Rattle.tree.specs.Weigh.{least, holds}
 use Rattle.weigh.specs.declared.WeighRefusal.{WeighRefusal}
 use Rattle.weigh.specs.declared.WeighRefusal.the-variants.{Sheet as OfSheet, Plan as OfPlan, NodesDiffer, Primary, Buffer}
@@ -47,10 +47,6 @@ answerOf (Refused r) = refused (numberOf r)
 
 -- ---- what is weighed, for a sheet s and a plan p that are accepted and have the same N
 
--- the totals of the sheet's subdomains
-abbrev pub totalsIn : List ℕ → List ℕ
-totalsIn s = totalsOf (readSheet s .n) (tableIn s)
-
 -- "least under the sheet's limit"
 abbrev pub leastIn : List ℕ → List ℕ → ℕ → ℕ
 leastIn s p = least (readSheet s .n) (at (helpandsOf p (readSheet s .n))) (at (totalsIn s)) (readSheet s .limit)
@@ -64,21 +60,18 @@ leastBytes s p = encode (collect (readSheet s .n) (λ k. leastIn s p k ∷ []))
 
 -- ---- the checks, in the order written
 
-abbrev pub refuseIf : Bool → ℕ → WeighAnswer → WeighAnswer
-refuseIf test k rest = cond test (refused k) rest
-
 -- 21, 24 and 25, with a buffer of so many bytes
 unfoldable pub pairAnswer : List ℕ → List ℕ → ℕ → WeighAnswer
 pairAnswer s p size =
-    refuseIf (not (eqb (readSheet s .n) (readPlan p .n))) 21
-    (refuseIf (eqb (readPlan p .kind) 0) 24
-    (refuseIf (ltb size (4 * readSheet s .n)) 25
+    refuseIf (not (eqb (readSheet s .n) (readPlan p .n))) (refused 21)
+    (refuseIf (eqb (readPlan p .kind) 0) (refused 24)
+    (refuseIf (ltb size (4 * readSheet s .n)) (refused 25)
     (weighed (holdsIn s p))))
 
 unfoldable pub weighAnswer : List ℕ → List ℕ → ℕ → WeighAnswer
 weighAnswer s p size =
-    refuseIf (not (eqb (readSheet s .refusal) 0)) (readSheet s .refusal)
-    (refuseIf (not (eqb (readPlan p .refusal) 0)) (readPlan p .refusal)
+    refuseAs refused (readSheet s .refusal)
+    (refuseAs refused (readPlan p .refusal)
     (pairAnswer s p size))
 
 -- the buffer afterwards: "N words of least", or as it was

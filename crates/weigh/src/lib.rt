@@ -7,7 +7,7 @@ use sheet::SheetReading;
 use sheet::SheetRefusal;
 ghost use mathlib.Core.Path.{_≡_};
 ghost use lib.ListN.{length};
-ghost use Rattle.tree.specs.Totals.{tabulate};
+ghost use Rattle.arrays.specs.Arrays.{tabulate};
 ghost use Rattle.weigh.specs.Weigh.{Weighable, Read, leastIn, pairAnswer, pairBytes, weighAnswer, weighBytes, numberOf, answerOf};
 
 // Why weighing is refused, in the order of the checks.
@@ -38,7 +38,7 @@ fn leasts_of(sheet: &[u8], plan: &[u8], s: Sheet) -> [u32; 64]
 {
     let nodes = s.n as usize;
     let table = sheet::table::unpack(sheet, s.e as usize);
-    let totals = tree::totals(&table, nodes);
+    let totals = sheet::totals::totals(&table, nodes);
     let helpands = words::words_64(plan, 3, nodes);
     let root = tree::weigh::find_root(helpands, nodes);
     tree::weigh::leasts(totals, helpands, nodes, root, s.limit)

@@ -5,9 +5,9 @@ use Prim.Native.Nat.{ℕ, zero, suc, _+_, _*_, _/_, _%_, _-_, _≤_, _<_, _^_}
 use native.Mathlib.Nat.{suc-add}
 use native.Mathlib.Numerals.{add-one}
 use native.Mathlib.Omega.{arith}
-use lib.ListN.{length, getD, set, take, drop, replicate, length-append, length-take, length-drop, drop-of-length-le, take-append-drop}
-use lib.Seq.{take-suc, drop-cons, getD-take, getD-drop, take-at, drop-at, take-all, drop-drop, set-append-seam}
-use Rattle.words.specs.Words.{word, words, bytesOf, encode, part, padded}
+use lib.ListN.{length, getD, take, drop, length-append, length-take, length-drop, drop-of-length-le, take-append-drop, List·getD-append}
+use lib.Seq.{take-suc, drop-cons, getD-take, getD-drop, take-at, drop-at, take-all, drop-drop}
+use Rattle.words.specs.Words.{word, words, bytesOf, encode, part}
 
 -- ---- lengths
 
@@ -41,6 +41,15 @@ words-at (a ∷ b ∷ c ∷ d ∷ s) (suc i) h =
     let e : 4 * suc i ≡ suc (suc (suc (suc (4 * i)))) = omega arith in
     let k : 4 * i + 4 ≤ length s = omega arith in
     rw e (simp suc-add (words-at s i k))
+
+-- a word, whatever follows
+pub word-front : (s p : List ℕ) (i : ℕ) → 4 * i + 4 ≤ length s → getD (words (s ++ p)) i 0 ≡ getD (words s) i 0
+word-front s p i h =
+    let l : 4 * i + 4 ≤ length (s ++ p) = simp length-append (omega arith) in
+    let front : (j : ℕ) → j < length s → getD (s ++ p) j 0 ≡ getD s j 0 = λ j b. List·getD-append s p 0 j b in
+    words-at (s ++ p) i l
+    ∙ rw (front (4 * i) (omega arith), front (4 * i + 1) (omega arith), front (4 * i + 2) (omega arith), front (4 * i + 3) (omega arith))
+    (sym (words-at s i h))
 
 -- ---- there and back
 
@@ -158,25 +167,3 @@ record-split ws a n e =
     ∙ ap (λ (l : List ℕ). take a ws ++ l)
     (rw (← drop-drop n a ws, take-all n (drop n (drop a ws)) l) (take-append-drop n (drop a ws)))
     ∙ take-append-drop a ws)
-
--- ---- an array of 64
-
-zeros-at : (n k : ℕ) → _≡_ {A = ℕ} (getD (replicate n 0) k 0) 0
-zeros-at zero k = refl
-zeros-at (suc n) zero = refl
-zeros-at (suc n) (suc k) = zeros-at n k
-
-pub behind-at : (xs : List ℕ) (n k : ℕ) → getD (xs ++ replicate n 0) k 0 ≡ getD xs k 0
-behind-at [] n k = zeros-at n k
-behind-at (x ∷ xs) n zero = refl
-behind-at (x ∷ xs) n (suc k) = behind-at xs n k
-
-pub padded-at : (xs : List ℕ) (k : ℕ) → getD (padded xs) k 0 ≡ getD xs k 0
-padded-at xs k = behind-at xs (64 - length xs) k
-
--- one more word in the array
-pub padded-more : (xs : List ℕ) (w : ℕ) → length xs < 64 → set (padded xs) (length xs) w ≡ padded (xs ++ (w ∷ []))
-padded-more xs w h =
-    let e : 64 - length xs ≡ suc (63 - length xs) = omega arith in
-    let f : 64 - length (xs ++ (w ∷ [])) ≡ 63 - length xs = simp length-append (omega arith) in
-    rw (e, f) (set-append-seam xs 0 (replicate (63 - length xs) 0) w ∙ sym (append-assoc xs (w ∷ []) (replicate (63 - length xs) 0)))

@@ -4,13 +4,17 @@ use Prim.Native.Nat.{ℕ}
 use mathlib.Core.Bool.{cond}
 use mathlib.Core.List.{List, _++_}
 use lib.ListN.{length, drop}
-use lib.Dec.{ltb}
+use lib.Dec.{eqb, ltb}
 use Rattle.words.specs.declared.Written.{Written}
 use Rattle.words.specs.declared.Written.the-variants.{Bytes, Short}
 
 -- the buffer begins with the record and is otherwise untouched
 abbrev pub placed : List ℕ → List ℕ → List ℕ
 placed rec out = rec ++ drop (length rec) out
+
+-- the buffer after a call that was to write this record: the call's refusal is 0 where it was accepted
+abbrev pub afterCall : ℕ → List ℕ → List ℕ → List ℕ
+afterCall refusal rec out = cond (eqb refusal 0) (placed rec out) out
 
 -- the buffer after a record was written that may not fit
 abbrev pub written : List ℕ → List ℕ → List ℕ

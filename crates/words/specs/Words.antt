@@ -1,7 +1,7 @@
 -- Words in lists of bytes. Document 01, 'Three records': "A word is 4 bytes, unsigned, low byte first."
-use Prim.Native.Nat.{ℕ, _+_, _-_, _*_, _/_, _%_}
+use Prim.Native.Nat.{ℕ, _+_, _*_, _/_, _%_}
 use mathlib.Core.List.{List, [], _∷_, _++_}
-use lib.ListN.{length, set, take, drop, replicate}
+use lib.ListN.{set, take, drop}
 
 -- the word of four bytes
 abbrev pub word : ℕ → ℕ → ℕ → ℕ → ℕ
@@ -31,7 +31,3 @@ putWord s i w = set (set (set (set s i (w % 256)) (i + 1) (w / 256 % 256)) (i + 
 -- the n words from number a on: one of the two parallel arrays of a record
 abbrev pub part : ℕ → ℕ → List ℕ → List ℕ
 part a n ws = take n (drop a ws)
-
--- an array of 64 that begins with xs, and zeros behind them
-abbrev pub padded : List ℕ → List ℕ
-padded xs = xs ++ replicate (64 - length xs) 0

@@ -4,8 +4,9 @@ ghost use mathlib.Core.List.{[], _∷_};
 ghost use Prim.Native.Nat.{_+_, _*_, _≤_};
 ghost use lib.ListN.{length, getD, take};
 ghost use lib.Seq.{sets};
-ghost use Rattle.words.specs.Words.{word, putWord, words, encode, part, padded};
+ghost use Rattle.words.specs.Words.{word, putWord, words, encode, part};
 ghost use Rattle.words.specs.Buffer.{placed};
+ghost use Rattle.arrays.specs.Arrays.{padded};
 
 // What writing a record into a lent buffer answers: its length in bytes, or that the buffer is too short.
 pub enum Written {

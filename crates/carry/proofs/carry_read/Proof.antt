@@ -10,7 +10,7 @@ use borrow.Author.Tests.{not-true, not-false}
 use lib.ListN.{length}
 use denote.Ref.{now}
 use Rattle.sheet.specs.Write.{sheetBytes}
-use Rattle.sheet.proofs.Accepted.{index-below}
+use Rattle.sheet.proofs.Accepted.{sheet-unpackable}
 use Rattle.moves.specs.Moves.{routesOf, countsOf}
 use Rattle.transfer.specs.Carry.{sendsWithin, Ready}
 use Rattle.carry.specs.Carry.{withinIn, nextTable, nextSheet, pairAnswer}
@@ -32,7 +32,7 @@ unpack-requires : tie.Need-unpack-requires
 unpack-requires c κs =
     let start = c .before .before .before .before .before .before .before in
     let f = sheet-facts (now (start .args .sheet)) (now (start .args .moves)) (start .args .s) (start .args .m) (start .pre) in
-    (omega (arith, f .size), index-below _ _ f)
+    (_, sheet-unpackable _ _ f)
 
 -- past 41: the table of the sheet, and the test of the moves against it
 module _ (c : tie.After-unpack) where

@@ -3,9 +3,9 @@ use borrow.Author.Needs.{needs}
 use mathlib.Core.Path.{_≡_, sym}
 use Prim.Native.Nat.{_-_, _≤_}
 use native.Mathlib.Omega.{arith}
-use Rattle.tree.specs.Totals.{tabulate}
-use Rattle.tree.proofs.Tabulate.{tabulate-none, tabulate-more}
+use Rattle.arrays.specs.Arrays.{tabulate}
 use Rattle.decide.proofs.own_numbers.Statement.{statement}
+use Rattle.arrays.proofs.Tabulate.{tabulate-none, tabulate-more}
 use Rattle.decide.proofs.own_numbers.Tie as tie
 
 abbrev Inv-loop : tie.InvT-loop

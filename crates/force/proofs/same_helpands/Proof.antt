@@ -10,7 +10,7 @@ use denote.Ref.{now}
 use Rattle.fold.proofs.Tests.{all-none, all-more, all-fails}
 use Rattle.words.specs.Words.{words}
 use Rattle.words.proofs.Words.{part-at}
-use Rattle.plan.specs.Tree.{at}
+use Rattle.arrays.specs.Arrays.{at}
 use Rattle.plan.specs.Plan.{helpandsOf}
 use Rattle.force.specs.Force.{sameHelpands}
 use Rattle.force.proofs.same_helpands.Statement.{statement}

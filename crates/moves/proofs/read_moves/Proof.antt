@@ -11,8 +11,9 @@ use lib.ListN.{length}
 use borrow.Author.Tests.{lt-ltb, le-ltb, eq-eqb, ne-eqb}
 use denote.Ref.{now}
 use Rattle.limit.specs.Limit.{maxNodes}
-use Rattle.moves.specs.Moves.{refuseIf, headAnswer, entriesAnswer, readMoves}
+use Rattle.moves.specs.Moves.{refused, headAnswer, entriesAnswer, readMoves}
 use Rattle.moves.proofs.read_moves.Statement.{statement}
+use Rattle.words.specs.Checks.{refuseIf}
 use Rattle.moves.proofs.read_moves.Tie as tie
 
 -- past the first test: the two words of the header are those of the list
@@ -34,7 +35,7 @@ module _ (c : tie.After-word-number2) where
 ranges : (c : tie.Else3) →
     let w = c .before .before in
     readMoves (s w)
-    ≡ refuseIf (ltb (n w * (n w - 1)) (e w)) 33 (refuseIf (not (eqb (length (s w)) (4 * (2 + 2 * e w)))) 34 (entriesAnswer (s w) (n w) (e w)))
+    ≡ refuseIf (ltb (n w * (n w - 1)) (e w)) (refused 33) (refuseIf (not (eqb (length (s w)) (4 * (2 + 2 * e w)))) (refused 34) (entriesAnswer (s w) (n w) (e w)))
 ranges c =
     let w = c .before .before in
     head w ∙ simp (le-ltb (n w) 1 (omega arith), le-ltb maxNodes (n w) (omega arith))

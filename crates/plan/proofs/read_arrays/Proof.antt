@@ -5,12 +5,14 @@ use mathlib.Core.Path.{_≡_, sym, ap, ap₂, _∙_}
 use mathlib.Core.Bool.{true}
 use Prim.Native.Nat.{ℕ}
 use denote.Ref.{now}
-use Rattle.plan.specs.Tree.{at, helpandsBelow, shapeFine, sharesFine}
+use Rattle.plan.specs.Tree.{helpandsBelow, shapeFine, sharesFine}
 use Rattle.plan.specs.Checks.{checkedOf}
 use Rattle.plan.specs.Plan.{helpandsOf, sharesOf}
-use Rattle.plan.proofs.Checks.{checked-passed, checked-refused, padded-same}
+use Rattle.plan.proofs.Checks.{checked-passed, checked-refused}
 use Rattle.plan.proofs.Reading.{arrays-helpand, arrays-shape, arrays-share, arrays-fine}
 use Rattle.plan.proofs.read_arrays.Statement.{statement}
+use Rattle.arrays.specs.Arrays.{at}
+use Rattle.arrays.proofs.Padded.{padded-same}
 use Rattle.plan.proofs.read_arrays.Tie as tie
 
 -- the array holds the helpands

@@ -6,7 +6,7 @@ use mathlib.Core.List.{List}
 use Prim.Native.Nat.{ℕ}
 use native.Mathlib.Omega.{arith}
 use denote.Ref.{now}
-use Rattle.words.specs.Words.{padded}
+use Rattle.arrays.specs.Arrays.{padded}
 use Rattle.plan.specs.Plan.{helpandsOf}
 use Rattle.decide.specs.Decide.{ownNumbers}
 use Rattle.planner.specs.Step.{oldHelpands}

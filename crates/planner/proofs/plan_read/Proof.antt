@@ -7,7 +7,7 @@ use Prim.Native.Nat.{ℕ}
 use native.Mathlib.Omega.{arith}
 use denote.Ref.{now}
 use Rattle.sheet.specs.declared.Sheet.{Sheet}
-use Rattle.sheet.proofs.Accepted.{index-below}
+use Rattle.sheet.proofs.Accepted.{sheet-unpackable}
 use Rattle.planner.specs.Step.{answerOf}
 use Rattle.planner.proofs.Facts.{facts, sum-within, old-size}
 use Rattle.planner.proofs.Records.{Here, product-small, before-deciding, here-allotted, here-few, here-long, here-answers}
@@ -31,7 +31,7 @@ unpack-requires : tie.Need-unpack-requires
 unpack-requires c κs =
     let b = c .before .before .before .before .before .before in
     let f = facts (sheet b) (old b) (s b) (tree b) (b .pre) in
-    (omega (arith, f .size), index-below _ _ f)
+    (_, sheet-unpackable _ _ f)
 
 totals-requires : tie.Need-totals-requires
 totals-requires c κs =

@@ -7,11 +7,11 @@ use Prim.Native.Nat.{_-_, _≤_, _<_}
 use native.Mathlib.Omega.{arith}
 use Rattle.fold.specs.declared.Found.the-variants.{At}
 use Rattle.fold.proofs.Scans.{best-found}
-use Rattle.tree.specs.Totals.{tabulate}
+use Rattle.arrays.specs.Arrays.{tabulate}
 use Rattle.rebuild.specs.Rebuild.{lowestInB, newHelpand, newShare}
 use Rattle.rebuild.proofs.Choices.{finish-none, finish-at, helpand-in, helpand-out, share-in, share-out}
-use Rattle.tree.proofs.Tabulate.{tabulate-none, tabulate-next}
 use Rattle.rebuild.proofs.finish.Statement.{statement}
+use Rattle.arrays.proofs.Tabulate.{tabulate-none, tabulate-next}
 use Rattle.rebuild.proofs.finish.Tie as tie
 
 abbrev Inv-loop : tie.InvT-loop

@@ -12,7 +12,7 @@ use lib.Dec.{ltb}
 use lib.ListN.{length, replicate}
 use Rattle.fold.specs.declared.Found.the-variants.{At}
 use Rattle.fold.proofs.Tests.{all-at}
-use Rattle.plan.specs.Tree.{at}
+use Rattle.arrays.specs.Arrays.{at}
 use Rattle.rebuild.specs.declared.Balance.{Balance}
 use Rattle.rebuild.specs.Target.{targetsOf}
 use Rattle.rebuild.specs.Rebuild.{is, startOf, runOf, finishOf, rebuiltOf, nextL, nextG}

@@ -6,11 +6,11 @@ use Prim.Native.Nat.{_-_, _≤_}
 use native.Mathlib.Nat.{div-le-self}
 use native.Mathlib.Omega.{arith}
 use Rattle.rebuild.specs.Target.{targetOf}
-use Rattle.tree.proofs.Tabulate.{tabulate-none, tabulate-more}
+use Rattle.arrays.proofs.Tabulate.{tabulate-none, tabulate-more}
 use Rattle.rebuild.proofs.TargetSums.{target-low, target-high}
 use Rattle.rebuild.proofs.targets.Statement.{statement}
 use Rattle.rebuild.proofs.targets.Tie as tie
-use Rattle.tree.specs.Totals.{tabulate}
+use Rattle.arrays.specs.Arrays.{tabulate}
 
 abbrev Inv-loop : tie.InvT-loop
 Inv-loop p nodes even rest out₀ k₀ out k = (k ≤ nodes) × (out ≡ tabulate k (targetOf nodes p))

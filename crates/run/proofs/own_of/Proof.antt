@@ -7,14 +7,13 @@ use native.Mathlib.Omega.{arith}
 use denote.Ref.{now}
 use Rattle.sheet.specs.Sheet.{readSheet}
 use Rattle.sheet.specs.Table.{tableOf, tableIn}
-use Rattle.sheet.proofs.Accepted.{Accepted, sheet-accepted, index-below}
+use Rattle.sheet.proofs.Accepted.{Accepted, sheet-accepted, sheet-unpackable}
 use Rattle.sheet.proofs.Tables.{table-within}
-use Rattle.plan.specs.Tree.{at}
-use Rattle.tree.specs.Totals.{totalOf, totalsOf, tabulate}
+use Rattle.arrays.specs.Arrays.{at, tabulate}
+use Rattle.sheet.specs.Totals.{totalOf, totalsOf, totalsIn}
 use Rattle.tree.specs.Division.{ownOf}
-use Rattle.tree.proofs.Tabulate.{tabulate-behind}
-use Rattle.weigh.specs.Weigh.{totalsIn}
 use Rattle.run.proofs.own_of.Statement.{statement}
+use Rattle.arrays.proofs.Tabulate.{tabulate-behind}
 use Rattle.run.proofs.own_of.Tie as tie
 
 abbrev sheet : tie.Start → List ℕ
@@ -43,7 +42,7 @@ unpack-requires : tie.Need-unpack-requires
 unpack-requires c κs =
     let b = c .before .before in
     let e : c .word-number .result ≡ readSheet (sheet b) .e = c .word-number .ensures ∙ sym (facts b .e-is) in
-    (omega (arith, e, facts b .size), λ i l. index-below (sheet b) (readSheet (sheet b)) (facts b) i (omega (arith, e)))
+    (readSheet (sheet b) .n, rw e (sheet-unpackable (sheet b) (readSheet (sheet b)) (facts b)))
 
 totals-requires : tie.Need-totals-requires
 totals-requires c κs =

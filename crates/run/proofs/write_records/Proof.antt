@@ -7,19 +7,19 @@ use Prim.Native.Nat.{ℕ, _+_, _≤_}
 use native.Mathlib.Omega.{arith}
 use lib.ListN.{length, drop, length-append}
 use denote.Ref.{now}
-use Rattle.words.specs.Words.{words, part, padded}
+use Rattle.words.specs.Words.{words, part}
 use Rattle.words.specs.Buffer.{placed}
 use Rattle.words.proofs.Words.{length-part}
-use Rattle.plan.specs.Tree.{at}
+use Rattle.arrays.specs.Arrays.{padded, at}
 use Rattle.plan.specs.Plan.{readPlan, helpandsOf, sharesOf}
 use Rattle.plan.proofs.Accepted as plan
-use Rattle.plan.proofs.Checks.{padded-same}
 use Rattle.moves.specs.Moves.{readMoves}
 use Rattle.moves.proofs.Accepted as moves
 use Rattle.transfer.specs.Due.{Allotted}
-use Rattle.weigh.specs.Weigh.{totalsIn}
+use Rattle.sheet.specs.Totals.{totalsIn}
 use Rattle.run.proofs.Lines.{moves-few, text-same}
 use Rattle.run.proofs.write_records.Statement.{statement}
+use Rattle.arrays.proofs.Padded.{padded-same}
 use Rattle.run.proofs.write_records.Tie as tie
 
 module _ (b : tie.Start) where

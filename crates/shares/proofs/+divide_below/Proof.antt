@@ -11,13 +11,12 @@ use native.Mathlib.Omega.{arith}
 use lib.ListN.{length, length-set}
 use lib.Seq.{getD-set-same}
 use denote.Ref.{now}
-use Rattle.plan.specs.Tree.{at}
-use Rattle.tree.specs.Totals.{held}
+use Rattle.arrays.specs.Arrays.{at}
+use Rattle.sheet.specs.Table.{held}
 use Rattle.tree.specs.Family.{helps}
 use Rattle.shares.specs.Shares.{amount}
 use Rattle.fold.specs.First.{FirstFrom}
 use Rattle.shares.specs.Walk.{sharesIn}
-use Rattle.tree.proofs.Tabulate.{tabulate-at}
 use Rattle.shares.proofs.Families.{helps-of, helps-ne, helper-below}
 use Rattle.shares.proofs.Levels.{array-helper}
 use Rattle.shares.proofs.Walks.{Passed, passed-none, passed-next, passed-helper, passed-all, walked-none}
@@ -27,6 +26,7 @@ use Rattle.shares.proofs.family.divide_family.Reads as family
 use Rattle.shares.proofs.+divide_below.Lts-divide_below as lts
 use Rattle.shares.proofs.+divide_below.{statement}
 use Rattle.shares.proofs.+divide_below.Tie.{close}
+use Rattle.arrays.proofs.Tabulate.{tabulate-at}
 
 abbrev μ-divide-below : Measures 6 kinds.ps ℕ
 μ-divide-below κs a = a .1 .1 .1 .1 .1 .1 .1 .0

@@ -5,7 +5,7 @@ use Prim.Native.Nat.{ℕ, _+_, _-_, _≤_, _<_}
 use native.Mathlib.Omega.{arith}
 use lib.ListN.{length, length-set}
 use denote.Ref.{now}
-use Rattle.plan.specs.Tree.{at}
+use Rattle.arrays.specs.Arrays.{at}
 use Rattle.shares.proofs.Links.{Linking, linking-none, linking-root, linking-helper, linked-all}
 use Rattle.shares.proofs.helper_links.Statement.{statement}
 use Rattle.shares.proofs.helper_links.Tie as tie

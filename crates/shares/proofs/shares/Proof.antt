@@ -1,13 +1,13 @@
 -- `shares::shares` meets its contract: a walk from the root reaches each node. Assumes nothing.
 use mathlib.Core.Path.{refl, sym, _∙_}
 use denote.Ref.{now}
-use Rattle.plan.specs.Tree.{at}
-use Rattle.tree.specs.Totals.{held}
+use Rattle.arrays.specs.Arrays.{at}
+use Rattle.sheet.specs.Table.{held}
 use Rattle.shares.specs.Shares.{shareOf}
-use Rattle.tree.proofs.Tabulate.{zeros-at}
 use Rattle.shares.proofs.Levels.{array-described}
 use Rattle.shares.proofs.Walks.{walked-root}
 use Rattle.shares.proofs.shares.Statement.{statement}
+use Rattle.arrays.proofs.Padded.{zeros-at}
 use Rattle.shares.proofs.shares.Tie as tie
 
 divide-below-requires : tie.Need-divide-below-requires

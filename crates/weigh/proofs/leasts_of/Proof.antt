@@ -6,8 +6,8 @@ use native.Mathlib.Omega.{arith}
 use denote.Ref.{now}
 use Rattle.plan.specs.Plan.{helpandsOf}
 use Rattle.plan.proofs.Accepted.{plan-accepted}
-use Rattle.plan.proofs.Checks.{padded-same}
-use Rattle.sheet.proofs.Accepted.{index-below}
+use Rattle.arrays.proofs.Padded.{padded-same}
+use Rattle.sheet.proofs.Accepted.{sheet-unpackable}
 use Rattle.weigh.proofs.Weighed.{facts, sum-within, array-tree}
 use Rattle.weigh.proofs.leasts_of.Statement.{statement}
 use Rattle.weigh.proofs.leasts_of.Tie as tie
@@ -16,7 +16,7 @@ unpack-requires : tie.Need-unpack-requires
 unpack-requires c κs =
     let start = c .before .before .before .before in
     let f = facts (now (start .args .sheet)) (now (start .args .plan)) (start .args .s) (start .pre) in
-    (omega (arith, f .size), index-below _ _ f)
+    (_, sheet-unpackable _ _ f)
 
 totals-requires : tie.Need-totals-requires
 totals-requires c κs =

@@ -10,7 +10,7 @@ use denote.Ref.{now}
 use Rattle.limit.specs.Limit.{maxNodes}
 use Rattle.sheet.specs.declared.Sheet.{Sheet}
 use Rattle.plan.specs.declared.Plan.{Plan}
-use Rattle.tree.proofs.Tabulate.{length-tabulate}
+use Rattle.arrays.proofs.Tabulate.{length-tabulate}
 use Rattle.weigh.specs.Weigh.{weighed, leastIn, holdsIn, leastBytes, pairAnswer}
 use Rattle.weigh.proofs.Weighed.{facts, leasts-placed, leasts-hold, pair-differ, pair-primary, pair-short, pair-weighed, weighable, refused-both}
 use Rattle.weigh.proofs.weigh_read.Statement.{statement}

@@ -7,17 +7,10 @@ use native.Mathlib.Numerals.{unary-clauses}
 use native.Mathlib.Omega.{arith}
 use lib.ListN.{length, drop, replicate}
 use denote.Ref.{now}
+use Rattle.arrays.proofs.Padded.{drop-zeros}
 use Rattle.words.specs.Words.{words, part}
 use Rattle.words.proofs.words_64.Statement.{statement}
 use Rattle.words.proofs.words_64.Tie as tie
-
--- fewer zeros
-drop-zeros : (n m : ℕ) → _≡_ {A = List ℕ} (drop n (replicate m 0)) (replicate (m - n) 0)
-drop-zeros zero m = simp unary-clauses refl
-drop-zeros (suc n) zero =
-    let e : 0 - suc n ≡ 0 = omega arith in
-    rw e
-drop-zeros (suc n) (suc m) = simp unary-clauses (drop-zeros n m)
 
 pub words-64-spec : {M : Type 1} → statement M
 words-64-spec =

@@ -7,8 +7,9 @@ use Prim.Native.Nat.{_≤_, _-_}
 use native.Mathlib.Omega.{arith}
 use Rattle.fold.specs.All.{all}
 use Rattle.fold.proofs.Tests.{all-none, all-more, all-fails}
-use Rattle.plan.specs.Tree.{at, isRoot}
+use Rattle.plan.specs.Tree.{isRoot}
 use Rattle.plan.proofs.tree.all_roots.Statement.{statement}
+use Rattle.arrays.specs.Arrays.{at}
 use Rattle.plan.proofs.tree.all_roots.Tie as tie
 
 abbrev Inv-loop : tie.InvT-loop

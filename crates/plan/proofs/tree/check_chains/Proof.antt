@@ -9,10 +9,11 @@ use native.Mathlib.Omega.{arith}
 use Rattle.fold.specs.All.{all}
 use Rattle.fold.proofs.Tests.{all-none, all-more, all-fails, all-at}
 use Rattle.plan.specs.declared.Checked.the-variants.{Passed}
-use Rattle.plan.specs.Tree.{at, reaches}
+use Rattle.plan.specs.Tree.{reaches}
 use Rattle.plan.specs.Checks.{checkedOf}
 use Rattle.plan.proofs.Chains.{reaches-root, reaches-none, reaches-step}
 use Rattle.plan.proofs.tree.check_chains.Statement.{statement}
+use Rattle.arrays.specs.Arrays.{at}
 use Rattle.plan.proofs.tree.check_chains.Tie as tie
 
 abbrev Inv-steps : tie.InvT-steps

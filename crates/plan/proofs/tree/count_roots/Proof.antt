@@ -8,8 +8,9 @@ use native.Mathlib.Omega.{arith}
 use Rattle.fold.specs.Sum.{only}
 use Rattle.fold.proofs.Tests.{only-is, only-not}
 use Rattle.fold.proofs.Sums.{sum-none, sum-more}
-use Rattle.plan.specs.Tree.{at, isRoot, roots}
+use Rattle.plan.specs.Tree.{isRoot, roots}
 use Rattle.plan.proofs.tree.count_roots.Statement.{statement}
+use Rattle.arrays.specs.Arrays.{at}
 use Rattle.plan.proofs.tree.count_roots.Tie as tie
 
 abbrev Inv-loop : tie.InvT-loop

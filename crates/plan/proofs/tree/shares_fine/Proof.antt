@@ -7,9 +7,10 @@ use Prim.Native.Nat.{_≤_, _-_}
 use native.Mathlib.Omega.{arith}
 use Rattle.fold.specs.All.{all}
 use Rattle.fold.proofs.Tests.{all-none, all-more, all-fails}
-use Rattle.plan.specs.Tree.{at, shareFine}
+use Rattle.plan.specs.Tree.{shareFine}
 use Rattle.plan.proofs.Shares.{share-over, share-root, share-fine}
 use Rattle.plan.proofs.tree.shares_fine.Statement.{statement}
+use Rattle.arrays.specs.Arrays.{at}
 use Rattle.plan.proofs.tree.shares_fine.Tie as tie
 
 abbrev Inv-loop : tie.InvT-loop

@@ -11,13 +11,14 @@ use lib.ListN.{length, length-set}
 use denote.Ref.{now}
 use Rattle.fold.specs.Sum.{sum}
 use Rattle.fold.proofs.Sums.{sum-none, sum-more}
-use Rattle.plan.specs.Tree.{at}
-use Rattle.tree.specs.Totals.{held, tabulate, totalOf}
+use Rattle.arrays.specs.Arrays.{at, tabulate}
+use Rattle.sheet.specs.Table.{held}
 use Rattle.shares.specs.Shares.{space, kept}
-use Rattle.tree.proofs.Tabulate.{tabulate-at, tabulate-behind, length-tabulate, tabulate-is, tabulate-none, tabulate-more}
 use Rattle.shares.proofs.Spaces.{space-here}
 use Rattle.shares.proofs.Amounts.{kept-left, amount-arrays}
 use Rattle.shares.proofs.family.divide_family.Statement.{statement}
+use Rattle.arrays.proofs.Tabulate.{tabulate-at, tabulate-behind, length-tabulate, tabulate-is, tabulate-none, tabulate-more}
+use Rattle.sheet.specs.Totals.{totalOf}
 use Rattle.shares.proofs.family.divide_family.Tie as tie
 
 -- the spaces, and what is kept

@@ -7,12 +7,11 @@ use Prim.Native.Nat.{ℕ, _+_, _-_, _≤_, min}
 use native.Mathlib.Omega.{arith}
 use lib.ListN.{length, length-set}
 use denote.Ref.{now}
-use Rattle.plan.specs.Tree.{at}
-use Rattle.tree.specs.Totals.{tabulate}
+use Rattle.arrays.specs.Arrays.{at, tabulate}
 use Rattle.shares.specs.Fill.{room, ahead, fill}
-use Rattle.tree.proofs.Tabulate.{tabulate-none, tabulate-more}
 use Rattle.shares.proofs.FillLaws.{ahead-none, ahead-own, ahead-more, fill-own, fill-helper}
 use Rattle.shares.proofs.fill.fill.Statement.{statement}
+use Rattle.arrays.proofs.Tabulate.{tabulate-none, tabulate-more}
 use Rattle.shares.proofs.fill.fill.Tie as tie
 
 abbrev Inv-loop : tie.InvT-loop

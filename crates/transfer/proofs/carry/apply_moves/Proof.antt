@@ -9,9 +9,9 @@ use lib.ListN.{length, set, drop}
 use denote.Ref.{now}
 use Rattle.fold.specs.Sum.{sum}
 use Rattle.fold.proofs.Sums.{sum-term}
-use Rattle.limit.specs.Limit.{maxTotal}
+use Rattle.limit.specs.Limit.{maxTotal, tableSize}
 use Rattle.words.proofs.Words.{part-end}
-use Rattle.plan.specs.Tree.{at}
+use Rattle.arrays.specs.Arrays.{at}
 use Rattle.moves.specs.Moves.{routesOf, countsOf}
 use Rattle.transfer.specs.Carry.{fromCell, intoCell, sends, carried}
 use Rattle.transfer.proofs.Applied.{into-below, Entry, entry-read, within-at, taken, applied-length, taken-sum, applied-sum, applied-enough, applied-within, carried-none, carried-more}
@@ -20,9 +20,9 @@ use Rattle.transfer.proofs.carry.apply_moves.Tie as tie
 
 record Applying (old moves : List ℕ) (e : ℕ) (table : List ℕ) (i : ℕ) : Type 0 where
   i-le : i ≤ e
-  size : length table ≡ 4096
-  small : sum 4096 (at table) ≤ maxTotal
-  within : (c : ℕ) → c < 4096 → sends (drop i (routesOf moves e)) (drop i (countsOf moves e)) c ≤ at table c
+  size : length table ≡ tableSize
+  small : sum tableSize (at table) ≤ maxTotal
+  within : (c : ℕ) → c < tableSize → sends (drop i (routesOf moves e)) (drop i (countsOf moves e)) c ≤ at table c
   same : carried old (routesOf moves e) (countsOf moves e) ≡ carried table (drop i (routesOf moves e)) (drop i (countsOf moves e))
 
 abbrev Inv-loop : tie.InvT-loop
@@ -47,7 +47,7 @@ module _ (old moves : List ℕ) (e : ℕ) (table : List ℕ) (i : ℕ) (g : Appl
   abbrev counts′ : List ℕ
   counts′ = drop (i + 1) (countsOf moves e)
 
-  within-here : (c : ℕ) → c < 4096 → sends (route ∷ routes′) (count ∷ counts′) c ≤ at table c
+  within-here : (c : ℕ) → c < tableSize → sends (route ∷ routes′) (count ∷ counts′) c ≤ at table c
   within-here = rw (entry .routes, entry .counts) at (g .within)
 
   same-here : carried old (routesOf moves e) (countsOf moves e) ≡ carried table (route ∷ routes′) (count ∷ counts′)
@@ -61,7 +61,7 @@ module _ (old moves : List ℕ) (e : ℕ) (table : List ℕ) (i : ℕ) (g : Appl
     enough,
     omega (
       arith,
-      sum-term 4096 (at (taken table route count)) (intoCell route) (into-below route (entry .below)),
+      sum-term tableSize (at (taken table route count)) (intoCell route) (into-below route (entry .below)),
       taken-sum table route count (g .size) (entry .below) enough,
       g .small,
     ),
@@ -89,10 +89,10 @@ module _ (c : tie.After-into-cell Inv-loop μ-loop) where
   read : Entry (now (start .args .moves)) (start .args .e) (turn .before .loop .i) (count-read .before .word-number .result) (count-read .word-number2 .result)
   read = entry-read _ _ _ _ (start .pre .0) (turn .loop-test .taken) _ _ (count-read .before .word-number .ensures) (count-read .word-number2 .ensures)
 
-  from-lt : c .before .from-cell .result < 4096
+  from-lt : c .before .from-cell .result < tableSize
   from-lt = omega (arith, c .before .from-cell .ensures, read .below)
 
-  into-lt : c .into-cell .result < 4096
+  into-lt : c .into-cell .result < tableSize
   into-lt = omega (arith, c .into-cell .ensures, read .below)
 
   turned-at : Turned (now (start .args .table)) (now (start .args .moves)) (start .args .e) (turn .before .loop .table) (turn .before .loop .i)

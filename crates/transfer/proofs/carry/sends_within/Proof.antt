@@ -9,9 +9,9 @@ use native.Mathlib.Omega.{arith}
 use lib.ListN.{length, set, drop, length-set, length-replicate, getD-replicate}
 use denote.Ref.{now}
 use Rattle.fold.proofs.Sums.{sum-term}
-use Rattle.limit.specs.Limit.{maxTotal}
+use Rattle.limit.specs.Limit.{maxTotal, tableSize}
 use Rattle.words.proofs.Words.{part-end}
-use Rattle.plan.specs.Tree.{at}
+use Rattle.arrays.specs.Arrays.{at}
 use Rattle.moves.specs.Moves.{routesOf, countsOf}
 use Rattle.transfer.specs.Carry.{fromCell, sendsWithin}
 use Rattle.transfer.proofs.Applied.{from-below, Entry, entry-read, within-none, within-more, within-fails, less-at, plus-at, taken}
@@ -21,9 +21,9 @@ use Rattle.transfer.proofs.carry.sends_within.Tie as tie
 record Sending (table moves : List ℕ) (e : ℕ) (sent : List ℕ) (i : ℕ) : Type 0 where
   i-le : i ≤ e
   left : List ℕ
-  left-size : length left ≡ 4096
-  sent-size : length sent ≡ 4096
-  parts : (c : ℕ) → c < 4096 → at sent c + at left c ≡ at table c
+  left-size : length left ≡ tableSize
+  sent-size : length sent ≡ tableSize
+  parts : (c : ℕ) → c < tableSize → at sent c + at left c ≡ at table c
   tested : sendsWithin table (routesOf moves e) (countsOf moves e) ≡ sendsWithin left (drop i (routesOf moves e)) (drop i (countsOf moves e))
 
 abbrev Inv-loop : tie.InvT-loop
@@ -86,11 +86,11 @@ module _ (c : tie.After-word-number2 Inv-loop μ-loop) where
   read : Entry (now (start .args .moves)) (start .args .e) (turn .before .loop .i) (route-read .word-number .result) (c .word-number2 .result)
   read = entry-read _ _ _ _ (start .pre) (turn .loop-test .taken) _ _ (route-read .word-number .ensures) (c .word-number2 .ensures)
 
-  from-lt : from < 4096
+  from-lt : from < tableSize
   from-lt = omega (arith, c .before .from-cell .ensures, read .below)
 
   table-small : at (now (start .args .table)) from ≤ maxTotal
-  table-small = omega (arith, sum-term 4096 (at (now (start .args .table))) from from-lt, start .pre .small)
+  table-small = omega (arith, sum-term tableSize (at (now (start .args .table))) from from-lt, start .pre .small)
 
   -- no sum of sends wraps: what was sent is part of the table
   sent-small : at (turn .before .loop .sent) from ≤ maxTotal
@@ -102,8 +102,8 @@ loop-holds c =
       i-le = omega arith;
       left = now (c .before .args .table);
       left-size = c .before .pre .size;
-      sent-size = length-replicate {A = ℕ} 4096 0;
-      parts = λ j l. omega (arith, getD-replicate {A = ℕ} 4096 j 0 0 l);
+      sent-size = length-replicate {A = ℕ} tableSize 0;
+      parts = λ j l. omega (arith, getD-replicate {A = ℕ} tableSize j 0 0 l);
       tested = refl;
     }
 

@@ -6,11 +6,10 @@ use Prim.Native.Nat.{ℕ, _-_, _≤_}
 use native.Mathlib.Omega.{arith}
 use lib.ListN.{length, length-set}
 use denote.Ref.{now}
-use Rattle.plan.specs.Tree.{at}
-use Rattle.tree.specs.Totals.{tabulate}
-use Rattle.tree.proofs.Tabulate.{tabulate-none, tabulate-more}
+use Rattle.arrays.specs.Arrays.{at, tabulate}
 use Rattle.transfer.specs.Due.{dueWith}
 use Rattle.transfer.proofs.due.due_amounts.Statement.{statement}
+use Rattle.arrays.proofs.Tabulate.{tabulate-none, tabulate-more}
 use Rattle.transfer.proofs.due.due_amounts.Tie as tie
 
 abbrev Inv-loop : tie.InvT-loop

@@ -6,14 +6,14 @@ use mathlib.Core.Logic.{⊎-elim}
 use Prim.Native.Nat.{ℕ, _+_, _-_, _≤_, _<_}
 use native.Mathlib.Omega.{arith}
 use lib.ListN.{length, getD, length-set}
-use Rattle.plan.specs.Tree.{at}
+use Rattle.arrays.specs.Arrays.{at}
 use Rattle.fold.specs.Sum.{only}
 use Rattle.fold.proofs.Sums.{sum-none}
 use Rattle.tree.specs.Family.{helps, overHelpers}
 use Rattle.tree.specs.Division.{ownOf}
-use Rattle.tree.proofs.Tabulate.{tabulate-is}
 use Rattle.transfer.proofs.Dues.{helpers-root, helpers-up, off}
 use Rattle.transfer.proofs.due.own_amounts.Statement.{statement}
+use Rattle.arrays.proofs.Tabulate.{tabulate-is}
 use Rattle.transfer.proofs.due.own_amounts.Tie as tie
 
 abbrev Inv-loop : tie.InvT-loop

@@ -7,14 +7,15 @@ use native.Mathlib.Nat.{le-refl, mul-le-mul}
 use native.Mathlib.Omega.{arith}
 use lib.ListN.{length}
 use denote.Ref.{now}
-use Rattle.plan.specs.Tree.{at}
-use Rattle.tree.specs.Totals.{held, totalOf}
+use Rattle.arrays.specs.Arrays.{at}
+use Rattle.sheet.specs.Table.{held}
 use Rattle.tree.specs.Division.{ownOf}
-use Rattle.tree.proofs.Tabulate.{tabulate-at, tabulate-behind}
 use Rattle.transfer.specs.Due.{dueWith, dueOf}
 use Rattle.transfer.specs.Matching.{movesOf, movesIn}
 use Rattle.transfer.proofs.Subdomains.{moves-eq, few-all, Written, written-none, routes-long, counts-long, written-more, written-all, all-routes-eq, all-counts-eq}
 use Rattle.transfer.proofs.matching.all_moves.Statement.{statement}
+use Rattle.arrays.proofs.Tabulate.{tabulate-at, tabulate-behind}
+use Rattle.sheet.specs.Totals.{totalOf}
 use Rattle.transfer.proofs.matching.all_moves.Tie as tie
 
 -- what node k is due of subdomain n, where own holds what is left for each owner

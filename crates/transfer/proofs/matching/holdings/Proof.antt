@@ -6,9 +6,10 @@ use Prim.Native.Nat.{ℕ, _-_, _≤_}
 use native.Mathlib.Omega.{arith}
 use lib.ListN.{length, length-set}
 use denote.Ref.{now}
-use Rattle.tree.specs.Totals.{held, tabulate}
-use Rattle.tree.proofs.Tabulate.{tabulate-none, tabulate-more}
+use Rattle.sheet.specs.Table.{held}
+use Rattle.arrays.specs.Arrays.{tabulate}
 use Rattle.transfer.proofs.matching.holdings.Statement.{statement}
+use Rattle.arrays.proofs.Tabulate.{tabulate-none, tabulate-next}
 use Rattle.transfer.proofs.matching.holdings.Tie as tie
 
 -- what node k holds of subdomain n
@@ -24,8 +25,11 @@ abbrev μ-loop : tie.MeasureT-loop
 loop-again : tie.Need-loop-again Inv-loop μ-loop
 loop-again c =
     let l = c .before .before in
-    let a = l .before .args in
-    (omega arith, simp length-set (l .loop .inv .1), rw (l .loop .inv .2) (tabulate-more (holds (now (a .table)) (a .n)) (l .loop .k) (omega arith)))
+    let a = l .before .args in (
+      omega arith,
+      simp length-set (l .loop .inv .1),
+      tabulate-next (holds (now (a .table)) (a .n)) (l .loop .k) (c .held .result) (l .loop .holding) (omega arith) (l .loop .inv .2) (c .held .ensures),
+    )
 
 returns : tie.Need-returns Inv-loop μ-loop
 returns c =
@@ -41,11 +45,8 @@ holdings-spec =
     Inv-loop
     μ-loop
     (λ c. (omega arith, refl, sym (tabulate-none _)))  -- loop-holds
+    (λ c κs. search needs)  -- held-requires
     (λ c. search needs)  -- mul-holding
-    (λ c. search needs)  -- add-holding
-    (λ c. search needs)  -- mul-holding-2
-    (λ c. search needs)  -- element-copy-out-holding
-    (λ c. search needs)  -- mul-holding-3
     (λ c. search needs)  -- array-write-holding
     (λ c. search needs)  -- add-k
     (λ c. search needs)  -- loop-less

@@ -5,7 +5,7 @@ use mathlib.Core.Path.{sym, _∙_}
 use mathlib.Core.List.{List}
 use Prim.Native.Nat.{ℕ, _-_}
 use denote.Ref.{now}
-use Rattle.plan.specs.Tree.{at}
+use Rattle.arrays.specs.Arrays.{at}
 use Rattle.transfer.proofs.Next.{Passing, passing-none, passing-more, found, found-none}
 use Rattle.transfer.proofs.matching.next_above.Statement.{statement}
 use Rattle.transfer.proofs.matching.next_above.Tie as tie

@@ -9,7 +9,7 @@ use native.Mathlib.Omega.{arith}
 use borrow.Author.Tests.{ltb-true, ltb-false}
 use lib.ListN.{length}
 use denote.Ref.{now}
-use Rattle.plan.specs.Tree.{at}
+use Rattle.arrays.specs.Arrays.{at}
 use Rattle.transfer.specs.Matching.{Move, surplusOf, shortageOf, moveOf, NextFrom, movesOf}
 use Rattle.transfer.proofs.Entries.{Pending, begin, finish, room, sender-next, receiver-next}
 use Rattle.transfer.proofs.Next.{next-eq}

@@ -9,7 +9,7 @@ use native.Mathlib.Omega.{arith}
 use lib.ListN.{length, length-set}
 use borrow.Fn.Kinds.{In}
 use borrow.Fn.PlainCycle.{Measures, is, falls, and}
-use Rattle.plan.specs.Tree.{at}
+use Rattle.arrays.specs.Arrays.{at}
 use Rattle.tree.specs.Family.{helps}
 use Rattle.tree.proofs.Families.{helps-yes, helps-other, helps-self}
 use Rattle.tree.proofs.Weighing.{shallow-some, shallow-helper, least-is}

@@ -3,9 +3,10 @@ use borrow.Author.Needs.{needs}
 use Prim.Native.Nat.{ℕ, _+_, _≤_, _<_, _-_}
 use native.Mathlib.Decide.{ℕ-discrete}
 use native.Mathlib.Omega.{arith}
-use Rattle.plan.specs.Tree.{at, Tree}
+use Rattle.plan.specs.Tree.{Tree}
 use Rattle.plan.proofs.Trees.{tree-alone}
 use Rattle.tree.proofs.weigh.find_root.Statement.{statement}
+use Rattle.arrays.specs.Arrays.{at}
 use Rattle.tree.proofs.weigh.find_root.Tie as tie
 
 abbrev Inv-loop : tie.InvT-loop

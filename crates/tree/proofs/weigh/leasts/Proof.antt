@@ -3,11 +3,12 @@
 use borrow.Author.Needs.{needs}
 use mathlib.Core.Path.{refl, _∙_}
 use native.Mathlib.Numerals.{add-one}
-use Rattle.plan.specs.Tree.{at}
+use Rattle.arrays.specs.Arrays.{at}
 use Rattle.tree.specs.Weigh.{least}
-use Rattle.tree.proofs.Tabulate.{zeros-at, tabulate-is}
 use Rattle.tree.proofs.Weighing.{tree-shallow}
 use Rattle.tree.proofs.weigh.leasts.Statement.{statement}
+use Rattle.arrays.proofs.Padded.{zeros-at}
+use Rattle.arrays.proofs.Tabulate.{tabulate-is}
 use Rattle.tree.proofs.weigh.leasts.Tie as tie
 
 least-requires : tie.Need-least-requires

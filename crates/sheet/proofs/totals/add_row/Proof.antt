@@ -1,4 +1,4 @@
--- `tree::add_row` meets its contract: the entries of the subdomains passed have the holder's count too, the others are as they were.
+-- `sheet::totals::add_row` meets its contract: the entries of the subdomains passed have the holder's count too, the others are as they were.
 -- Assumes nothing.
 use borrow.Author.Needs.{needs}
 use mathlib.Core.Path.{_≡_, refl, ap, _∙_}
@@ -8,12 +8,13 @@ use native.Mathlib.Omega.{arith}
 use lib.ListN.{length, length-set}
 use denote.Ref.{now}
 use Rattle.fold.proofs.Sums.{sum-more}
-use Rattle.plan.specs.Tree.{at}
-use Rattle.tree.specs.Totals.{held, totalOf}
-use Rattle.tree.proofs.Tabulate.{tabulate-at, tabulate-behind, tabulate-is, stored-below, stored-behind, length-tabulate}
-use Rattle.tree.proofs.Totalled.{total-le}
-use Rattle.tree.proofs.add_row.Statement.{statement}
-use Rattle.tree.proofs.add_row.Tie as tie
+use Rattle.arrays.specs.Arrays.{at}
+use Rattle.sheet.specs.Table.{held}
+use Rattle.sheet.specs.Totals.{totalOf}
+use Rattle.sheet.proofs.Totalled.{total-le}
+use Rattle.sheet.proofs.totals.add_row.Statement.{statement}
+use Rattle.arrays.proofs.Tabulate.{tabulate-at, tabulate-behind, tabulate-is, stored-below, stored-behind, length-tabulate}
+use Rattle.sheet.proofs.totals.add_row.Tie as tie
 
 abbrev Inv-loop : tie.InvT-loop
 Inv-loop out₀ table holder nodes n₀ out n =

@@ -1,4 +1,4 @@
--- `tree::all_within` meets its contract: the entries of the nodes passed are at most the limit. Assumes nothing.
+-- `arrays::all_at_most` meets its contract: the entries of the nodes passed are at most the bound. Assumes nothing.
 use borrow.Author.Needs.{needs}
 use borrow.Author.Tests.{le-leb, lt-leb}
 use mathlib.Core.Path.{_≡_, sym}
@@ -8,15 +8,15 @@ use native.Mathlib.Omega.{arith}
 use lib.Dec.{leb}
 use Rattle.fold.specs.All.{all}
 use Rattle.fold.proofs.Tests.{all-none, all-more, all-fails}
-use Rattle.plan.specs.Tree.{at}
-use Rattle.tree.proofs.all_within.Statement.{statement}
-use Rattle.tree.proofs.all_within.Tie as tie
+use Rattle.arrays.specs.Arrays.{at}
+use Rattle.arrays.proofs.all_at_most.Statement.{statement}
+use Rattle.arrays.proofs.all_at_most.Tie as tie
 
 abbrev Inv-loop : tie.InvT-loop
-Inv-loop nodes limit entries k₀ k = (k ≤ nodes) × (all k (λ j. leb (at entries j) limit) ≡ true)
+Inv-loop nodes bound entries k₀ k = (k ≤ nodes) × (all k (λ j. leb (at entries j) bound) ≡ true)
 
 abbrev μ-loop : tie.MeasureT-loop
-μ-loop nodes limit entries k₀ k = nodes - k
+μ-loop nodes bound entries k₀ k = nodes - k
 
 returns : tie.Need-returns Inv-loop μ-loop
 returns c = sym (all-fails _ _ _ (c .before .loop-test .taken) (lt-leb _ _ (c .if1 .taken)))
@@ -30,8 +30,8 @@ returns-2 c =
     let e : l .loop .k ≡ l .before .args .nodes = omega arith in
     sym (rw e at (l .loop .inv .1))
 
-pub all-within-spec : {M : Type 1} → statement M
-all-within-spec =
+pub all-at-most-spec : {M : Type 1} → statement M
+all-at-most-spec =
     tie.close
     (tie.spec
     Inv-loop

@@ -1,4 +1,4 @@
--- `tree::totals` meets its contract: the array has the totals of what the holders passed have. Assumes nothing.
+-- `sheet::totals::totals` meets its contract: the array has the totals of what the holders passed have. Assumes nothing.
 use borrow.Author.Needs.{needs}
 use mathlib.Core.Path.{_≡_, refl, sym, _∙_}
 use Prim.Native.Nat.{_≤_, _-_}
@@ -6,10 +6,13 @@ use native.Mathlib.Omega.{arith}
 use lib.ListN.{replicate, getD-replicate}
 use denote.Ref.{now}
 use Rattle.fold.proofs.Sums.{sum-none}
-use Rattle.tree.specs.Totals.{held, totalOf, tabulate}
-use Rattle.tree.proofs.Tabulate.{zeros-at, tabulate-is}
-use Rattle.tree.proofs.totals.Statement.{statement}
-use Rattle.tree.proofs.totals.Tie as tie
+use Rattle.sheet.specs.Table.{held}
+use Rattle.sheet.specs.Totals.{totalOf}
+use Rattle.arrays.specs.Arrays.{tabulate}
+use Rattle.sheet.proofs.totals.totals.Statement.{statement}
+use Rattle.arrays.proofs.Padded.{zeros-at}
+use Rattle.arrays.proofs.Tabulate.{tabulate-is}
+use Rattle.sheet.proofs.totals.totals.Tie as tie
 
 abbrev Inv-loop : tie.InvT-loop
 Inv-loop table nodes out₀ holder₀ out holder = (holder ≤ nodes) × (out ≡ tabulate nodes (totalOf holder table))

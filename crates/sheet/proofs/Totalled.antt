@@ -2,13 +2,14 @@
 -- column by column. Assumes nothing.
 use mathlib.Core.Path.{_≡_, sym, ap, _∙_}
 use mathlib.Core.List.{List}
-use Prim.Native.Nat.{ℕ, zero, suc, _+_, _*_, _-_, _≤_, _<_}
+use Prim.Native.Nat.{ℕ, zero, suc, _+_, _*_, _≤_, _<_}
 use native.Mathlib.Omega.{arith}
 use Rattle.fold.specs.Sum.{sum}
-use Rattle.fold.proofs.Sums.{sum-none, sum-suc, sum-le, sum-eq, sum-zeros, sum-term, sum-exchange, sum-split}
-use Rattle.limit.specs.Limit.{maxNodes}
-use Rattle.plan.specs.Tree.{at}
-use Rattle.tree.specs.Totals.{held, totalOf}
+use Rattle.fold.proofs.Sums.{sum-none, sum-suc, sum-le, sum-eq, sum-zeros, sum-term, sum-exchange, sum-split, sum-fewer, sum-rest}
+use Rattle.limit.specs.Limit.{maxNodes, tableSize}
+use Rattle.arrays.specs.Arrays.{at}
+use Rattle.sheet.specs.Table.{held}
+use Rattle.sheet.specs.Totals.{totalOf}
 
 -- ---- sums
 
@@ -21,37 +22,25 @@ sum-rows (suc rows) f =
     let e : 64 * suc rows ≡ 64 * rows + 64 = omega arith in
     rw e (omega (arith, sum-split (64 * rows) 64 f, sum-rows rows f, sum-suc rows (λ i. sum 64 (λ j. f (64 * i + j)))))
 
--- the first n of m
-module _ (n m : ℕ) (f : ℕ → ℕ) (l : n ≤ m) where
-  parted : sum m f ≡ sum n f + sum (m - n) (λ k. f (n + k))
-  parted = let e : m ≡ n + (m - n) = omega arith in ap (λ (x : ℕ). sum x f) e ∙ sum-split n (m - n) f
-
-  sum-first : sum n f ≤ sum m f
-  sum-first = omega (arith, parted)
-
-  -- where the others are 0
-  sum-rest : ((k : ℕ) → n ≤ k → k < m → f k ≡ 0) → sum n f ≡ sum m f
-  sum-rest z = omega (arith, parted, sum-zeros (m - n) (λ k. f (n + k)) (λ k b. z (n + k) (omega arith) (omega arith)))
-
 -- ---- tables
 
 module _ (table : List ℕ) where
-  by-rows : sum 4096 (at table) ≡ sum 64 (λ k. sum 64 (λ n. held table k n))
+  by-rows : sum tableSize (at table) ≡ sum 64 (λ k. sum 64 (λ n. held table k n))
   by-rows = sum-rows 64 (at table)
 
   -- THEOREM. No total is above the sum of the table, of however many holders.
-  pub total-le : (holders n : ℕ) → holders ≤ maxNodes → n < 64 → totalOf holders table n ≤ sum 4096 (at table)
+  pub total-le : (holders n : ℕ) → holders ≤ maxNodes → n < 64 → totalOf holders table n ≤ sum tableSize (at table)
   total-le holders n l b =
       omega (
         arith,
         by-rows,
-        sum-first holders 64 (λ k. held table k n) l,
+        sum-fewer holders 64 (λ k. held table k n) l,
         sum-le 64 (λ k. held table k n) (λ k. sum 64 (λ j. held table k j)) (λ k c. sum-term 64 (λ j. held table k j) n b),
       )
 
   -- THEOREM. Where the cells that name a node not below N are 0, the totals add up to the sum of the table.
   pub totals-sum : (nodes : ℕ) → nodes ≤ maxNodes → ((k n : ℕ) → n < 64 → (k < nodes → n < nodes → ⊥) → held table k n ≡ 0)
-      → sum nodes (totalOf nodes table) ≡ sum 4096 (at table)
+      → sum nodes (totalOf nodes table) ≡ sum tableSize (at table)
   totals-sum nodes l outside =
       sum-exchange nodes nodes (λ n k. held table k n)
       ∙ sum-eq nodes (λ k. sum nodes (λ n. held table k n)) (λ k. sum 64 (λ n. held table k n))

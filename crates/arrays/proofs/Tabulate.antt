@@ -1,7 +1,6 @@
 -- Laws of `tabulate`, an array of 64 with f k at each node k and zeros behind them: its entries, and that it is known by them.
 -- Assumes nothing.
-use mathlib.Core.Path.{_≡_, refl, sym, ap, ap₂, _∙_}
-use mathlib.Core.Bool.{_&&_}
+use mathlib.Core.Path.{_≡_, refl, sym, ap, _∙_}
 use mathlib.Core.List.{List, [], _∷_}
 use Prim.Native.Nat.{ℕ, zero, suc, _+_, _-_, _≤_, _<_}
 use native.Mathlib.Decide.{ℕ-discrete, decLt}
@@ -12,16 +11,9 @@ use lib.Seq.{ext-getD, getD-append-seam, getD-set-same, getD-set-other, take-at}
 use Rattle.fold.specs.All.{all}
 use Rattle.fold.specs.Collect.{collect}
 use Rattle.fold.proofs.Lists.{collect-eq, collect-more}
-use Rattle.words.specs.Words.{padded}
-use Rattle.words.proofs.Words.{padded-at, padded-more}
-use Rattle.plan.specs.Tree.{at}
-use Rattle.tree.specs.Totals.{tabulate, primary}
-
--- an array of zeros
-pub zeros-at : (n k : ℕ) → at (replicate n 0) k ≡ 0
-zeros-at zero k = refl
-zeros-at (suc n) zero = refl
-zeros-at (suc n) (suc k) = zeros-at n k
+use Rattle.fold.proofs.Tests.{all-eq}
+use Rattle.arrays.specs.Arrays.{at, padded, tabulate}
+use Rattle.arrays.proofs.Padded.{padded-at, padded-more}
 
 module _ (f : ℕ → ℕ) where
   -- the list of the first values, without the zeros
@@ -74,15 +66,12 @@ pub tabulate-eq : (nodes : ℕ) (f g : ℕ → ℕ) → ((k : ℕ) → k < nodes
 unfolding tabulate
 tabulate-eq nodes f g e = ap padded (collect-eq nodes (λ k. f k ∷ []) (λ k. g k ∷ []) (λ k l. ap (λ (x : ℕ). x ∷ []) (e k l)))
 
-within-same : (n : ℕ) (f g : ℕ → ℕ) (limit : ℕ) → ((k : ℕ) → k < n → f k ≡ g k) → primary n f limit ≡ primary n g limit
-unfolding all
-within-same zero f g limit e = refl
-within-same (suc n) f g limit e =
-    ap₂ _&&_ (within-same n f g limit (λ k l. e k (omega arith))) (ap (λ (x : ℕ). leb x limit) (e n (omega arith)))
-
--- a test of a tabulated array against the limit is the test of what was tabulated: of the totals it is `primary`, of the leasts `holds`
-pub tabulate-within : (nodes : ℕ) (f : ℕ → ℕ) (limit : ℕ) → primary nodes (at (tabulate nodes f)) limit ≡ primary nodes f limit
-tabulate-within nodes f limit = within-same nodes (at (tabulate nodes f)) f limit (tabulate-at nodes f)
+-- a test of a tabulated array against a bound is the test of what was tabulated
+pub tabulate-within : (nodes : ℕ) (f : ℕ → ℕ) (bound : ℕ)
+    → all nodes (λ k. leb (at (tabulate nodes f) k) bound) ≡ all nodes (λ k. leb (f k) bound)
+tabulate-within nodes f bound =
+    all-eq nodes (λ k. leb (at (tabulate nodes f) k) bound) (λ k. leb (f k) bound)
+    (λ k l. ap (λ (x : ℕ). leb x bound) (tabulate-at nodes f k l))
 
 -- ---- a loop that fills an array from the front
 
