@@ -49,6 +49,19 @@ static void check_operations(void)
     CHECK(!c.refusal && c.bytes == 52 && next[8] == 5);
 }
 
+/* With length 0 a pointer may be null, a buffer's too. */
+static void check_null(void)
+{
+    CHECK(firrozka_read_sheet(NULL, 0).refusal == FIRROZKA_SHEET_SHORT);
+    CHECK(firrozka_read_plan(NULL, 0).refusal == FIRROZKA_PLAN_SHORT);
+    CHECK(firrozka_read_moves(NULL, 0).refusal == FIRROZKA_MOVES_SHORT);
+    CHECK(firrozka_weigh(sheet, sizeof sheet, chain, sizeof chain, NULL, 0).refusal == FIRROZKA_LEAST_BUFFER);
+    CHECK(firrozka_plan_step(sheet, sizeof sheet, NULL, 0, NULL, 0, NULL, 0).refusal == FIRROZKA_PLAN_BUFFER);
+    CHECK(firrozka_plan_step(sheet, sizeof sheet, NULL, 0, plan, sizeof plan, NULL, 0).refusal == FIRROZKA_MOVES_BUFFER);
+    CHECK(firrozka_carry_out(sheet, sizeof sheet, moves, 24, NULL, 0).refusal == FIRROZKA_SHEET_BUFFER);
+    CHECK(firrozka_tree_in_force(NULL, 0, NULL, 0).length == 0);
+}
+
 /* A kept plan has the old tree in force, another one its own. */
 static void check_force(void)
 {
@@ -67,25 +80,12 @@ static void check_force(void)
     CHECK(f.source == FIRROZKA_NEW_PLAN && f.start == 0 && f.length == 0);
 }
 
-/* With length 0 a pointer may be null, a buffer's too. */
-static void check_null(void)
-{
-    CHECK(firrozka_read_sheet(NULL, 0).refusal == FIRROZKA_SHEET_SHORT);
-    CHECK(firrozka_read_plan(NULL, 0).refusal == FIRROZKA_PLAN_SHORT);
-    CHECK(firrozka_read_moves(NULL, 0).refusal == FIRROZKA_MOVES_SHORT);
-    CHECK(firrozka_weigh(sheet, sizeof sheet, chain, sizeof chain, NULL, 0).refusal == FIRROZKA_LEAST_BUFFER);
-    CHECK(firrozka_plan_step(sheet, sizeof sheet, NULL, 0, NULL, 0, NULL, 0).refusal == FIRROZKA_PLAN_BUFFER);
-    CHECK(firrozka_plan_step(sheet, sizeof sheet, NULL, 0, plan, sizeof plan, NULL, 0).refusal == FIRROZKA_MOVES_BUFFER);
-    CHECK(firrozka_carry_out(sheet, sizeof sheet, moves, 24, NULL, 0).refusal == FIRROZKA_SHEET_BUFFER);
-    CHECK(firrozka_tree_in_force(NULL, 0, NULL, 0).length == 0);
-}
-
 int main(void)
 {
     CHECK(firrozka_version() == FIRROZKA_VERSION);
     check_readers();
     check_operations();
-    check_force();
     check_null();
+    check_force();
     return 0;
 }
