@@ -1,0 +1,163 @@
+//! Numbers and words that several files have: all say the same.
+
+use firrozka::ffi::PartAnswer;
+use firrozka::{version, Refusal, LEAST_BYTES, MOVES_BYTES, PLAN_BYTES, SHEET_BYTES, VERSION};
+use std::fs;
+
+/// A file of this repository.
+fn file(name: &str) -> String {
+    let path = format!("{}/../../{name}", env!("CARGO_MANIFEST_DIR"));
+    fs::read_to_string(&path).unwrap_or_else(|error| panic!("{path}: {error}"))
+}
+
+/// Each stretch of white space as one blank.
+fn one_line(text: &str) -> String {
+    text.split_whitespace().collect::<Vec<&str>>().join(" ")
+}
+
+/// A part of a file, from its opening to its end, as one line.
+fn part(name: &str, opening: &str, end: &str) -> String {
+    let text = file(name);
+    let (_, rest) = text.split_once(opening).expect("the file has the part");
+    one_line(rest.split_once(end).map_or(rest, |(part, _)| part))
+}
+
+/// The text has these lines, one for each refusal, and no other that has the mark.
+fn has_all(text: &str, mark: &str, line: fn(Refusal) -> String) {
+    for line in Refusal::ALL.iter().copied().map(line) {
+        assert!(text.contains(&line), "missing: {line}");
+    }
+    assert_eq!(text.matches(mark).count(), Refusal::ALL.len());
+}
+
+#[test]
+fn the_formats_page_has_the_refusals() {
+    let text = part("docs/FORMATS.md", "| number | of | reason |", "\n\n");
+    has_all(&text, "| |", |refusal| {
+        let (number, of, reason) = (refusal.number(), refusal.subject(), refusal.reason());
+        format!("| {number} | {of} | {reason} |")
+    });
+}
+
+/// `SheetShort` as C writes it: `SHEET_SHORT`.
+fn c_name(refusal: Refusal) -> String {
+    let upper = |letter: char| if letter.is_uppercase() { "_" } else { "" };
+    let letters = refusal
+        .name()
+        .chars()
+        .map(|letter| format!("{}{letter}", upper(letter)));
+    letters.collect::<String>().to_uppercase()
+}
+
+#[test]
+fn the_header_has_the_refusals() {
+    let text = part("include/firrozka.h", "FIRROZKA_ACCEPTED = 0,", "};");
+    // The last has no comma.
+    has_all(&text.replace(", /*", " /*"), " = ", |refusal| {
+        let (number, reason) = (refusal.number(), refusal.reason());
+        format!("FIRROZKA{} = {number} /* {reason} */", c_name(refusal))
+    });
+}
+
+#[test]
+fn the_fortran_module_has_the_refusals() {
+    let text = part("bindings/fortran/firrozka.f90", "_accepted = 0, &", "\n\n");
+    // The last has no comma, and one reason goes on in a second line.
+    let text = text.replace(", &", "").replace(" !", "");
+    has_all(&text, " = ", |refusal| {
+        let name = c_name(refusal).to_lowercase();
+        format!("firrozka{name} = {} {}", refusal.number(), refusal.reason())
+    });
+}
+
+#[test]
+fn the_python_module_has_the_refusals() {
+    let text = part("bindings/python/firrozka.py", "REFUSALS = {", "}");
+    has_all(&text, ": (", |refusal| {
+        let (number, of, reason) = (refusal.number(), refusal.subject(), refusal.reason());
+        format!("{number}: (\"{of}\", \"{reason}\"),")
+    });
+}
+
+#[test]
+fn all_have_the_sizes_of_buffers() {
+    let sizes = [
+        ("sheet", SHEET_BYTES),
+        ("plan", PLAN_BYTES),
+        ("moves", MOVES_BYTES),
+        ("least", LEAST_BYTES),
+    ];
+    let c = part("include/firrozka.h", "enum {", "};");
+    let fortran = part("bindings/fortran/firrozka.f90", "parameter", "interface");
+    let python = part("bindings/python/firrozka.py", "import", "class");
+    for (of, bytes) in sizes {
+        let upper = format!("{}_BYTES = {bytes}", of.to_uppercase());
+        assert!(c.contains(&format!("FIRROZKA_{upper}")), "{upper}");
+        assert!(python.contains(&upper), "{upper}");
+        let lower = format!("firrozka_{of}_bytes = {bytes}");
+        assert!(fortran.contains(&lower), "{lower}");
+    }
+}
+
+/// The archive, the definition that it is proved against, the header, the
+/// wrappers and the newest heading of the change log.
+#[test]
+fn all_have_the_version() {
+    assert_eq!(version(), VERSION);
+    let has = |name: &str, opening: &str, end: &str, expected: String| {
+        assert_eq!(part(name, opening, end), expected, "{name}");
+    };
+    let number = VERSION.to_string();
+    let specs = "crates/firrozka/specs/Version.antt";
+    has(specs, "version =", "\n", number.clone());
+    has("include/firrozka.h", "#define FIRROZKA_VERSION", "\n", number.clone());
+    let fortran = "bindings/fortran/firrozka.f90";
+    has(fortran, "firrozka_module_version =", "\n", number.clone());
+    has("bindings/python/firrozka.py", "\nVERSION =", "\n", number);
+    let (major, minor) = (VERSION / 100, VERSION % 100);
+    has("CHANGELOG.md", "\n## ", "\n", format!("{major}.{minor}"));
+}
+
+#[test]
+fn all_have_the_sources_of_a_tree() {
+    let c = part("include/firrozka.h", "enum firrozka_source {", "};");
+    let fortran = part("bindings/fortran/firrozka.f90", "parameter", "interface");
+    let python = part("bindings/python/firrozka.py", "import", "class");
+    for (name, source) in [("OLD", PartAnswer::OLD), ("NEW", PartAnswer::NEW)] {
+        let upper = format!("{name}_PLAN = {source}");
+        assert!(c.contains(&format!("FIRROZKA_{upper}")), "{upper}");
+        assert!(python.contains(&upper), "{upper}");
+        let lower = format!("firrozka_{upper}").to_lowercase();
+        assert!(fortran.contains(&lower), "{lower}");
+    }
+}
+
+#[test]
+fn all_say_what_the_tree_in_force_is_without_an_old_plan_and_in_kind_0() {
+    for name in ["include/firrozka.h", "docs/FORMATS.md", "docs/USING.md"] {
+        // Stars begin a line of a comment and set a name apart.
+        let text = one_line(&file(name).replace('*', ""));
+        for sentence in [
+            "An old plan of length 0 gives the empty stretch; only plan a step takes it as none.",
+            "A new plan of kind 0 gives its roots.",
+        ] {
+            assert!(text.contains(sentence), "{name}: {sentence}");
+        }
+    }
+}
+
+#[test]
+fn numbers_lead_to_refusals_and_back() {
+    for &refusal in Refusal::ALL {
+        assert_eq!(Refusal::from_number(refusal.number()), Some(refusal));
+    }
+    assert!(Refusal::ALL.windows(2).all(|pair| pair[0] < pair[1]));
+    assert_eq!(Refusal::from_number(0), None);
+    assert_eq!(Refusal::from_number(8), None);
+    let text = Refusal::SheetLength.to_string();
+    assert_eq!(
+        text,
+        "refused 5: sheet: the length is not 4 × (3 + 2E) bytes"
+    );
+    assert_eq!(format!("{:?}", Refusal::SheetLength), format!("SheetLength ({text})"));
+}
