@@ -110,7 +110,12 @@ fn all_have_the_version() {
     let number = VERSION.to_string();
     let specs = "crates/firrozka/specs/Version.antt";
     has(specs, "version =", "\n", number.clone());
-    has("include/firrozka.h", "#define FIRROZKA_VERSION", "\n", number.clone());
+    has(
+        "include/firrozka.h",
+        "#define FIRROZKA_VERSION",
+        "\n",
+        number.clone(),
+    );
     let fortran = "bindings/fortran/firrozka.f90";
     has(fortran, "firrozka_module_version =", "\n", number.clone());
     has("bindings/python/firrozka.py", "\nVERSION =", "\n", number);
@@ -159,5 +164,8 @@ fn numbers_lead_to_refusals_and_back() {
         text,
         "refused 5: sheet: the length is not 4 × (3 + 2E) bytes"
     );
-    assert_eq!(format!("{:?}", Refusal::SheetLength), format!("SheetLength ({text})"));
+    assert_eq!(
+        format!("{:?}", Refusal::SheetLength),
+        format!("SheetLength ({text})")
+    );
 }
