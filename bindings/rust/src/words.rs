@@ -32,7 +32,7 @@ impl<'a> Words<'a> {
 
     /// The words, first to last.
     pub fn iter(self) -> WordsIter<'a> {
-        self.0.chunks_exact(4).map(word)
+        self.0.chunks_exact(4).map(word as fn(&'a [u8]) -> u32)
     }
 
     /// `count` words from the word `from` on, or panics where there are fewer.
