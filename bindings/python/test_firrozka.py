@@ -2,7 +2,10 @@
 
 import array
 import copy
+import os
 import pickle
+import subprocess
+import sys
 import unittest
 from concurrent.futures import ProcessPoolExecutor
 
@@ -47,6 +50,13 @@ class Operations(unittest.TestCase):
 
     def test_version(self):
         self.assertEqual(firrozka.version(), firrozka.VERSION)
+
+    def test_a_shared_object_that_lacks_a_function_is_no_library(self):
+        folder = os.path.dirname(os.path.abspath(firrozka.__file__))
+        environment = dict(os.environ, PYTHONPATH=folder, FIRROZKA_SO="libc.so.6")
+        command = [sys.executable, "-c", "import firrozka"]
+        said = subprocess.run(command, env=environment, stderr=subprocess.PIPE).stderr.decode()
+        self.assertRegex(said, "ImportError: .*firrozka_version.*bindings/python/build")
 
     def test_refusals(self):
         with self.assertRaises(firrozka.Refused) as caught:

@@ -32,9 +32,11 @@ fn flow(held: &mut Counts, step: u32) {
 fn sheet_of(held: &Counts) -> Vec<u8> {
     let (mut cells, mut counts) = (Vec::new(), Vec::new());
     for (node, row) in (0..).zip(held) {
-        for (subdomain, &count) in (0..).zip(row).filter(|(_, &count)| count > 0) {
-            cells.push(64 * node + subdomain);
-            counts.push(count);
+        for (subdomain, &count) in (0..).zip(row) {
+            if count > 0 {
+                cells.push(64 * node + subdomain);
+                counts.push(count);
+            }
         }
     }
     let sizes = vec![NODES as u32, TOLERANCE, cells.len() as u32];
