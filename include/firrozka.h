@@ -18,6 +18,11 @@
 extern "C" {
 #endif
 
+/* The version, 100 × major + minor: 1.0 is 100. CHANGELOG.md says what each brought. firrozka_version() is the archive's own: where the
+ * two differ, a program was compiled with the header of another version. */
+#define FIRROZKA_VERSION 100
+uint32_t firrozka_version(void);
+
 /* Buffers of so many bytes are long enough for every call. */
 enum {
     FIRROZKA_SHEET_BYTES = 32780, /* 4 × (3 + 2 × 4,096) */
@@ -31,6 +36,12 @@ enum firrozka_kind {
     FIRROZKA_PRIMARY = 0, /* no node helps */
     FIRROZKA_KEPT = 1,    /* the old tree */
     FIRROZKA_REBUILT = 2  /* a new tree */
+};
+
+/* Which of two plans has the tree in force. */
+enum firrozka_source {
+    FIRROZKA_OLD_PLAN = 1,
+    FIRROZKA_NEW_PLAN = 2
 };
 
 /* Why an operation refuses. Its checks run in the order of its numbers, those of the sheet and of the other record first. */
@@ -115,8 +126,10 @@ struct firrozka_written {
 struct firrozka_written firrozka_carry_out(const uint8_t *sheet, size_t sheet_len, const uint8_t *moves, size_t moves_len,
                                            uint8_t *next, size_t next_len);
 
-/* Tree in force: the stretch of helpands that holds after a step, so many bytes from start on. Source 1 is the old plan, 2 the new.
- * Nothing is copied. Nothing is refused: the length is 0 when there is no such tree. */
+/* Tree in force: the helpands that hold after a step, as a stretch of one of the two plans: which plan, and where in it, in bytes. It is
+ * of the old plan if the new kind is 1, else of the new. A new plan of kind 0 gives its roots. Nothing is copied, nothing is refused.
+ * The empty stretch, length 0 of the new plan, is given when either plan is refused, their N differ, or the new kind is 1 and the old is
+ * kind 0 or has other helpands. An old plan of length 0 gives the empty stretch; only plan a step takes it as none. */
 struct firrozka_part {
     uint32_t source, start, length;
 };

@@ -3,10 +3,16 @@
 #include <stdlib.h>
 #include "firrozka.h"
 
-/* Step D's three records, and the old plan with helpands 0, 0, 1 of step H. */
+#if FIRROZKA_VERSION < 100
+#error "the preprocessor can test the version"
+#endif
+
+/* Step D's sheet; the old plan with helpands 0, 0, 1 and the sheet of step H; and step J's plan, of kind 0. */
 static const uint8_t sheet[] = {3, 0, 0, 0, 10,  0, 0, 0, 3,  0, 0, 0, 0, 0, 0, 0, 65, 0, 0, 0,
                                 130, 0, 0, 0, 90, 0, 0, 0, 6, 0, 0, 0, 4, 0, 0, 0};
 static const uint8_t chain[] = {3, 0, 0, 0, 2, 0, 0, 0, 36, 0, 0, 0, 0, 0, 0, 0, 0, 0, 0, 0, 1, 0, 0, 0,
+                                0, 0, 0, 0, 0, 0, 0, 0, 0,  0, 0, 0};
+static const uint8_t roots[] = {3, 0, 0, 0, 0, 0, 0, 0, 36, 0, 0, 0, 0, 0, 0, 0, 1, 0, 0, 0, 2, 0, 0, 0,
                                 0, 0, 0, 0, 0, 0, 0, 0, 0,  0, 0, 0};
 static const uint8_t sheet_h[] = {3, 0, 0, 0, 10, 0, 0, 0, 2, 0, 0, 0, 0, 0, 0, 0, 65, 0, 0, 0, 28, 0, 0, 0, 72, 0, 0, 0};
 
@@ -41,8 +47,6 @@ static void check_operations(void)
     CHECK(!m.refusal && m.n == 3 && m.e == 2);
     struct firrozka_written c = firrozka_carry_out(sheet, sizeof sheet, moves, d.moves_bytes, next, sizeof next);
     CHECK(!c.refusal && c.bytes == 52 && next[8] == 5);
-    struct firrozka_part f = firrozka_tree_in_force(chain, sizeof chain, plan, d.plan_bytes);
-    CHECK(f.source == 2 && f.start == 12 && f.length == 12);
 }
 
 /* With length 0 a pointer may be null, a buffer's too. */
@@ -58,10 +62,30 @@ static void check_null(void)
     CHECK(firrozka_tree_in_force(NULL, 0, NULL, 0).length == 0);
 }
 
+/* A kept plan has the old tree in force, another one its own. */
+static void check_force(void)
+{
+    firrozka_plan_step(sheet_h, sizeof sheet_h, chain, sizeof chain, plan, sizeof plan, moves, sizeof moves);
+    struct firrozka_part f = firrozka_tree_in_force(chain, sizeof chain, plan, sizeof chain);
+    CHECK(f.source == FIRROZKA_OLD_PLAN && f.start == 12 && f.length == 12);
+    f = firrozka_tree_in_force(roots, sizeof roots, chain, sizeof chain);
+    CHECK(f.source == FIRROZKA_NEW_PLAN && f.start == 12 && f.length == 12);
+    /* A new plan of kind 0 gives its roots. */
+    f = firrozka_tree_in_force(chain, sizeof chain, roots, sizeof roots);
+    CHECK(f.source == FIRROZKA_NEW_PLAN && f.start == 12 && f.length == 12);
+    /* An old plan of length 0 gives the empty stretch, whatever the new plan. */
+    f = firrozka_tree_in_force(NULL, 0, chain, sizeof chain);
+    CHECK(f.source == FIRROZKA_NEW_PLAN && f.start == 0 && f.length == 0);
+    f = firrozka_tree_in_force(NULL, 0, roots, sizeof roots);
+    CHECK(f.source == FIRROZKA_NEW_PLAN && f.start == 0 && f.length == 0);
+}
+
 int main(void)
 {
+    CHECK(firrozka_version() == FIRROZKA_VERSION);
     check_readers();
     check_operations();
     check_null();
+    check_force();
     return 0;
 }

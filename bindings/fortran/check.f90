@@ -1,12 +1,12 @@
 ! Calls each function through the module and stops at the first answer that is not document 01's.
 program check
-    use, intrinsic :: iso_c_binding, only: c_int8_t, c_int32_t, c_size_t
+    use, intrinsic :: iso_c_binding, only: c_int8_t, c_int32_t, c_int64_t, c_size_t
     use firrozka
     implicit none
 
-    ! Step D's sheet; an old plan with helpands 0, 0, 1, and step H's sheet, which keeps it.
+    ! Step D's sheet; an old plan with helpands 0, 0, 1, and step H's sheet, which keeps it; and step J's plan, of kind 0.
     integer(c_int8_t), parameter :: none(1) = [0_c_int8_t]
-    integer(c_int8_t) :: d(36), chain(36), h(28)
+    integer(c_int8_t) :: d(36), chain(36), h(28), roots(36)
     integer(c_int8_t) :: plan(firrozka_plan_bytes), moves(firrozka_moves_bytes)
     integer(c_int8_t) :: next(firrozka_sheet_bytes), least(firrozka_least_bytes)
     type(firrozka_sheet) :: sheet
@@ -20,23 +20,26 @@ program check
     d = words_to_bytes([3, 10, 3, 0, 65, 130, 90, 6, 4])
     chain = words_to_bytes([3, 2, 36, 0, 0, 1, 0, 0, 0])
     h = words_to_bytes([3, 10, 2, 0, 65, 28, 72])
+    roots = words_to_bytes([3, 0, 36, 0, 1, 2, 0, 0, 0])
 
     sheet = firrozka_read_sheet(d, size(d, kind=c_size_t))
     call same([sheet%refusal, sheet%n, sheet%t, sheet%e, sheet%p, sheet%limit], [0, 3, 10, 3, 100, 36])
     sheet = firrozka_read_sheet(d, 35_c_size_t)
-    call same([sheet%refusal, sheet%n, sheet%t, sheet%e, sheet%p, sheet%limit], [firrozka_sheet_length, 0, 0, 0, 0, 0])
+    call same([sheet%refusal, sheet%n, sheet%t, sheet%e, sheet%p, sheet%limit], &
+              [integer :: firrozka_sheet_length, 0, 0, 0, 0, 0])
 
     read = firrozka_read_plan(chain, size(chain, kind=c_size_t))
-    call same([read%refusal, read%n, read%kind, read%limit], [0, 3, firrozka_rebuilt, 36])
+    call same([read%refusal, read%n, read%kind, read%limit], [integer :: 0, 3, firrozka_rebuilt, 36])
 
     weighed = firrozka_weigh(h, size(h, kind=c_size_t), chain, size(chain, kind=c_size_t), least, firrozka_least_bytes)
     call same([weighed%refusal, weighed%holds], [0, 1])
     call same([word_at(least, 0), word_at(least, 1), word_at(least, 2)], [28, 36, 0])
     weighed = firrozka_weigh(h, size(h, kind=c_size_t), chain, size(chain, kind=c_size_t), least, 11_c_size_t)
-    call same([weighed%refusal, weighed%holds], [firrozka_least_buffer, 0])
+    call same([weighed%refusal, weighed%holds], [integer :: firrozka_least_buffer, 0])
 
     step = firrozka_plan_step(d, size(d, kind=c_size_t), none, 0_c_size_t, plan, firrozka_plan_bytes, moves, firrozka_moves_bytes)
-    call same([step%refusal, step%kind, step%limit, step%plan_bytes, step%moves_bytes], [0, firrozka_rebuilt, 36, 36, 24])
+    call same([step%refusal, step%kind, step%limit, step%plan_bytes, step%moves_bytes], &
+              [integer :: 0, firrozka_rebuilt, 36, 36, 24])
 
     list = firrozka_read_moves(moves, int(step%moves_bytes, c_size_t))
     call same([list%refusal, list%n, list%e], [0, 3, 2])
@@ -46,18 +49,34 @@ program check
 
     step = firrozka_plan_step(h, size(h, kind=c_size_t), chain, size(chain, kind=c_size_t), &
                               plan, firrozka_plan_bytes, moves, firrozka_moves_bytes)
-    call same([step%refusal, step%kind, step%limit, step%plan_bytes, step%moves_bytes], [0, firrozka_kept, 36, 36, 16])
+    call same([step%refusal, step%kind, step%limit, step%plan_bytes, step%moves_bytes], &
+              [integer :: 0, firrozka_kept, 36, 36, 16])
     part = firrozka_tree_in_force(chain, size(chain, kind=c_size_t), plan, int(step%plan_bytes, c_size_t))
-    call same([part%source, part%start, part%length], [1, 12, 12])
+    call same([part%source, part%start, part%length], [integer :: firrozka_old_plan, 12, 12])
 
-    ! Words of all four bytes, both ways.
-    call same([word_at(words_to_bytes([2147483647, 305419896, -2]), 1)], [305419896])
-    call same([word_at(words_to_bytes([2147483647, 305419896, -2]), 2)], [-2])
+    ! A new plan of kind 0 gives its roots; an old plan of length 0 gives the empty stretch.
+    part = firrozka_tree_in_force(chain, size(chain, kind=c_size_t), roots, size(roots, kind=c_size_t))
+    call same([part%source, part%start, part%length], [integer :: firrozka_new_plan, 12, 12])
+    part = firrozka_tree_in_force(none, 0_c_size_t, roots, size(roots, kind=c_size_t))
+    call same([part%source, part%start, part%length], [integer :: firrozka_new_plan, 0, 0])
+
+    call same([firrozka_version()], [integer :: firrozka_module_version])
+    call check_words
 
 contains
 
+    ! Words of all four bytes, both ways, from integers of either size.
+    subroutine check_words
+        integer(c_int32_t), parameter :: short(3) = [integer(c_int32_t) :: 2147483647, 305419896, -2]
+        integer(c_int64_t), parameter :: long(3) = [2147483647_c_int64_t, 305419896_c_int64_t, 4294967294_c_int64_t]
+
+        call same([word_at(words_to_bytes(short), 1), word_at(words_to_bytes(short), 2)], [305419896, -2])
+        call same([word_at(words_to_bytes(long), 1_c_int32_t), word_at(words_to_bytes(long), 2_c_int64_t)], [305419896, -2])
+    end subroutine
+
     subroutine same(given, expected)
-        integer(c_int32_t), intent(in) :: given(:), expected(:)
+        integer(c_int32_t), intent(in) :: given(:)
+        integer, intent(in) :: expected(:)
 
         if (size(given) == size(expected)) then
             if (all(given == expected)) return

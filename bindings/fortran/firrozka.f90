@@ -1,16 +1,21 @@
 ! Firrozka for Fortran 2008: interfaces of the functions in include/firrozka.h, which says what each does.
 !
+! Every kind is named, so the module serves programs with default integers of 4 bytes and of 8 (-fdefault-integer-8) alike.
 ! A record is an array of bytes, integer(c_int8_t), and its length in bytes. Its words are low byte first; words_to_bytes and word_at
 ! go both ways on any machine. Fortran has no unsigned integers: in an accepted record every word is below 2**31, so none is negative.
 ! Buffers and records do not overlap.
 module firrozka
-    use, intrinsic :: iso_c_binding, only: c_int8_t, c_int32_t, c_size_t
+    use, intrinsic :: iso_c_binding, only: c_int8_t, c_int32_t, c_int64_t, c_size_t
     implicit none
     private
 
+    public :: firrozka_version
     public :: firrozka_read_sheet, firrozka_read_plan, firrozka_read_moves
     public :: firrozka_weigh, firrozka_plan_step, firrozka_carry_out, firrozka_tree_in_force
     public :: words_to_bytes, word_at
+
+    ! The version that this module was written for, 100 × major + minor: 1.0 is 100. firrozka_version() is the archive's own.
+    integer(c_int32_t), parameter, public :: firrozka_module_version = 100
 
     ! Buffers of so many bytes are long enough for every call.
     integer(c_size_t), parameter, public :: &
@@ -18,6 +23,9 @@ module firrozka
 
     ! The kind of a plan.
     integer(c_int32_t), parameter, public :: firrozka_primary = 0, firrozka_kept = 1, firrozka_rebuilt = 2
+
+    ! Which of two plans has the tree in force.
+    integer(c_int32_t), parameter, public :: firrozka_old_plan = 1, firrozka_new_plan = 2
 
     ! Why an operation refuses. Its checks run in the order of its numbers, those of the sheet and of the other record first.
     integer(c_int32_t), parameter, public :: &
@@ -83,12 +91,27 @@ module firrozka
         integer(c_int32_t) :: refusal, bytes
     end type
 
-    ! Source 1 is the old plan, 2 the new. The part begins start bytes behind the first, so at index start + 1.
+    ! The part begins start bytes behind the first of the plan that source names, so at index start + 1.
     type, bind(c), public :: firrozka_part
         integer(c_int32_t) :: source, start, length
     end type
 
+    ! The bytes of these words, low byte first.
+    interface words_to_bytes
+        module procedure words32_to_bytes, words64_to_bytes
+    end interface
+
+    ! The word at a place; places are counted from 0, as in docs/FORMATS.md.
+    interface word_at
+        module procedure word_at32, word_at64
+    end interface
+
     interface
+        function firrozka_version() bind(c) result(version)
+            import :: c_int32_t
+            integer(c_int32_t) :: version
+        end function
+
         function firrozka_read_sheet(sheet, sheet_len) bind(c) result(answer)
             import :: c_int8_t, c_size_t, firrozka_sheet
             integer(c_int8_t), intent(in) :: sheet(*)
@@ -136,6 +159,7 @@ module firrozka
             type(firrozka_written) :: answer
         end function
 
+        ! A new plan of kind 0 gives its roots. old_len = 0 gives length 0; only plan a step takes it as no plan.
         function firrozka_tree_in_force(old_plan, old_len, new_plan, new_len) bind(c) result(answer)
             import :: c_int8_t, c_size_t, firrozka_part
             integer(c_int8_t), intent(in) :: old_plan(*), new_plan(*)
@@ -146,9 +170,16 @@ module firrozka
 
 contains
 
-    ! The bytes of these words, low byte first.
-    pure function words_to_bytes(words) result(bytes)
+    pure function words32_to_bytes(words) result(bytes)
         integer(c_int32_t), intent(in) :: words(:)
+        integer(c_int8_t) :: bytes(4 * size(words))
+
+        bytes = words64_to_bytes(int(words, c_int64_t))
+    end function
+
+    ! Words are 0 to 2**32 - 1; of any other number these are the lowest 32 bits.
+    pure function words64_to_bytes(words) result(bytes)
+        integer(c_int64_t), intent(in) :: words(:)
         integer(c_int8_t) :: bytes(4 * size(words))
         integer :: k
 
@@ -159,19 +190,26 @@ contains
 
     ! Byte 0 to 3 of a word; 128 to 255 are the negative bytes.
     pure function byte_of(word, place) result(byte)
-        integer(c_int32_t), intent(in) :: word
+        integer(c_int64_t), intent(in) :: word
         integer, intent(in) :: place
         integer(c_int8_t) :: byte
-        integer(c_int32_t) :: bits
+        integer(c_int64_t) :: bits
 
         bits = ibits(word, 8 * place, 8)
-        byte = int(merge(bits - 256, bits, bits > 127), c_int8_t)
+        byte = int(merge(bits - 256_c_int64_t, bits, bits > 127), c_int8_t)
     end function
 
-    ! The word at a place; places are counted from 0, as in docs/FORMATS.md.
-    pure function word_at(bytes, place) result(word)
+    pure function word_at32(bytes, place) result(word)
         integer(c_int8_t), intent(in) :: bytes(:)
-        integer, intent(in) :: place
+        integer(c_int32_t), intent(in) :: place
+        integer(c_int32_t) :: word
+
+        word = word_at64(bytes, int(place, c_int64_t))
+    end function
+
+    pure function word_at64(bytes, place) result(word)
+        integer(c_int8_t), intent(in) :: bytes(:)
+        integer(c_int64_t), intent(in) :: place
         integer(c_int32_t) :: word
         integer :: k
 

@@ -1,6 +1,7 @@
 """Firrozka for Python: the operations, and records taken apart for looking at.
 
-A record is a bytes object; docs/FORMATS.md describes the three. Names are document 01's.
+A record is any bytes-like object: bytes, bytearray, memoryview, array and so on; docs/FORMATS.md describes the three. Records that are
+made are bytes. Names are document 01's.
 
 ctypes needs a shared object: bindings/python/build makes target/libfirrozka.so from the archive. It is looked for there, or in the file
 that FIRROZKA_SO names. The proof covers the archive, not this module.
@@ -12,6 +13,9 @@ import struct
 from pathlib import Path
 from typing import NamedTuple
 
+# The version that this module was written for, 100 × major + minor: 1.0 is 100. version() is the archive's own.
+VERSION = 100
+
 # Buffers of so many bytes are long enough for every call.
 SHEET_BYTES = 32780
 PLAN_BYTES = 524
@@ -20,6 +24,10 @@ LEAST_BYTES = 256
 
 # The kind of a plan, by its number.
 KINDS = ("primary", "kept", "rebuilt")
+
+# Which of two plans has the tree in force.
+OLD_PLAN = 1
+NEW_PLAN = 2
 
 # Of what, and why.
 REFUSALS = {
@@ -56,12 +64,16 @@ REFUSALS = {
 
 
 class Refused(Exception):
-    """An operation refuses: its number, and the reason in words."""
+    """An operation refuses: its number, what it belongs to, and the reason in words."""
 
     def __init__(self, number):
-        of, reason = REFUSALS[number]
-        super().__init__(f"refused {number}: {of}: {reason}")
+        # The arguments are what copying and pickling make the exception from again.
+        super().__init__(number)
         self.number = number
+        self.subject, self.reason = REFUSALS[number]
+
+    def __str__(self):
+        return f"refused {self.number}: {self.subject}: {self.reason}"
 
 
 class Cell(NamedTuple):
@@ -121,8 +133,20 @@ def to_bytes(words):
 
 def to_words(record):
     """The whole words in the bytes; what is over is left out."""
+    record = _bytes("record", record)
     count = len(record) // 4
     return list(struct.unpack_from(f"<{count}I", record))
+
+
+def _bytes(name, record):
+    """The bytes of any bytes-like object, as they lie in memory."""
+    try:
+        view = memoryview(record)
+    except TypeError:
+        raise TypeError(f"{name}: a bytes-like object is needed, not {type(record).__name__}") from None
+    if not view.c_contiguous:
+        raise TypeError(f"{name}: the bytes of this {type(record).__name__} do not lie side by side")
+    return view.tobytes()
 
 
 def _answer(*values):
@@ -133,6 +157,7 @@ def _answer(*values):
 
 # Each function: how many records and buffers it takes, and what it answers.
 _FUNCTIONS = {
+    "version": (0, ctypes.c_uint32),
     "read_sheet": (1, _answer("refusal", "n", "t", "e", "p", "limit")),
     "read_plan": (1, _answer("refusal", "n", "kind", "limit")),
     "read_moves": (1, _answer("refusal", "n", "e")),
@@ -150,13 +175,21 @@ def _load():
     except OSError as error:
         raise ImportError(f"{error} (run bindings/python/build, or set FIRROZKA_SO)") from error
     for name, (slices, answer) in _FUNCTIONS.items():
-        function = getattr(library, "firrozka_" + name)
+        try:
+            function = getattr(library, "firrozka_" + name)
+        except AttributeError as error:
+            raise ImportError(f"{error} (another version: run bindings/python/build again)") from error
         function.argtypes = [ctypes.c_char_p, ctypes.c_size_t] * slices
         function.restype = answer
     return library
 
 
 _LIBRARY = _load()
+
+
+def version():
+    """The archive's version, 100 × major + minor."""
+    return _LIBRARY.firrozka_version()
 
 
 def _call(name, *slices):
@@ -170,6 +203,7 @@ def _call(name, *slices):
 
 def read_sheet(sheet):
     """Read sheet, with its cells."""
+    sheet = _bytes("sheet", sheet)
     answer = _call("read_sheet", sheet)
     words = to_words(sheet)
     pairs = zip(words[3 : 3 + answer.e], words[3 + answer.e :])
@@ -179,6 +213,7 @@ def read_sheet(sheet):
 
 def read_plan(plan):
     """Read plan, with its helpands and shares."""
+    plan = _bytes("plan", plan)
     answer = _call("read_plan", plan)
     words = to_words(plan)
     return Plan(answer.n, answer.kind, answer.limit, words[3 : 3 + answer.n], words[3 + answer.n :])
@@ -186,6 +221,7 @@ def read_plan(plan):
 
 def read_moves(moves):
     """Read moves, with its moves."""
+    moves = _bytes("moves", moves)
     answer = _call("read_moves", moves)
     words = to_words(moves)
     pairs = zip(words[2 : 2 + answer.e], words[2 + answer.e :])
@@ -195,14 +231,17 @@ def read_moves(moves):
 
 def weigh(sheet, plan):
     """Weigh: whether the plan's tree holds under the sheet's limit, and the leasts."""
+    sheet, plan = _bytes("sheet", sheet), _bytes("plan", plan)
     least = ctypes.create_string_buffer(LEAST_BYTES)
     answer = _call("weigh", sheet, plan, least)
     n = read_plan(plan).n
     return Weighed(bool(answer.holds), to_words(least.raw)[:n])
 
 
-def plan_step(sheet, old_plan=b""):
-    """Plan a step. An empty old plan is none."""
+def plan_step(sheet, old_plan=None):
+    """Plan a step. Where there is no old plan, it is None or empty."""
+    sheet = _bytes("sheet", sheet)
+    old_plan = b"" if old_plan is None else _bytes("old_plan", old_plan)
     plan = ctypes.create_string_buffer(PLAN_BYTES)
     moves = ctypes.create_string_buffer(MOVES_BYTES)
     answer = _call("plan_step", sheet, old_plan, plan, moves)
@@ -211,13 +250,18 @@ def plan_step(sheet, old_plan=b""):
 
 def carry_out(sheet, moves):
     """Carry out: the sheet that follows, as bytes."""
+    sheet, moves = _bytes("sheet", sheet), _bytes("moves", moves)
     following = ctypes.create_string_buffer(SHEET_BYTES)
     answer = _call("carry_out", sheet, moves, following)
     return following.raw[: answer.bytes]
 
 
 def tree_in_force(old_plan, new_plan):
-    """Tree in force: the helpands, or an empty list."""
+    """Tree in force: the helpands, or an empty list.
+
+    A new plan of kind 0 gives its roots. An empty old plan gives the empty list; only plan_step takes it as none.
+    """
+    old_plan, new_plan = _bytes("old_plan", old_plan), _bytes("new_plan", new_plan)
     part = _call("tree_in_force", old_plan, new_plan)
-    source = old_plan if part.source == 1 else new_plan
+    source = old_plan if part.source == OLD_PLAN else new_plan
     return to_words(source[part.start : part.start + part.length])

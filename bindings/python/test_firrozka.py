@@ -1,6 +1,13 @@
 """The module over the archive: document 01's steps, refusals and parts."""
 
+import array
+import copy
+import os
+import pickle
+import subprocess
+import sys
 import unittest
+from concurrent.futures import ProcessPoolExecutor
 
 import firrozka
 
@@ -35,6 +42,22 @@ class Operations(unittest.TestCase):
         self.assertEqual(firrozka.tree_in_force(CHAIN, PLAN), [0, 0, 0])
         self.assertEqual(firrozka.tree_in_force(PLAN, kept), [])
 
+    def test_tree_in_force_of_roots_and_without_an_old_plan(self):
+        roots = firrozka.to_bytes([3, 0, 36, 0, 1, 2, 0, 0, 0])
+        self.assertEqual(firrozka.tree_in_force(CHAIN, roots), [0, 1, 2])
+        self.assertEqual(firrozka.tree_in_force(b"", roots), [])
+        self.assertEqual(firrozka.tree_in_force(b"", PLAN), [])
+
+    def test_version(self):
+        self.assertEqual(firrozka.version(), firrozka.VERSION)
+
+    def test_a_shared_object_that_lacks_a_function_is_no_library(self):
+        folder = os.path.dirname(os.path.abspath(firrozka.__file__))
+        environment = dict(os.environ, PYTHONPATH=folder, FIRROZKA_SO="libc.so.6")
+        command = [sys.executable, "-c", "import firrozka"]
+        said = subprocess.run(command, env=environment, stderr=subprocess.PIPE).stderr.decode()
+        self.assertRegex(said, "ImportError: .*firrozka_version.*bindings/python/build")
+
     def test_refusals(self):
         with self.assertRaises(firrozka.Refused) as caught:
             firrozka.plan_step(SHEET[:-1])
@@ -43,6 +66,77 @@ class Operations(unittest.TestCase):
         with self.assertRaises(firrozka.Refused) as caught:
             firrozka.read_plan(b"")
         self.assertEqual(caught.exception.number, 11)
+        self.assertEqual(caught.exception.subject, "plan")
+        self.assertEqual(caught.exception.reason, "under 12 bytes")
+
+    def assert_same_refusal(self, refused):
+        self.assertIs(type(refused), firrozka.Refused)
+        self.assertEqual((refused.number, refused.reason), (42, firrozka.REFUSALS[42][1]))
+        self.assertEqual(str(refused), str(firrozka.Refused(42)))
+
+    def test_refusals_are_copied_and_pickled(self):
+        refused = firrozka.Refused(42)
+        self.assert_same_refusal(copy.copy(refused))
+        self.assert_same_refusal(copy.deepcopy(refused))
+        for protocol in range(pickle.HIGHEST_PROTOCOL + 1):
+            self.assert_same_refusal(pickle.loads(pickle.dumps(refused, protocol)))
+
+    def test_a_refusal_leaves_a_process_pool_whole(self):
+        too_many = firrozka.to_bytes([3, 1, 2 * 4096 + 2 * 64, 5])
+        with ProcessPoolExecutor(1) as pool:
+            self.assert_same_refusal(pool.submit(firrozka.carry_out, SHEET, too_many).exception())
+            self.assertEqual(pool.submit(firrozka.carry_out, SHEET, MOVES).exception(), None)
+
+
+# The same bytes in other objects.
+FORMS = (
+    bytes,
+    bytearray,
+    memoryview,
+    lambda record: array.array("B", record),
+    lambda record: array.array("I", record),
+    lambda record: memoryview(record).cast("I"),
+)
+
+
+class Arguments(unittest.TestCase):
+    def test_any_bytes_like_object_is_taken(self):
+        kept = firrozka.plan_step(SHEET_H, CHAIN).plan
+        for form in FORMS:
+            self.assertEqual(firrozka.to_words(form(PLAN)), firrozka.to_words(PLAN))
+            self.assertEqual(firrozka.read_sheet(form(SHEET)), firrozka.read_sheet(SHEET))
+            self.assertEqual(firrozka.read_plan(form(PLAN)), firrozka.read_plan(PLAN))
+            self.assertEqual(firrozka.read_moves(form(MOVES)), firrozka.read_moves(MOVES))
+            self.assertEqual(firrozka.weigh(form(SHEET_H), form(CHAIN)), (True, [28, 36, 0]))
+            self.assertEqual(firrozka.plan_step(form(SHEET_H), form(CHAIN)), firrozka.plan_step(SHEET_H, CHAIN))
+            self.assertEqual(firrozka.carry_out(form(SHEET), form(MOVES)), firrozka.carry_out(SHEET, MOVES))
+            self.assertEqual(firrozka.tree_in_force(form(CHAIN), form(kept)), [0, 0, 1])
+
+    def test_no_old_plan_is_none_or_empty(self):
+        self.assertEqual(firrozka.plan_step(SHEET, None), firrozka.plan_step(SHEET))
+        self.assertEqual(firrozka.plan_step(SHEET, b""), firrozka.plan_step(SHEET))
+
+    def assert_named(self, name, given, call, *arguments):
+        with self.assertRaises(TypeError) as caught:
+            call(*arguments)
+        self.assertEqual(str(caught.exception), f"{name}: a bytes-like object is needed, not {given}")
+
+    def test_a_wrong_type_is_named(self):
+        self.assert_named("record", "list", firrozka.to_words, [3, 10])
+        self.assert_named("sheet", "str", firrozka.read_sheet, "3 10 0")
+        self.assert_named("plan", "NoneType", firrozka.read_plan, None)
+        self.assert_named("moves", "int", firrozka.read_moves, 3)
+        self.assert_named("plan", "Plan", firrozka.weigh, SHEET, firrozka.read_plan(PLAN))
+        self.assert_named("sheet", "NoneType", firrozka.plan_step, None, PLAN)
+        self.assert_named("old_plan", "Step", firrozka.plan_step, SHEET, firrozka.plan_step(SHEET))
+        self.assert_named("moves", "Moves", firrozka.carry_out, SHEET, firrozka.read_moves(MOVES))
+        self.assert_named("old_plan", "NoneType", firrozka.tree_in_force, None, PLAN)
+        self.assert_named("new_plan", "NoneType", firrozka.tree_in_force, PLAN, None)
+
+    def test_bytes_with_gaps_are_no_record(self):
+        with self.assertRaises(TypeError) as caught:
+            firrozka.read_sheet(memoryview(SHEET)[::2])
+        self.assertEqual(str(caught.exception), "sheet: the bytes of this memoryview do not lie side by side")
 
 
 if __name__ == "__main__":

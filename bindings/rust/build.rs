@@ -2,7 +2,8 @@
 //! this crate's folder), else where `rt staticlib firrozka` puts it.
 
 use std::env;
-use std::path::PathBuf;
+use std::path::{Path, PathBuf};
+use std::process;
 
 fn main() {
     let here = PathBuf::from(env::var_os("CARGO_MANIFEST_DIR").expect("cargo sets it"));
@@ -13,11 +14,19 @@ fn main() {
     let archive = folder.join("libfirrozka.a");
     println!("cargo:rerun-if-env-changed=FIRROZKA_LIB_DIR");
     println!("cargo:rerun-if-changed={}", archive.display());
-    assert!(
-        archive.exists(),
-        "{} is missing: run `rt staticlib firrozka` at the repository root first",
-        archive.display()
-    );
+    if !archive.exists() {
+        missing(&archive);
+    }
     println!("cargo:rustc-link-search=native={}", folder.display());
     println!("cargo:rustc-link-lib=static=firrozka");
+}
+
+/// Ends the build with two plain sentences; a panic would hide them in its own.
+fn missing(archive: &Path) -> ! {
+    eprintln!("firrozka: there is no {}.", archive.display());
+    eprintln!(
+        "Run `rt staticlib firrozka` at the repository's root, or set FIRROZKA_LIB_DIR \
+         to the folder that has libfirrozka.a."
+    );
+    process::exit(1)
 }

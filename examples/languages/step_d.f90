@@ -1,10 +1,10 @@
 ! Plans step D and prints it as the bench program does.
 program step_d
-    use, intrinsic :: iso_c_binding, only: c_int8_t, c_int32_t, c_size_t
+    use, intrinsic :: iso_c_binding, only: c_int8_t, c_size_t
     use firrozka
     implicit none
 
-    integer(c_int32_t), parameter :: words(9) = [3, 10, 3, 0, 65, 130, 90, 6, 4]
+    integer, parameter :: words(9) = [3, 10, 3, 0, 65, 130, 90, 6, 4]
     integer(c_int8_t) :: sheet(4 * size(words)), no_plan(1), plan(firrozka_plan_bytes), moves(firrozka_moves_bytes)
     type(firrozka_step) :: step
     integer :: n, k
@@ -24,7 +24,7 @@ program step_d
         print '("node ", i0, " helps ", i0, " share ", i0, " own ", i0)', k, helpand(k), share(k), own(k)
     end do
     do k = 0, word_at(moves, 1) - 1
-        call print_move(word_at(moves, 2 + k), word_at(moves, 2 + word_at(moves, 1) + k))
+        call print_move(int(word_at(moves, 2 + k)), int(word_at(moves, 2 + word_at(moves, 1) + k)))
     end do
 
 contains
@@ -47,7 +47,7 @@ contains
         own = 0
         e = word_at(sheet, 2)
         do i = 0, e - 1
-            if (mod(word_at(sheet, 3 + i), 64) == node) own = own + word_at(sheet, 3 + e + i)
+            if (mod(int(word_at(sheet, 3 + i)), 64) == node) own = own + word_at(sheet, 3 + e + i)
         end do
         do i = 0, n - 1
             if (helpand(i) == node) own = own - share(i)
@@ -56,7 +56,7 @@ contains
 
     ! A route is subdomain x 4,096 + sender x 64 + receiver.
     subroutine print_move(route, count)
-        integer(c_int32_t), intent(in) :: route, count
+        integer, intent(in) :: route, count
         print '("move ", i0, " from ", i0, " to ", i0, " count ", i0)', &
             route / 4096, mod(route / 64, 64), mod(route, 64), count
     end subroutine

@@ -83,6 +83,7 @@ impl PartAnswer {
 }
 
 extern "C" {
+    fn firrozka_version() -> u32;
     fn firrozka_read_sheet(sheet: *const u8, len: usize) -> SheetAnswer;
     fn firrozka_read_plan(plan: *const u8, len: usize) -> PlanAnswer;
     fn firrozka_read_moves(moves: *const u8, len: usize) -> MovesAnswer;
@@ -118,6 +119,12 @@ extern "C" {
         new: *const u8,
         new_len: usize,
     ) -> PartAnswer;
+}
+
+/// The archive's version, 100 × major + minor.
+pub fn version() -> u32 {
+    // SAFETY: nothing is passed.
+    unsafe { firrozka_version() }
 }
 
 /// *Read sheet*, as the archive does it.

@@ -11,8 +11,11 @@
 //! let mut moves = [0; firrozka::MOVES_BYTES];
 //! let step = firrozka::plan_step(&sheet, firrozka::NO_PLAN, &mut plan, &mut moves)?;
 //! assert_eq!(step.kind, firrozka::Kind::Rebuilt);
-//! let shares = firrozka::read_plan(step.plan)?.shares;
-//! assert_eq!(shares.iter().collect::<Vec<u32>>(), [0, 27, 29]);
+//! let plan = firrozka::read_plan(step.plan)?;
+//! assert_eq!(plan.shares.get(2), Some(29));
+//! for (helpand, share) in plan.helpands.into_iter().zip(plan.shares) {
+//!     println!("{share} of subdomain {helpand}");
+//! }
 //! # Ok::<(), firrozka::Refusal>(())
 //! ```
 #![deny(unsafe_code)] // only ffi.rs, which calls the archive, lifts this
@@ -24,10 +27,11 @@ mod records;
 mod refusal;
 mod words;
 
+pub use ffi::version;
 pub use operations::{
     carry_out, plan_step, read_moves, read_plan, read_sheet, tree_in_force, weigh, Step, Weighed,
-    LEAST_BYTES, MOVES_BYTES, NO_PLAN, PLAN_BYTES, SHEET_BYTES,
+    LEAST_BYTES, MOVES_BYTES, NO_PLAN, PLAN_BYTES, SHEET_BYTES, VERSION,
 };
-pub use records::{Cell, Kind, Move, Moves, Node, Plan, Sheet};
+pub use records::{Cell, Kind, Move, Moves, NoKind, Node, Plan, Sheet};
 pub use refusal::Refusal;
-pub use words::{to_bytes, Words};
+pub use words::{to_bytes, Words, WordsIter};

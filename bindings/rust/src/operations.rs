@@ -6,6 +6,9 @@ use crate::records::{Kind, Moves, Plan, Sheet};
 use crate::refusal::Refusal;
 use crate::words::Words;
 
+/// The version that this crate was written for: 100 × major + minor.
+pub const VERSION: u32 = 100;
+
 /// Enough for every sheet.
 pub const SHEET_BYTES: usize = 4 * (3 + 2 * 64 * 64);
 
@@ -123,7 +126,8 @@ pub fn carry_out<'a>(sheet: &[u8], moves: &[u8], next: &'a mut [u8]) -> Result<&
 }
 
 /// *Tree in force*: the helpands, a part of one of the two plans, or an empty
-/// part of the new plan.
+/// part of the new plan. A new plan of kind 0 gives its roots. `NO_PLAN` as the
+/// old plan gives the empty part; only *plan a step* takes it as none.
 pub fn tree_in_force<'a>(old: &'a [u8], new: &'a [u8]) -> &'a [u8] {
     let part = ffi::tree_in_force(old, new);
     let source = match part.source {
@@ -141,7 +145,7 @@ fn accepted(refusal: u32) -> Result<(), Refusal> {
 }
 
 fn kind(number: u32) -> Kind {
-    Kind::from_number(number).expect("a kind of document 01")
+    Kind::try_from(number).expect("a kind of document 01")
 }
 
 /// "Sizes stand first, then two parallel arrays", of an accepted record.

@@ -1,6 +1,8 @@
 //! The three records, as views of bytes that were accepted.
 
 use crate::words::Words;
+use std::error::Error;
+use std::fmt;
 
 /// What the words of a cell and a route are made of: node numbers below 64.
 const NODES: u32 = 64;
@@ -46,7 +48,7 @@ impl<'a> Sheet<'a> {
 }
 
 /// The kind of a plan.
-#[derive(Clone, Copy, Debug, PartialEq, Eq)]
+#[derive(Clone, Copy, Debug, PartialEq, Eq, Hash)]
 pub enum Kind {
     /// No node helps.
     Primary = 0,
@@ -57,16 +59,6 @@ pub enum Kind {
 }
 
 impl Kind {
-    /// The kind with this number.
-    pub fn from_number(number: u32) -> Option<Kind> {
-        match number {
-            0 => Some(Kind::Primary),
-            1 => Some(Kind::Kept),
-            2 => Some(Kind::Rebuilt),
-            _ => None,
-        }
-    }
-
     /// Document 01's number.
     pub fn number(self) -> u32 {
         self as u32
@@ -78,6 +70,37 @@ impl Kind {
             Kind::Primary => "primary",
             Kind::Kept => "kept",
             Kind::Rebuilt => "rebuilt",
+        }
+    }
+}
+
+impl fmt::Display for Kind {
+    fn fmt(&self, f: &mut fmt::Formatter) -> fmt::Result {
+        f.pad(self.word())
+    }
+}
+
+/// A number that no kind has.
+#[derive(Clone, Copy, Debug, PartialEq, Eq)]
+pub struct NoKind(pub u32);
+
+impl fmt::Display for NoKind {
+    fn fmt(&self, f: &mut fmt::Formatter) -> fmt::Result {
+        write!(f, "{} is no kind: 0 primary, 1 kept, 2 rebuilt", self.0)
+    }
+}
+
+impl Error for NoKind {}
+
+impl TryFrom<u32> for Kind {
+    type Error = NoKind;
+
+    fn try_from(number: u32) -> Result<Kind, NoKind> {
+        match number {
+            0 => Ok(Kind::Primary),
+            1 => Ok(Kind::Kept),
+            2 => Ok(Kind::Rebuilt),
+            _ => Err(NoKind(number)),
         }
     }
 }

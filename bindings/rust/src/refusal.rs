@@ -6,7 +6,7 @@ use std::fmt;
 macro_rules! refusals {
     ($($name:ident = $number:literal, $subject:literal, $reason:literal;)*) => {
         /// A refusal: document 01's number, and its reason in words.
-        #[derive(Clone, Copy, Debug, PartialEq, Eq, PartialOrd, Ord, Hash)]
+        #[derive(Clone, Copy, PartialEq, Eq, PartialOrd, Ord, Hash)]
         pub enum Refusal {
             $(#[doc = concat!($subject, ": ", $reason)] $name = $number,)*
         }
@@ -14,6 +14,13 @@ macro_rules! refusals {
         impl Refusal {
             /// All of them, by rising number.
             pub const ALL: &'static [Refusal] = &[$(Refusal::$name),*];
+
+            /// Its name in this enum.
+            pub fn name(self) -> &'static str {
+                match self {
+                    $(Refusal::$name => stringify!($name),)*
+                }
+            }
 
             /// The record or operation that it belongs to.
             pub fn subject(self) -> &'static str {
@@ -83,6 +90,14 @@ impl fmt::Display for Refusal {
     fn fmt(&self, f: &mut fmt::Formatter) -> fmt::Result {
         let (number, subject, reason) = (self.number(), self.subject(), self.reason());
         write!(f, "refused {number}: {subject}: {reason}")
+    }
+}
+
+/// The name with number and reason: this is what a `main` that returns the
+/// refusal prints.
+impl fmt::Debug for Refusal {
+    fn fmt(&self, f: &mut fmt::Formatter) -> fmt::Result {
+        write!(f, "{} ({self})", self.name())
     }
 }
 

@@ -1,8 +1,11 @@
 //! "A word is 4 bytes, unsigned, low byte first."
 
 use std::fmt;
+use std::iter::Map;
+use std::slice::ChunksExact;
 
-/// Words in bytes.
+/// Words in bytes. They may lie at any address, so there is no `&u32` to any of
+/// them: `get` gives the value itself, and so does going through them.
 #[derive(Clone, Copy, PartialEq, Eq)]
 pub struct Words<'a>(&'a [u8]);
 
@@ -22,15 +25,35 @@ impl<'a> Words<'a> {
         self.len() == 0
     }
 
+    /// The word at a place, counted from 0, if there is one.
+    pub fn get(self, place: usize) -> Option<u32> {
+        self.0.chunks_exact(4).nth(place).map(word)
+    }
+
     /// The words, first to last.
-    pub fn iter(self) -> impl ExactSizeIterator<Item = u32> + 'a {
-        let word = |chunk: &[u8]| u32::from_le_bytes([chunk[0], chunk[1], chunk[2], chunk[3]]);
-        self.0.chunks_exact(4).map(word)
+    pub fn iter(self) -> WordsIter<'a> {
+        self.0.chunks_exact(4).map(word as fn(&'a [u8]) -> u32)
     }
 
     /// `count` words from the word `from` on, or panics where there are fewer.
     pub(crate) fn part(self, from: usize, count: usize) -> Words<'a> {
         Words(&self.0[4 * from..][..4 * count])
+    }
+}
+
+fn word(bytes: &[u8]) -> u32 {
+    u32::from_le_bytes([bytes[0], bytes[1], bytes[2], bytes[3]])
+}
+
+/// Goes through words, from either end.
+pub type WordsIter<'a> = Map<ChunksExact<'a, u8>, fn(&'a [u8]) -> u32>;
+
+impl<'a> IntoIterator for Words<'a> {
+    type Item = u32;
+    type IntoIter = WordsIter<'a>;
+
+    fn into_iter(self) -> WordsIter<'a> {
+        self.iter()
     }
 }
 

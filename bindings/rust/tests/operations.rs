@@ -87,6 +87,40 @@ fn records_are_taken_apart() -> Result<(), Refusal> {
 }
 
 #[test]
+fn helpands_and_shares_are_indexed_and_gone_through() -> Result<(), Refusal> {
+    let bytes = to_bytes(&PLAN);
+    let plan = read_plan(&bytes)?;
+    let by_place: Vec<Option<u32>> = (0..4).map(|node| plan.shares.get(node)).collect();
+    assert_eq!(by_place, [Some(0), Some(27), Some(29), None]);
+    let mut sum = 0;
+    for share in plan.shares {
+        sum += share;
+    }
+    assert_eq!(sum, 56);
+    let mut backwards = plan.shares.iter().rev();
+    assert_eq!((backwards.len(), backwards.next()), (3, Some(29)));
+    assert!(plan.helpands.into_iter().all(|helpand| helpand == 0));
+    Ok(())
+}
+
+#[test]
+fn kinds_come_from_numbers_and_print_as_words() {
+    let kinds = [0, 1, 2].map(Kind::try_from);
+    assert_eq!(
+        kinds,
+        [Ok(Kind::Primary), Ok(Kind::Kept), Ok(Kind::Rebuilt)]
+    );
+    let words = kinds.map(|kind| kind.expect("a kind").to_string());
+    assert_eq!(words, ["primary", "kept", "rebuilt"]);
+    assert_eq!(format!("{:>8}", Kind::Kept), "    kept");
+    let error = Kind::try_from(3).expect_err("there is no kind 3");
+    assert_eq!(
+        error.to_string(),
+        "3 is no kind: 0 primary, 1 kept, 2 rebuilt"
+    );
+}
+
+#[test]
 fn the_tree_of_step_h_holds_and_that_of_step_i_does_not() -> Result<(), Refusal> {
     let old = to_bytes(&[3, 2, 36, 0, 0, 1, 0, 0, 0]);
     let mut least = [0xa5; LEAST_BYTES];
@@ -116,7 +150,13 @@ fn the_tree_in_force_is_a_part_of_a_plan() -> Result<(), Refusal> {
     assert_eq!(helpands.as_ptr_range(), rebuilt[12..24].as_ptr_range());
     // The old plan has other helpands.
     assert!(tree_in_force(&rebuilt, kept.plan).is_empty());
-    assert!(tree_in_force(NO_PLAN, &rebuilt).is_empty());
+    // A new plan of kind 0 gives its roots; without an old plan there is nothing.
+    let roots = to_bytes(&[3, 0, 36, 0, 1, 2, 0, 0, 0]);
+    let helpands = tree_in_force(&old, &roots);
+    assert_eq!(helpands.as_ptr_range(), roots[12..24].as_ptr_range());
+    for new in [&rebuilt, &roots] {
+        assert!(tree_in_force(NO_PLAN, new).is_empty());
+    }
     Ok(())
 }
 

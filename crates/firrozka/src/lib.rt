@@ -16,6 +16,15 @@ ghost use Rattle.weigh.specs.Weigh.{weighAnswer, weighBytes};
 ghost use Rattle.planner.specs.Step.{stepAnswer, planAfter, movesAfter};
 ghost use Rattle.carry.specs.Carry.{carryAnswer, nextAfter};
 ghost use Rattle.force.specs.Force.{inForce, partOf};
+ghost use Rattle.firrozka.specs.Version.{version};
+
+// The version, so that a caller can hold the header that it was compiled with to the archive that it was linked with.
+#[no_mangle]
+pub extern "C" fn firrozka_version() -> u32
+    ensures { λ r. ⌜ r ≡ version ⌝ }
+{
+    100
+}
 
 // *Read sheet*.
 #[no_mangle]

@@ -1,16 +1,25 @@
 //! Numbers and words that several files have: all say the same.
 
-use firrozka::{Refusal, LEAST_BYTES, MOVES_BYTES, PLAN_BYTES, SHEET_BYTES};
+use firrozka::ffi::PartAnswer;
+use firrozka::{version, Refusal, LEAST_BYTES, MOVES_BYTES, PLAN_BYTES, SHEET_BYTES, VERSION};
 use std::fs;
 
-/// A part of a file of this repository, from its opening to its end, each
-/// stretch of white space as one blank.
-fn part(name: &str, opening: &str, end: &str) -> String {
+/// A file of this repository.
+fn file(name: &str) -> String {
     let path = format!("{}/../../{name}", env!("CARGO_MANIFEST_DIR"));
-    let text = fs::read_to_string(&path).unwrap_or_else(|error| panic!("{path}: {error}"));
+    fs::read_to_string(&path).unwrap_or_else(|error| panic!("{path}: {error}"))
+}
+
+/// Each stretch of white space as one blank.
+fn one_line(text: &str) -> String {
+    text.split_whitespace().collect::<Vec<&str>>().join(" ")
+}
+
+/// A part of a file, from its opening to its end, as one line.
+fn part(name: &str, opening: &str, end: &str) -> String {
+    let text = file(name);
     let (_, rest) = text.split_once(opening).expect("the file has the part");
-    let part = rest.split_once(end).map_or(rest, |(part, _)| part);
-    part.split_whitespace().collect::<Vec<&str>>().join(" ")
+    one_line(rest.split_once(end).map_or(rest, |(part, _)| part))
 }
 
 /// The text has these lines, one for each refusal, and no other that has the mark.
@@ -33,8 +42,8 @@ fn the_formats_page_has_the_refusals() {
 /// `SheetShort` as C writes it: `SHEET_SHORT`.
 fn c_name(refusal: Refusal) -> String {
     let upper = |letter: char| if letter.is_uppercase() { "_" } else { "" };
-    let name = format!("{refusal:?}");
-    let letters = name
+    let letters = refusal
+        .name()
         .chars()
         .map(|letter| format!("{}{letter}", upper(letter)));
     letters.collect::<String>().to_uppercase()
@@ -90,6 +99,58 @@ fn all_have_the_sizes_of_buffers() {
     }
 }
 
+/// The archive, the definition that it is proved against, the header, the
+/// wrappers and the newest heading of the change log.
+#[test]
+fn all_have_the_version() {
+    assert_eq!(version(), VERSION);
+    let has = |name: &str, opening: &str, end: &str, expected: String| {
+        assert_eq!(part(name, opening, end), expected, "{name}");
+    };
+    let number = VERSION.to_string();
+    let specs = "crates/firrozka/specs/Version.antt";
+    has(specs, "version =", "\n", number.clone());
+    has(
+        "include/firrozka.h",
+        "#define FIRROZKA_VERSION",
+        "\n",
+        number.clone(),
+    );
+    let fortran = "bindings/fortran/firrozka.f90";
+    has(fortran, "firrozka_module_version =", "\n", number.clone());
+    has("bindings/python/firrozka.py", "\nVERSION =", "\n", number);
+    let (major, minor) = (VERSION / 100, VERSION % 100);
+    has("CHANGELOG.md", "\n## ", "\n", format!("{major}.{minor}"));
+}
+
+#[test]
+fn all_have_the_sources_of_a_tree() {
+    let c = part("include/firrozka.h", "enum firrozka_source {", "};");
+    let fortran = part("bindings/fortran/firrozka.f90", "parameter", "interface");
+    let python = part("bindings/python/firrozka.py", "import", "class");
+    for (name, source) in [("OLD", PartAnswer::OLD), ("NEW", PartAnswer::NEW)] {
+        let upper = format!("{name}_PLAN = {source}");
+        assert!(c.contains(&format!("FIRROZKA_{upper}")), "{upper}");
+        assert!(python.contains(&upper), "{upper}");
+        let lower = format!("firrozka_{upper}").to_lowercase();
+        assert!(fortran.contains(&lower), "{lower}");
+    }
+}
+
+#[test]
+fn all_say_what_the_tree_in_force_is_without_an_old_plan_and_in_kind_0() {
+    for name in ["include/firrozka.h", "docs/FORMATS.md", "docs/USING.md"] {
+        // Stars begin a line of a comment and set a name apart.
+        let text = one_line(&file(name).replace('*', ""));
+        for sentence in [
+            "An old plan of length 0 gives the empty stretch; only plan a step takes it as none.",
+            "A new plan of kind 0 gives its roots.",
+        ] {
+            assert!(text.contains(sentence), "{name}: {sentence}");
+        }
+    }
+}
+
 #[test]
 fn numbers_lead_to_refusals_and_back() {
     for &refusal in Refusal::ALL {
@@ -102,5 +163,9 @@ fn numbers_lead_to_refusals_and_back() {
     assert_eq!(
         text,
         "refused 5: sheet: the length is not 4 × (3 + 2E) bytes"
+    );
+    assert_eq!(
+        format!("{:?}", Refusal::SheetLength),
+        format!("SheetLength ({text})")
     );
 }
