@@ -45,11 +45,13 @@ pub struct Sizes {
 /// The words of the sheet in this table. The call may give the sizes.
 pub fn sheet(text: &str, given: Option<Sizes>) -> Result<Vec<u32>, String> {
     let mut lines = Piece::lines(text).peekable();
-    let begins = |line: &Piece| line.words().next().map_or(false, |word| word.is("nodes"));
-    let [n, t] = match (lines.next_if(begins), given) {
-        (None, Some(sizes)) => [sizes.n, sizes.t],
-        (line, None) => SHEET.sizes(line)?,
-        (line, Some(sizes)) => agreed(line, SHEET.sizes(line)?, [sizes.n, sizes.t])?,
+    let is_head = |line: &Piece| line.words().next().map_or(false, |word| word.is("nodes"));
+    let [n, t] = match given {
+        None => SHEET.sizes(lines.next())?,
+        Some(sizes) => match lines.next_if(is_head) {
+            Some(line) => agreed(line, [sizes.n, sizes.t])?,
+            None => [sizes.n, sizes.t],
+        },
     };
     // N by itself: a cell is made of nodes below 64.
     Record::Sheet.of_words(&[n, t, 0])?;
@@ -67,14 +69,13 @@ pub fn sheet(text: &str, given: Option<Sizes>) -> Result<Vec<u32>, String> {
 }
 
 /// The sizes, if the head line and the call agree.
-fn agreed(line: Option<Piece>, sizes: [u32; 2], given: [u32; 2]) -> Result<[u32; 2], String> {
-    match line {
-        Some(line) if sizes != given => {
-            let what = format!("this line differs from -n {} -t {}", given[0], given[1]);
-            Err(line.fault(what).into())
-        }
-        _ => Ok(sizes),
+fn agreed(line: Piece, given: [u32; 2]) -> Result<[u32; 2], String> {
+    let [n, t] = given;
+    if SHEET.sizes(Some(line))? != given {
+        let what = format!("this line differs from -n {n} -t {t}");
+        return Err(line.fault(what).into());
     }
+    Ok(given)
 }
 
 /// The counts by cell: "A cell is holder × 64 + subdomain." Counts of 0 are left
