@@ -4,7 +4,6 @@ use crate::files::{self, STANDARD};
 use crate::task::Task;
 use crate::text::Piece;
 use crate::verbs::{self, Verb, FLAGS};
-use crate::VERSION;
 use std::collections::{BTreeMap, VecDeque};
 
 /// What the tool is called for.
@@ -30,7 +29,7 @@ pub struct Call {
 pub fn parse(arguments: &[String]) -> Result<Asked, String> {
     let first = arguments.first().map_or("", String::as_str);
     if first == "--version" {
-        return Ok(Asked::Text(format!("firrozka {VERSION}\n")));
+        return Ok(Asked::Text(format!("firrozka {}\n", crate::version())));
     }
     let verb = Verb::named(first);
     if arguments

@@ -26,7 +26,7 @@ pub struct Verb {
 pub const FLAGS: [&str; 1] = ["--empty"];
 
 /// All verbs.
-pub const VERBS: [Verb; 7] = [
+pub static VERBS: [Verb; 7] = [
     Verb {
         name: "plan",
         form: "SHEET [OLD_PLAN] [-o PLAN] [-m MOVES]",
@@ -90,9 +90,14 @@ line may be these three names. A count of 0 is left out of the sheet.
         form: "sheet|plan|moves|any [-o RECORD] [TEXT]",
         does: "makes a record from the table that 'show' prints, or from words",
         more: "\
-TEXT is what 'firrozka show' prints of a record, or the record's words: numbers
-with blanks or new lines between them. A record that the library refuses is not
-written. 'any' takes words and writes their bytes, whatever they are.
+TEXT is what 'firrozka show' prints of a record: a head line, the names of the
+columns, which may be left away, and a line for each entry:
+  sheet      nodes N tolerance T    holder,subdomain,count
+  plan       kind K limit L         node,helps,share
+  moves      nodes N                subdomain,from,to,count
+Or it is the record's words: numbers with blanks or new lines between them. A
+record that the library refuses is not written. 'any' takes words and writes their
+bytes, whatever they are.
   -o RECORD  the file for the record
 ",
         options: &["-o"],

@@ -5,16 +5,17 @@ mod common;
 
 use common::{bytes, end, example, failed, file, firrozka, fresh, printed, said, tool, written};
 use std::ffi::OsStr;
-use std::fs::{self, File};
+use std::fs::{self, File, Permissions};
 use std::os::unix::ffi::OsStrExt;
-use std::os::unix::fs::symlink;
+use std::os::unix::fs::{symlink, PermissionsExt};
 use std::process::{Command, Stdio};
 
 const VERBS: [&str; 7] = ["plan", "weigh", "carry", "table", "write", "show", "words"];
 
 #[test]
 fn help_and_version_are_printed() {
-    assert_eq!(printed(&["--version"]), "firrozka 1.0\n");
+    let version = firrozka_tools::version();
+    assert_eq!(printed(&["--version"]), format!("firrozka {version}\n"));
     let help = printed(&["--help"]);
     assert_eq!(printed(&["-h"]), help);
     for verb in VERBS {
@@ -215,13 +216,19 @@ fn a_closed_pipe_is_noticed() {
     assert_eq!(failed(output, 1), format!("standard output: {what}\n"));
 }
 
-/// The tool where no file can grow, as on a full disk.
-fn without_room(arguments: &[&str]) -> String {
-    let script = "trap '' XFSZ; ulimit -f 0; exec \"$0\" \"$@\"";
+/// What the tool says where the shell sets it a limit.
+fn said_under(limit: &str, arguments: &[&str]) -> String {
+    let script = format!("{limit}; exec \"$0\" \"$@\"");
     let mut shell = Command::new("sh");
-    shell.args(["-c", script, env!("CARGO_BIN_EXE_firrozka")]);
+    shell.args(["-c", &script, env!("CARGO_BIN_EXE_firrozka")]);
     shell.args(arguments).stdin(Stdio::null());
     failed(shell.output().expect("the shell starts"), 1)
+}
+
+#[test]
+fn an_endless_file_is_no_record() {
+    let said = said_under("ulimit -v 1000000", &["plan", "/dev/zero"]);
+    assert_eq!(said, "/dev/zero: refused 2: sheet: N is not 1 to 64\n");
 }
 
 #[test]
@@ -234,8 +241,10 @@ fn a_file_is_replaced_whole_or_not_at_all() {
     fs::write(&plan, "before").expect("the file is written");
     let call = ["plan", &example("step-d/sheet"), "-o", &plan, "-m", &moves];
 
+    // No file can grow, as on a full disk.
+    let said = said_under("trap '' XFSZ; ulimit -f 0", &call);
     let what = "cannot be written: File too large (os error 27)";
-    assert_eq!(without_room(&call), format!("{plan}: {what}\n"));
+    assert_eq!(said, format!("{plan}: {what}\n"));
     assert_eq!(bytes(&plan), b"before");
     assert_eq!(there(), 1);
 
@@ -246,11 +255,14 @@ fn a_file_is_replaced_whole_or_not_at_all() {
 }
 
 #[test]
-fn a_link_stays_a_link() {
+fn a_file_that_is_replaced_keeps_its_link_and_its_permissions() {
     let (plan, link) = (file("linked", b"before"), fresh("link"));
     symlink(&plan, &link).expect("the link is made");
+    fs::set_permissions(&plan, Permissions::from_mode(0o640)).expect("it is ours");
     printed(&["plan", &example("step-d/sheet"), "-o", &link]);
     assert_eq!(bytes(&plan), bytes(&example("step-d/plan")));
     let link = fs::symlink_metadata(&link).expect("it is there");
     assert!(link.file_type().is_symlink());
+    let plan = fs::metadata(&plan).expect("it is there");
+    assert_eq!(plan.permissions().mode() & 0o777, 0o640);
 }
