@@ -32,25 +32,19 @@ pub fn parse(arguments: &[String]) -> Result<Asked, String> {
         return Ok(Asked::Text(format!("firrozka {}\n", crate::version())));
     }
     let verb = Verb::named(first);
-    if arguments
-        .iter()
-        .any(|argument| argument == "--help" || argument == "-h")
-    {
+    let is_help = |argument: &String| argument == "--help" || argument == "-h";
+    if arguments.iter().any(is_help) {
         return Ok(Asked::Text(verb.map_or_else(verbs::help, Verb::help)));
     }
-    let wrong = |what: String, usage: String| format!("firrozka: {what}\nusage:\n{usage}");
-    match verb {
-        Some(verb) => call(verb, &arguments[1..])
-            .map(Asked::Work)
-            .map_err(|what| {
-                wrong(
-                    format!("{}: {what}", verb.name),
-                    format!("  {}\n", verb.usage()),
-                )
-            }),
-        None if first.is_empty() => Err(wrong(String::from("a verb is missing"), verbs::usage())),
-        None => Err(wrong(format!("there is no verb '{first}'"), verbs::usage())),
-    }
+    let (what, usage) = match verb {
+        Some(verb) => match call(verb, &arguments[1..]) {
+            Ok(call) => return Ok(Asked::Work(call)),
+            Err(what) => (format!("{}: {what}", verb.name), verb.usage()),
+        },
+        None if first.is_empty() => (String::from("a verb is missing"), verbs::usage()),
+        None => (format!("there is no verb '{first}'"), verbs::usage()),
+    };
+    Err(format!("firrozka: {what}\nusage:\n{usage}"))
 }
 
 /// The call of a verb, or what is wrong with it.
@@ -84,15 +78,7 @@ impl Given {
                 plain.push_back(argument.clone());
                 continue;
             }
-            let option = *verb
-                .options
-                .iter()
-                .find(|option| **option == argument)
-                .ok_or_else(|| {
-                    format!(
-                        "it has no option {argument}; a file of this name is written ./{argument}"
-                    )
-                })?;
+            let option = verb.option(argument)?;
             let value = match FLAGS.contains(&option) {
                 true => String::new(),
                 false => behind(option, arguments.next())?,
@@ -113,8 +99,7 @@ impl Given {
     pub fn number(&self, option: &str, name: &str) -> Result<u32, String> {
         let text = self.options.get(option);
         let text = text.ok_or_else(|| format!("{option} {name} is missing"))?;
-        let (line, column) = (1, 1);
-        let number = Piece { line, column, text }.number();
+        let number = Piece::first(text).number();
         number.map_err(|fault| format!("{option}: {}", fault.what))
     }
 

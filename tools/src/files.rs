@@ -45,18 +45,12 @@ fn unwritten(name: &str, error: &io::Error) -> String {
 pub fn save(files: &[(String, Vec<u8>)]) -> Result<(), String> {
     let mut staged = Vec::new();
     for (name, bytes) in files {
-        match stage(name, bytes) {
-            Ok(stage) => staged.push((name, stage)),
-            Err(error) => {
-                let unused = staged.into_iter().filter_map(|(_, stage)| stage);
-                unused.for_each(|stage: Stage| drop(fs::remove_file(stage.beside)));
-                return Err(unwritten(name, &error));
-            }
-        }
+        let stage = stage(name, bytes).map_err(|error| unwritten(name, &error))?;
+        staged.push((name, stage));
     }
     let mut placed = Vec::new();
     for (name, stage) in staged {
-        let put = stage.map_or(Ok(()), |stage| fs::rename(stage.beside, stage.place));
+        let put = stage.map_or(Ok(()), |stage| fs::rename(&stage.beside, &stage.place));
         put.map_err(|error| unwritten(name, &error) + &written(&placed))?;
         placed.push(name.clone());
     }
@@ -71,10 +65,16 @@ pub fn written(names: &[String]) -> String {
     }
 }
 
-/// A whole file beside the place where it belongs.
+/// A file beside the place where it belongs. It is removed if it is not put there.
 struct Stage {
     beside: PathBuf,
     place: PathBuf,
+}
+
+impl Drop for Stage {
+    fn drop(&mut self) {
+        let _ = fs::remove_file(&self.beside);
+    }
 }
 
 /// Writes a file beside its place; what is no plain file, such as a pipe, has no
@@ -94,16 +94,11 @@ fn stage(name: &str, bytes: &[u8]) -> io::Result<Option<Stage>> {
     let mut beside = place.clone().into_os_string();
     beside.push(format!(".{}.part", process::id()));
     let beside = PathBuf::from(beside);
-    let file = OpenOptions::new()
-        .write(true)
-        .create_new(true)
-        .open(&beside)?;
-    let stage = fill(file, bytes, standing.map(|found| found.permissions()));
-    if let Err(error) = stage {
-        let _ = fs::remove_file(&beside);
-        return Err(error);
-    }
-    Ok(Some(Stage { beside, place }))
+    let mut new = OpenOptions::new();
+    let file = new.write(true).create_new(true).open(&beside)?;
+    let stage = Stage { beside, place };
+    fill(file, bytes, standing.map(|found| found.permissions()))?;
+    Ok(Some(stage))
 }
 
 /// Fills a new file. It may be told that the disk is full only when asked whether

@@ -69,13 +69,12 @@ pub fn sheet(text: &str, given: Option<Sizes>) -> Result<Vec<u32>, String> {
 }
 
 /// The sizes, if the head line and the call agree.
-fn agreed(line: Piece, given: [u32; 2]) -> Result<[u32; 2], String> {
+fn agreed(line: Piece, given: [u32; 2]) -> Result<[u32; 2], Fault> {
     let [n, t] = given;
-    if SHEET.sizes(Some(line))? != given {
-        let what = format!("this line differs from -n {n} -t {t}");
-        return Err(line.fault(what).into());
+    match SHEET.sizes(Some(line))? {
+        sizes if sizes == given => Ok(given),
+        _ => Err(line.fault(format!("this line differs from -n {n} -t {t}"))),
     }
-    Ok(given)
 }
 
 /// The counts by cell: "A cell is holder × 64 + subdomain." Counts of 0 are left
@@ -155,25 +154,20 @@ fn record<'a>(
 
 impl Form {
     /// The K numbers of the head line.
-    fn sizes<const K: usize>(&self, line: Option<Piece>) -> Result<[u32; K], String> {
+    fn sizes<const K: usize>(&self, line: Option<Piece>) -> Result<[u32; K], Fault> {
         let head = self.head;
-        let line = line.ok_or(format!("it is empty; its first line is '{head}'"))?;
+        let line = line.unwrap_or_else(|| Piece::first(""));
         let words: Vec<Piece> = line.words().collect();
-        let form: Vec<&str> = head.split(' ').collect();
+        let mut names = words.iter().step_by(2).zip(head.split(' ').step_by(2));
+        if words.len() != 2 * K || !names.all(|(word, name)| word.is(name)) {
+            let what = format!("the first line is {}, not '{head}'", line.quoted());
+            return Err(line.fault(what));
+        }
         let mut numbers = [0; K];
-        let mut alike = words.len() == form.len();
-        for (place, (word, name)) in words.into_iter().zip(form).enumerate() {
-            match place % 2 {
-                0 => alike &= word.is(name),
-                _ if alike => numbers[place / 2] = word.number()?,
-                _ => (),
-            }
+        for (number, word) in numbers.iter_mut().zip(words.iter().skip(1).step_by(2)) {
+            *number = word.number()?;
         }
-        if alike {
-            return Ok(numbers);
-        }
-        let what = format!("the first line is {}, not '{head}'", line.quoted());
-        Err(line.fault(what).into())
+        Ok(numbers)
     }
 
     /// The K fields of each further line.

@@ -52,16 +52,22 @@ pub struct Piece<'a> {
 }
 
 impl<'a> Piece<'a> {
+    /// The first line of a text.
+    pub fn first(text: &'a str) -> Piece<'a> {
+        let (line, column) = (1, 1);
+        Piece { line, column, text }
+    }
+
     /// The lines of a text that say something: not the blank ones, and not those
     /// that begin with `#`.
     pub fn lines(text: &'a str) -> impl Iterator<Item = Piece<'a>> {
-        let line = |(line, text)| Piece {
+        let lines = (1..).zip(text.lines());
+        let lines = lines.map(|(line, text)| Piece {
             line,
-            column: 1,
-            text,
-        };
-        let lines = (1..).zip(text.lines()).map(line).map(Piece::trim);
-        lines.filter(|line| !line.text.is_empty() && !line.text.starts_with('#'))
+            ..Piece::first(text)
+        });
+        let says_something = |line: &Piece| !line.text.is_empty() && !line.text.starts_with('#');
+        lines.map(Piece::trim).filter(says_something)
     }
 
     /// The words of a line, with blanks or tabs between them.

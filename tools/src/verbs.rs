@@ -164,25 +164,34 @@ impl Verb {
         VERBS.iter().find(|verb| verb.name == name)
     }
 
+    /// The option of this name.
+    pub fn option(&self, name: &str) -> Result<&'static str, String> {
+        let mut options = self.options.iter().copied();
+        let option = options.find(|option| *option == name);
+        option.ok_or(format!(
+            "it has no option {name}; a file of this name is written ./{name}"
+        ))
+    }
+
     /// How it is called, in a line.
     pub fn usage(&self) -> String {
-        format!("firrozka {} {}", self.name, self.form)
+        format!("  firrozka {} {}\n", self.name, self.form)
+    }
+
+    /// How it is called, and what it does.
+    fn summary(&self) -> String {
+        format!("{}      {}\n", self.usage(), self.does)
     }
 
     /// All that is to say of it.
     pub fn help(&self) -> String {
-        format!("{}\n{}\n{FOR_ALL}", self.line(), self.more)
-    }
-
-    /// How it is called, and what it does.
-    fn line(&self) -> String {
-        format!("  {}\n      {}\n", self.usage(), self.does)
+        format!("{}\n{}\n{FOR_ALL}", self.summary(), self.more)
     }
 }
 
 /// How the tool is called.
 pub fn usage() -> String {
-    let lines = VERBS.iter().map(Verb::line);
+    let lines = VERBS.iter().map(Verb::summary);
     lines.collect::<String>() + "  firrozka VERB --help\n  firrozka --version\n"
 }
 

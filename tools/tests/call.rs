@@ -162,8 +162,10 @@ fn a_dash_is_the_standard_input_or_output() {
 #[test]
 fn what_cannot_be_read_or_written_is_named() {
     let sheet = example("step-d/sheet");
-    let folder = said(&["show", "sheet", "/"], b"");
-    assert_eq!(folder, "/: cannot be read: Is a directory (os error 21)");
+    let folder = env!("CARGO_TARGET_TMPDIR");
+    let read = said(&["show", "sheet", folder], b"");
+    let what = "cannot be read: Is a directory (os error 21)";
+    assert_eq!(read, format!("{folder}: {what}"));
     let plan = fresh("written-or-not");
     let no_folder = said(
         &["plan", &sheet, "-o", &plan, "-m", "no-such-folder/file"],
@@ -173,8 +175,9 @@ fn what_cannot_be_read_or_written_is_named() {
     assert_eq!(no_folder, format!("no-such-folder/file: {what}"));
     // Nor is the other one.
     assert!(fs::metadata(&plan).is_err());
-    let folder = said(&["write", "any", "-o", "/"], b"3 10 0");
-    assert_eq!(folder, "/: cannot be written: Is a directory (os error 21)");
+    let unwritten = said(&["write", "any", "-o", folder], b"3 10 0");
+    let what = "cannot be written: Is a directory (os error 21)";
+    assert_eq!(unwritten, format!("{folder}: {what}"));
 }
 
 #[test]
@@ -194,11 +197,6 @@ fn a_full_disk_is_noticed() {
         let said = failed(end(child, b""), 1);
         assert_eq!(said, format!("standard output: {what}\n"));
     }
-    // A device stays one: nothing is put in its place.
-    let moves = said(&["plan", &sheet, "-o", &plan, "-m", "/dev/full"], b"");
-    assert_eq!(moves, format!("/dev/full: {what}"));
-    assert!(fs::metadata(&plan).is_err());
-    assert!(!fs::metadata("/dev/full").expect("it is there").is_file());
     // The plan is there before the lines are.
     let call = ["plan", &sheet, "-o", &plan];
     let child = tool().args(call).stdout(full()).spawn().expect("it starts");
@@ -227,8 +225,12 @@ fn said_under(limit: &str, arguments: &[&str]) -> String {
 
 #[test]
 fn an_endless_file_is_no_record() {
-    let said = said_under("ulimit -v 1000000", &["plan", "/dev/zero"]);
-    assert_eq!(said, "/dev/zero: refused 2: sheet: N is not 1 to 64\n");
+    let limit = "ulimit -v 1000000; exec </dev/zero";
+    let what = "refused 2: sheet: N is not 1 to 64";
+    let of_file = said_under(limit, &["plan", "/dev/zero"]);
+    assert_eq!(of_file, format!("/dev/zero: {what}\n"));
+    let of_input = said_under(limit, &["plan", "-"]);
+    assert_eq!(of_input, format!("standard input: {what}\n"));
 }
 
 #[test]
@@ -252,6 +254,25 @@ fn a_file_is_replaced_whole_or_not_at_all() {
     assert_eq!(bytes(&plan), bytes(&example("step-d/plan")));
     assert_eq!(bytes(&moves), bytes(&example("step-d/moves")));
     assert_eq!(there(), 2);
+}
+
+#[test]
+fn a_pipe_is_written_and_stays_one() {
+    let pipe = fresh("pipe");
+    let made = Command::new("mkfifo").arg(&pipe).status();
+    assert!(made.expect("mkfifo starts").success());
+    let mut cat = Command::new("cat");
+    let reader = cat.arg(&pipe).stdout(Stdio::piped()).spawn();
+    let mut reader = reader.expect("the reader starts");
+    printed(&["plan", &example("step-d/sheet"), "-o", &pipe]);
+    let is_file = fs::metadata(&pipe).expect("it is there").is_file();
+    if is_file {
+        // Nobody will write to what it reads.
+        let _ = reader.kill();
+    }
+    let read = reader.wait_with_output().expect("the reader ends").stdout;
+    assert!(!is_file);
+    assert_eq!(read, bytes(&example("step-d/plan")));
 }
 
 #[test]
