@@ -37,6 +37,7 @@ for each move. Kind 0: no tree is needed; 1: the old tree is kept; 2: a tree is
 rebuilt. Where there is no old plan, leave OLD_PLAN away; an empty file is refused.
   -o PLAN    save the plan, which is the OLD_PLAN of the next step
   -m MOVES   save the moves, for 'firrozka carry'
+Both are files: the standard output has the lines.
 ",
         options: &["-o", "-m"],
         files: &["SHEET", "[OLD_PLAN]"],
