@@ -1,19 +1,34 @@
-//! The text tool `records`: text to records and back. It is tested, not proved;
-//! what a record may be is asked of the proved library.
+//! The tool `firrozka`: steps planned, weighed and carried out from files, and
+//! text to records and back. It is tested, not proved; what is decided, and what a
+//! record may be, is asked of the proved library.
 //!
 //! | module | what it holds |
 //! |---|---|
 //! | `text` | pieces of text with line and column, and what is wrong with them |
 //! | `words` | words as text, both ways |
-//! | `table` | a table of counts to a sheet |
-//! | `show` | a record as readable text |
+//! | `record` | the three records, and why some bytes are none |
+//! | `table` | tables to the words of records |
+//! | `show` | records as tables |
+//! | `step` | a step planned, weighed and carried out |
 //! | `task` | what the tool can do, from bytes to bytes |
+//! | `verbs` | the verbs of the command line, and the help on each |
 //! | `arguments` | the command line |
+//! | `files` | files, the standard input and the standard output |
 #![forbid(unsafe_code)]
 
 pub mod arguments;
+pub mod files;
+pub mod record;
 pub mod show;
+pub mod step;
 pub mod table;
 pub mod task;
 pub mod text;
+pub mod verbs;
 pub mod words;
+
+/// The version of the library that the tool is built with: 1.0 is the scope
+/// paper's, and each request after it counts on.
+pub fn version() -> String {
+    String::from("1.0")
+}

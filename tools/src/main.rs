@@ -1,58 +1,46 @@
-//! `records`: text to records and back. Ends with 0 if all is well, 1 if the
-//! input is bad or refused or a file cannot be read or written, 2 if it is
-//! called wrongly.
+//! `firrozka`: ends with 0 if all is well; with 1 if a file is missing, bad or
+//! refused, or cannot be written; with 2 if it is called wrongly.
 #![forbid(unsafe_code)]
 
-use firrozka_tools::arguments::{parse, Call, USAGE};
+use firrozka_tools::arguments::{parse, Asked, Call};
+use firrozka_tools::{files, task};
+use std::env;
 use std::ffi::OsString;
-use std::io::{self, Read, Write};
+use std::io::{self, Write};
 use std::process::ExitCode;
-use std::{env, fs};
 
 fn main() -> ExitCode {
-    let arguments = env::args_os().skip(1);
-    // All are text, or there is no such call.
-    let arguments: Result<Vec<String>, OsString> = arguments.map(OsString::into_string).collect();
-    match arguments.ok().and_then(parse).map(|call| run(&call)) {
-        Some(Ok(())) => ExitCode::SUCCESS,
-        Some(Err(message)) => {
-            eprintln!("{message}");
-            ExitCode::FAILURE
-        }
-        None => {
-            eprint!("{USAGE}");
-            ExitCode::from(2)
-        }
+    let (status, message) = match arguments().and_then(|given| parse(&given)) {
+        Err(wrong) => (2, wrong),
+        Ok(asked) => match run(asked) {
+            Ok(()) => return ExitCode::SUCCESS,
+            Err(failure) => (1, failure + "\n"),
+        },
+    };
+    // If nobody hears it, the status still says so.
+    let _ = io::stderr().write_all(message.as_bytes());
+    ExitCode::from(status)
+}
+
+fn arguments() -> Result<Vec<String>, String> {
+    let no_text = |given: OsString| format!("firrozka: {given:?} is no UTF-8 text\n");
+    let given = env::args_os().skip(1).map(OsString::into_string);
+    given.collect::<Result<_, _>>().map_err(no_text)
+}
+
+fn run(asked: Asked) -> Result<(), String> {
+    match asked {
+        Asked::Text(text) => files::print(text.as_bytes()),
+        Asked::Work(call) => work(&call),
     }
 }
 
-fn run(call: &Call) -> Result<(), String> {
-    let name = call.input.as_deref().unwrap_or("input");
-    let input = read(call).map_err(|error| format!("{name}: {error}"))?;
-    let output = call.task.run(&input);
-    let output = output.map_err(|failure| format!("{name}: {failure}"))?;
-    let name = call.output.as_deref().unwrap_or("output");
-    write(call, &output).map_err(|error| format!("{name}: {error}"))
-}
-
-fn read(call: &Call) -> io::Result<Vec<u8>> {
-    match &call.input {
-        Some(file) => fs::read(file),
-        None => {
-            let mut input = Vec::new();
-            io::stdin().read_to_end(&mut input)?;
-            Ok(input)
-        }
-    }
-}
-
-fn write(call: &Call, output: &[u8]) -> io::Result<()> {
-    match &call.output {
-        Some(file) => fs::write(file, output),
-        None => {
-            let mut stdout = io::stdout();
-            stdout.write_all(output)?;
-            stdout.flush()
-        }
-    }
+/// Reads all, then writes the files, then prints.
+fn work(call: &Call) -> Result<(), String> {
+    let read = |name: &String| files::read(name, call.task.most());
+    let inputs: Vec<Vec<u8>> = call.inputs.iter().map(read).collect::<Result<_, _>>()?;
+    let outcome = task::run(call, &inputs)?;
+    files::save(&outcome.files)?;
+    let names: Vec<String> = outcome.files.into_iter().map(|(name, _)| name).collect();
+    files::print(&outcome.printed).map_err(|failure| failure + &files::written(&names))
 }

@@ -1,97 +1,60 @@
-//! A record as readable text.
+//! A record as text that `write` takes: a line of what follows from it, which
+//! `write` passes over, and then its table.
 
-use firrozka::{read_moves, read_plan, read_sheet, Cell, Move, Node, Refusal};
+use crate::record::{explained, Record};
+use crate::table::{Form, MOVES, PLAN, SHEET};
+use firrozka::{read_moves, read_plan, read_sheet, Refusal};
 
-/// "Three records".
-#[derive(Clone, Copy, Debug, PartialEq, Eq)]
-pub enum Record {
-    Sheet,
-    Plan,
-    Moves,
+/// The record in these bytes as text, or why the library refuses it.
+pub fn show(record: Record, bytes: &[u8]) -> Result<String, String> {
+    let shown = match record {
+        Record::Sheet => sheet(bytes),
+        Record::Plan => plan(bytes),
+        Record::Moves => moves(bytes),
+    };
+    shown.map_err(|refusal| explained(refusal, bytes))
 }
 
-impl Record {
-    /// The record that the word means.
-    pub fn named(word: &str) -> Option<Record> {
-        match word {
-            "sheet" => Some(Record::Sheet),
-            "plan" => Some(Record::Plan),
-            "moves" => Some(Record::Moves),
-            _ => None,
-        }
-    }
-
-    /// Whether the library accepts these bytes as such a record, or why not.
-    pub fn check(self, bytes: &[u8]) -> Result<(), Refusal> {
-        match self {
-            Record::Sheet => read_sheet(bytes).map(drop),
-            Record::Plan => read_plan(bytes).map(drop),
-            Record::Moves => read_moves(bytes).map(drop),
-        }
-    }
-
-    /// The record in these bytes as text, or why the library refuses it.
-    pub fn show(self, bytes: &[u8]) -> Result<String, Refusal> {
-        let lines = match self {
-            Record::Sheet => sheet(bytes)?,
-            Record::Plan => plan(bytes)?,
-            Record::Moves => moves(bytes)?,
-        };
-        Ok(lines.join("\n") + "\n")
-    }
-}
-
-fn sheet(bytes: &[u8]) -> Result<Vec<String>, Refusal> {
+fn sheet(bytes: &[u8]) -> Result<String, Refusal> {
     let sheet = read_sheet(bytes)?;
     let (n, t, e, p, limit) = (sheet.n, sheet.t, sheet.e, sheet.p, sheet.limit);
-    let head =
-        format!("sheet: {n} nodes, tolerance {t} percent, {e} cells, {p} particles, limit {limit}");
-    Ok(lines(head, sheet.entries().map(cell)))
+    let cells = sheet.entries();
+    Ok(table(
+        &format!("sheet: cells {e}, particles {p}, limit {limit}"),
+        &format!("nodes {n} tolerance {t}"),
+        &SHEET,
+        cells.map(|cell| format!("{},{},{}", cell.holder, cell.subdomain, cell.count)),
+    ))
 }
 
-fn cell(
-    Cell {
-        holder,
-        subdomain,
-        count,
-    }: Cell,
-) -> String {
-    format!("node {holder} holds {count} of subdomain {subdomain}")
-}
-
-fn plan(bytes: &[u8]) -> Result<Vec<String>, Refusal> {
+fn plan(bytes: &[u8]) -> Result<String, Refusal> {
     let plan = read_plan(bytes)?;
-    let (n, kind, word, limit) = (plan.n, plan.kind.number(), plan.kind.word(), plan.limit);
-    let head = format!("plan: {n} nodes, kind {kind} ({word}), limit {limit}");
-    Ok(lines(head, plan.nodes().map(node)))
+    let (n, kind, limit) = (plan.n, plan.kind, plan.limit);
+    let nodes = plan.nodes();
+    Ok(table(
+        &format!("plan: nodes {n}, {}", kind.word()),
+        &format!("kind {} limit {limit}", kind.number()),
+        &PLAN,
+        nodes.map(|node| format!("{},{},{}", node.node, node.helpand, node.share)),
+    ))
 }
 
-fn node(node: Node) -> String {
-    let (number, helpand, share) = (node.node, node.helpand, node.share);
-    if node.is_root() {
-        format!("node {number} is a root")
-    } else {
-        format!("node {number} helps {helpand} share {share}")
-    }
-}
-
-fn moves(bytes: &[u8]) -> Result<Vec<String>, Refusal> {
+fn moves(bytes: &[u8]) -> Result<String, Refusal> {
     let moves = read_moves(bytes)?;
-    let head = format!("moves: {} nodes, {} moves", moves.n, moves.e);
-    Ok(lines(head, moves.entries().map(one_move)))
+    let entries = moves.entries();
+    Ok(table(
+        &format!("moves: {}", moves.e),
+        &format!("nodes {}", moves.n),
+        &MOVES,
+        entries.map(|entry| {
+            let (subdomain, from, to) = (entry.subdomain, entry.sender, entry.receiver);
+            format!("{subdomain},{from},{to},{}", entry.count)
+        }),
+    ))
 }
 
-fn one_move(
-    Move {
-        subdomain,
-        sender,
-        receiver,
-        count,
-    }: Move,
-) -> String {
-    format!("move {subdomain} from {sender} to {receiver} count {count}")
-}
-
-fn lines(head: String, rest: impl Iterator<Item = String>) -> Vec<String> {
-    [head].into_iter().chain(rest).collect()
+fn table(about: &str, head: &str, form: &Form, rows: impl Iterator<Item = String>) -> String {
+    let mut text = format!("# {about}\n{head}\n{}\n", form.columns);
+    rows.for_each(|row| text += &(row + "\n"));
+    text
 }

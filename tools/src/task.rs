@@ -1,89 +1,147 @@
-//! What the tool can do, from bytes to bytes: nothing is written before all is
-//! known to be good.
+//! What the tool can do, from the bytes that were read to those to be written:
+//! nothing is written before all is known to be good.
 
-use crate::show::Record;
-use crate::text::{self, Fault};
-use crate::{table, words};
-use firrozka::{read_sheet, to_bytes, Refusal, Words};
-use std::fmt;
+use crate::arguments::Call;
+use crate::files::{input_name, STANDARD};
+use crate::record::{reading, Record};
+use crate::step::{self, Source};
+use crate::table::Sizes;
+use crate::text::{self, Piece};
+use crate::{show, table, words};
+use firrozka::{to_bytes, Words, SHEET_BYTES};
 
 /// What is asked for.
 #[derive(Clone, Copy, Debug, PartialEq, Eq)]
 pub enum Task {
-    /// A table of counts to a sheet of N and t.
-    Table { n: u32, t: u32 },
-    /// Words to a record that the library accepts, or to any bytes.
+    /// A step planned from a sheet and perhaps an old plan.
+    Plan,
+    /// The tree of a plan weighed under a sheet.
+    Weigh,
+    /// The sheet that follows a sheet and moves.
+    Carry,
+    /// A table of counts to a sheet.
+    Table(Sizes),
+    /// Text to a record that the library accepts, or words to any bytes.
     Write(Option<Record>),
-    /// A record to readable text.
+    /// A record to text.
     Show(Record),
     /// Any bytes to words.
     Words,
 }
 
-/// Why there is nothing to write.
-#[derive(Clone, Debug, PartialEq, Eq)]
-pub enum Failure {
-    /// The text is bad.
-    Text(Fault),
-    /// The library refuses the record.
-    Record(Refusal),
-    /// So many bytes are no whole words.
-    Bytes(usize),
+/// What is to be written: files with their names, and the standard output.
+#[derive(Clone, Debug, Default, PartialEq, Eq)]
+pub struct Outcome {
+    pub files: Vec<(String, Vec<u8>)>,
+    pub printed: Vec<u8>,
 }
 
-impl fmt::Display for Failure {
-    fn fmt(&self, f: &mut fmt::Formatter) -> fmt::Result {
-        match self {
-            Failure::Text(fault) => fault.fmt(f),
-            Failure::Record(refusal) => refusal.fmt(f),
-            Failure::Bytes(length) => write!(f, "{length} bytes are no whole words"),
+impl Outcome {
+    /// A file more, or none.
+    fn save(&mut self, name: &Option<String>, bytes: Vec<u8>) {
+        if let Some(name) = name {
+            self.files.push((name.clone(), bytes));
         }
     }
-}
 
-impl From<Fault> for Failure {
-    fn from(fault: Fault) -> Failure {
-        Failure::Text(fault)
-    }
-}
-
-impl From<Refusal> for Failure {
-    fn from(refusal: Refusal) -> Failure {
-        Failure::Record(refusal)
+    /// The standard output, or a file in its place.
+    fn put(&mut self, name: &Option<String>, bytes: Vec<u8>) {
+        match name.as_deref() {
+            None | Some(STANDARD) => self.printed = bytes,
+            _ => self.save(name, bytes),
+        }
     }
 }
 
 impl Task {
-    /// What is to be written for this input.
-    pub fn run(self, input: &[u8]) -> Result<Vec<u8>, Failure> {
+    /// How many bytes of an input are read. A record is refused all the same when
+    /// more than one byte of what is too long is left out.
+    pub fn most(self) -> u64 {
         match self {
-            Task::Table { n, t } => {
-                // N and t by themselves: a sheet without cells.
-                read_sheet(&to_bytes(&[n, t, 0]))?;
-                let words = table::sheet(n, t, text::of_bytes(input)?)?;
-                accepted(to_bytes(&words), Record::Sheet)
+            Task::Plan | Task::Weigh | Task::Carry | Task::Show(_) => SHEET_BYTES as u64 + 1,
+            Task::Table(_) | Task::Write(_) | Task::Words => u64::MAX,
+        }
+    }
+
+    /// The bytes for one input and one output.
+    fn turn(self, input: &[u8]) -> Result<Vec<u8>, String> {
+        match self {
+            Task::Table(sizes) => {
+                let words = of_text(input, |text| table::sheet(text, Some(sizes)))?;
+                Record::Sheet.of_words(&words)
             }
-            Task::Write(record) => {
-                let bytes = to_bytes(&words::of_text(text::of_bytes(input)?)?);
-                match record {
-                    Some(record) => accepted(bytes, record),
-                    None => Ok(bytes),
-                }
+            Task::Write(None) => of_text(input, to_words).map(|words| to_bytes(&words)),
+            Task::Write(Some(record)) => {
+                let words = of_text(input, |text| written(record, text))?;
+                record.of_words(&words)
             }
-            Task::Show(record) => Ok(record.show(input)?.into_bytes()),
-            Task::Words => {
-                let words = Words::of(input);
-                if 4 * words.len() != input.len() {
-                    return Err(Failure::Bytes(input.len()));
-                }
-                Ok(words::to_text(words).into_bytes())
-            }
+            Task::Show(record) => show::show(record, input).map(String::into_bytes),
+            _ => to_text(input).map(String::into_bytes),
         }
     }
 }
 
-/// The bytes, if the library accepts them as such a record.
-fn accepted(bytes: Vec<u8>, record: Record) -> Result<Vec<u8>, Failure> {
-    record.check(&bytes)?;
-    Ok(bytes)
+/// What is to be written for these inputs of a call.
+pub fn run(call: &Call, inputs: &[Vec<u8>]) -> Result<Outcome, String> {
+    let named = call.inputs.iter().zip(inputs);
+    let sources: Vec<Source> = named
+        .map(|(name, bytes)| Source {
+            name: input_name(name),
+            bytes,
+        })
+        .collect();
+    let mut outcome = Outcome::default();
+    match (call.task, sources.as_slice()) {
+        (Task::Plan, [sheet, old @ ..]) => {
+            let planned = step::plan(sheet, old.first())?;
+            outcome.save(&call.output, planned.plan);
+            outcome.save(&call.moves, planned.moves);
+            outcome.printed = planned.text.into_bytes();
+        }
+        (Task::Weigh, [sheet, plan]) => {
+            outcome.printed = step::weighed(sheet, plan)?.into_bytes();
+        }
+        (Task::Carry, [sheet, moves]) => {
+            outcome.put(&call.output, step::carried(sheet, moves)?);
+        }
+        (task, [input]) => {
+            let turned = task.turn(input.bytes);
+            let turned = turned.map_err(|what| format!("{}: {what}", input.name))?;
+            outcome.put(&call.output, turned);
+        }
+        _ => unreachable!("a call has the files of its verb"),
+    }
+    Ok(outcome)
+}
+
+/// What is made of text. A record in place of text is recognised.
+fn of_text<T>(input: &[u8], make: impl FnOnce(&str) -> Result<T, String>) -> Result<T, String> {
+    let made = text::of_bytes(input).map_err(String::from).and_then(make);
+    made.map_err(|what| what + &reading(input))
+}
+
+/// The words of a record that is written as a table, which begins with a letter,
+/// or as words.
+fn written(record: Record, text: &str) -> Result<Vec<u32>, String> {
+    let first = Piece::lines(text).next();
+    let is_table = first.map_or(false, |line| line.text.starts_with(char::is_alphabetic));
+    match record {
+        _ if !is_table => to_words(text),
+        Record::Sheet => table::sheet(text, None),
+        Record::Plan => table::plan(text),
+        Record::Moves => table::moves(text),
+    }
+}
+
+fn to_words(text: &str) -> Result<Vec<u32>, String> {
+    Ok(words::of_text(text)?)
+}
+
+/// The words of whole words.
+fn to_text(input: &[u8]) -> Result<String, String> {
+    let words = Words::of(input);
+    if 4 * words.len() != input.len() {
+        return Err(format!("{} bytes are no whole words", input.len()));
+    }
+    Ok(words::to_text(words))
 }

@@ -22,6 +22,12 @@ impl fmt::Display for Fault {
     }
 }
 
+impl From<Fault> for String {
+    fn from(fault: Fault) -> String {
+        fault.to_string()
+    }
+}
+
 /// The text that these bytes are, in UTF-8. A mark of byte order is left out
 /// and has no column.
 pub fn of_bytes(bytes: &[u8]) -> Result<&str, Fault> {
@@ -46,14 +52,33 @@ pub struct Piece<'a> {
 }
 
 impl<'a> Piece<'a> {
-    /// The lines of a text.
+    /// The first line of a text.
+    pub fn first(text: &'a str) -> Piece<'a> {
+        let (line, column) = (1, 1);
+        Piece { line, column, text }
+    }
+
+    /// The lines of a text that say something: not the blank ones, and not those
+    /// that begin with `#`.
     pub fn lines(text: &'a str) -> impl Iterator<Item = Piece<'a>> {
-        let line = |(line, text)| Piece {
+        let lines = (1..).zip(text.lines());
+        let lines = lines.map(|(line, text)| Piece {
             line,
-            column: 1,
-            text,
-        };
-        (1..).zip(text.lines()).map(line)
+            ..Piece::first(text)
+        });
+        let says_something = |line: &Piece| !line.text.is_empty() && !line.text.starts_with('#');
+        lines.map(Piece::trim).filter(says_something)
+    }
+
+    /// The words of a line, with blanks or tabs between them.
+    pub fn words(self) -> impl Iterator<Item = Piece<'a>> {
+        let pieces = self.split(char::is_whitespace);
+        pieces.filter(|piece| !piece.text.is_empty())
+    }
+
+    /// Whether it is this word, in small or capital letters.
+    pub fn is(self, word: &str) -> bool {
+        self.text.to_lowercase() == word
     }
 
     /// The parts between these marks, without blanks around them.
@@ -85,12 +110,40 @@ impl<'a> Piece<'a> {
         if self.text.is_empty() {
             return Err(self.fault("a number is missing"));
         }
-        let place = self.text.chars().position(|c| !c.is_ascii_digit());
-        if let Some(place) = place {
-            return Err(self.fault_behind(place, "this is no digit"));
+        let mut marks = self.text.chars().enumerate();
+        if let Some((place, mark)) = marks.find(|(_, mark)| !mark.is_ascii_digit()) {
+            return Err(self.fault_behind(place, self.no_number(place, mark)));
         }
         let number = self.text.parse();
         number.map_err(|_| self.fault("the number is above 4,294,967,295"))
+    }
+
+    /// The number of a node, of which there are N.
+    pub fn below(self, n: u32) -> Result<u32, Fault> {
+        match self.number()? {
+            node if node < n => Ok(node),
+            _ => Err(self.fault(format!("the node is not below N, which is {n}"))),
+        }
+    }
+
+    /// Why the piece is no number: this mark stands in it, behind so many digits.
+    fn no_number(self, digits: usize, mark: char) -> String {
+        let text = self.quoted();
+        match mark {
+            '+' | '-' | '\u{2212}' => format!("{text} has a sign: a number is digits only"),
+            '.' => format!("{text} has a point: only whole numbers, without a point"),
+            ',' => format!("{text} has a comma: words have blanks between them"),
+            'e' | 'E' if digits > 0 => format!("{text} has an exponent: write out all digits"),
+            _ => format!("'{}' is no digit", mark.escape_debug()),
+        }
+    }
+
+    /// The piece in quotes, cut short where it is long.
+    pub fn quoted(self) -> String {
+        const MOST: usize = 40;
+        let front: String = self.text.chars().take(MOST).collect();
+        let rest = if front == self.text { "" } else { "..." };
+        format!("'{}{rest}'", front.escape_debug())
     }
 
     /// A fault at the beginning of the piece.

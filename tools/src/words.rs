@@ -5,8 +5,7 @@ use firrozka::Words;
 
 /// The words of a text.
 pub fn of_text(text: &str) -> Result<Vec<u32>, Fault> {
-    let pieces = Piece::lines(text).flat_map(|line| line.split(char::is_whitespace));
-    let words = pieces.filter(|piece| !piece.text.is_empty());
+    let words = Piece::lines(text).flat_map(Piece::words);
     words.map(Piece::number).collect()
 }
 

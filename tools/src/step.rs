@@ -1,0 +1,169 @@
+//! Steps: planned and printed as the bench program prints them, weighed, and
+//! carried out. What is decided, the library decides.
+
+use crate::record::explained;
+use firrozka::{
+    carry_out, plan_step, read_moves, read_plan, read_sheet, weigh, Moves, Refusal, Sheet,
+    LEAST_BYTES, MOVES_BYTES, NO_PLAN, PLAN_BYTES, SHEET_BYTES,
+};
+use std::collections::BTreeMap;
+
+/// A record that was read, and from where.
+pub struct Source<'a> {
+    pub name: &'a str,
+    pub bytes: &'a [u8],
+}
+
+impl<'a> Source<'a> {
+    /// What the reader says of it, or what is wrong with it.
+    fn read<T>(&self, reader: fn(&'a [u8]) -> Result<T, Refusal>) -> Result<T, String> {
+        let refused = |refusal| format!("{}: {}", self.name, explained(refusal, self.bytes));
+        reader(self.bytes).map_err(refused)
+    }
+
+    /// Why an operation refuses it beside another record.
+    fn refused(&self, refusal: Refusal, detail: &str) -> String {
+        let (number, reason) = (refusal.number(), refusal.reason());
+        format!("{}: refused {number}: {reason}{detail}", self.name)
+    }
+}
+
+/// A planned step: its two records, and the bench program's lines.
+#[derive(Clone, Debug, PartialEq, Eq)]
+pub struct Planned {
+    pub plan: Vec<u8>,
+    pub moves: Vec<u8>,
+    pub text: String,
+}
+
+/// *Plan a step*.
+pub fn plan(sheet: &Source, old: Option<&Source>) -> Result<Planned, String> {
+    let table = sheet.read(read_sheet)?;
+    let (mut plan, mut moves) = ([0; PLAN_BYTES], [0; MOVES_BYTES]);
+    let step = match old {
+        None => plan_step(sheet.bytes, NO_PLAN, &mut plan, &mut moves)
+            .map_err(|refusal| sheet.refused(refusal, ""))?,
+        Some(old) => {
+            let nodes = old_plan(old)?;
+            plan_step(sheet.bytes, old.bytes, &mut plan, &mut moves)
+                .map_err(|refusal| old.refused(refusal, &nodes_beside(nodes, sheet, table.n)))?
+        }
+    };
+    let text = step_text(table, step.plan, step.moves);
+    Ok(Planned {
+        plan: step.plan.to_vec(),
+        moves: step.moves.to_vec(),
+        text: text.map_err(|refusal| refusal.to_string())?,
+    })
+}
+
+/// The N of an old plan. An empty one would be none; an empty file is more likely
+/// a mistake.
+fn old_plan(old: &Source) -> Result<u32, String> {
+    if old.bytes.is_empty() {
+        let name = old.name;
+        let what = "it is empty and no plan; where there is no old plan, leave it away";
+        return Err(format!("{name}: {what}"));
+    }
+    Ok(old.read(read_plan)?.n)
+}
+
+/// The N of both records, where these differ.
+fn nodes_beside(nodes: u32, sheet: &Source, of_sheet: u32) -> String {
+    format!(": {nodes} here, {of_sheet} in {}", sheet.name)
+}
+
+/// The bench program's lines.
+fn step_text(sheet: Sheet, plan: &[u8], moves: &[u8]) -> Result<String, Refusal> {
+    let plan = read_plan(plan)?;
+    let mut own = totals(sheet);
+    for node in plan.nodes() {
+        own[node.helpand as usize] -= node.share;
+    }
+    let mut text = format!("kind {} limit {}\n", plan.kind.number(), plan.limit);
+    for (node, own) in plan.nodes().zip(own) {
+        let (number, helpand, share) = (node.node, node.helpand, node.share);
+        text += &format!("node {number} helps {helpand} share {share} own {own}\n");
+    }
+    for entry in read_moves(moves)?.entries() {
+        let (subdomain, from, to) = (entry.subdomain, entry.sender, entry.receiver);
+        text += &format!(
+            "move {subdomain} from {from} to {to} count {}\n",
+            entry.count
+        );
+    }
+    Ok(text)
+}
+
+/// Each Pn: "the sum of all counts for subdomain n, whoever holds them".
+fn totals(sheet: Sheet) -> Vec<u32> {
+    let mut totals = vec![0; sheet.n as usize];
+    for cell in sheet.entries() {
+        totals[cell.subdomain as usize] += cell.count;
+    }
+    totals
+}
+
+/// *Weigh*: the limit, the leasts, and what follows for the tree.
+pub fn weighed(sheet: &Source, plan: &Source) -> Result<String, String> {
+    let (table, tree) = (sheet.read(read_sheet)?, plan.read(read_plan)?);
+    let mut least = [0; LEAST_BYTES];
+    let weighed = weigh(sheet.bytes, plan.bytes, &mut least).map_err(|refusal| match refusal {
+        Refusal::PlanNodesDiffer => plan.refused(refusal, &nodes_beside(tree.n, sheet, table.n)),
+        _ => plan.refused(refusal, ""),
+    })?;
+    let limit = table.limit;
+    let mut text = format!("limit {limit}\n");
+    for (node, least) in weighed.leasts.iter().enumerate() {
+        let above = if least > limit {
+            " above the limit"
+        } else {
+            ""
+        };
+        text += &format!("node {node} least {least}{above}\n");
+    }
+    // Then the tree holds, but the plan is primary and keeps none.
+    let unneeded = totals(table).iter().all(|total| *total <= limit);
+    Ok(text
+        + match weighed.holds {
+            true if unneeded => "no subdomain is above the limit: no tree is needed\n",
+            true => "the tree holds\n",
+            false => "the tree does not hold\n",
+        })
+}
+
+/// *Carry out*: the sheet that follows.
+pub fn carried(sheet: &Source, moves: &Source) -> Result<Vec<u8>, String> {
+    let (table, list) = (sheet.read(read_sheet)?, moves.read(read_moves)?);
+    let mut next = [0; SHEET_BYTES];
+    let next = carry_out(sheet.bytes, moves.bytes, &mut next).map_err(|refusal| {
+        let detail = match refusal {
+            Refusal::MovesNodesDiffer => nodes_beside(list.n, sheet, table.n),
+            _ => too_much(table, list, sheet.name),
+        };
+        moves.refused(refusal, &detail)
+    })?;
+    Ok(next.to_vec())
+}
+
+/// The first cell that sends more than it has.
+fn too_much(sheet: Sheet, moves: Moves, name: &str) -> String {
+    let mut sent = BTreeMap::new();
+    for entry in moves.entries() {
+        *sent.entry((entry.sender, entry.subdomain)).or_insert(0) += u64::from(entry.count);
+    }
+    let mut held = BTreeMap::new();
+    for cell in sheet.entries() {
+        held.insert((cell.holder, cell.subdomain), u64::from(cell.count));
+    }
+    for (cell, sent) in sent {
+        let held = held.get(&cell).copied().unwrap_or(0);
+        if sent > held {
+            let (node, subdomain) = cell;
+            return format!(
+                ": node {node} sends {sent} of subdomain {subdomain}, and has {held} in {name}"
+            );
+        }
+    }
+    String::new()
+}
