@@ -9,7 +9,7 @@ use crate::faults::pairs;
 use crate::implementations::{Implementation, ARCHIVE};
 use crate::random::Random;
 use crate::records::shown;
-use crate::settings::{seed, setting};
+use crate::settings::{seed, setting, SEED};
 
 /// How many calls a run has for each fault and each pair of faults.
 const FOR_EACH: usize = 20;
@@ -37,6 +37,12 @@ impl Operation {
             gaps.extend(self.corners_unmet(&met));
         }
         assert!(gaps.is_empty(), "{}: {gaps:#?}", self.name);
+    }
+
+    /// Panics unless a short run reports this one, who does the operation wrong.
+    pub fn must_report(&self, wrong: &Implementation) {
+        let reported = self.run(wrong, SEED, 2_000).is_err();
+        assert!(reported, "{}, {}: not reported", self.name, wrong.name);
     }
 
     /// Compares the answers of the one under test to the calls of a run: all
