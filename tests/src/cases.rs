@@ -54,7 +54,7 @@ fn size(index: u64) -> Size {
 
 impl Cases {
     fn add(&mut self, step: &Step) {
-        let case = [&step.sheet[..], &step.old[..]].concat();
+        let case = step.input();
         let text = text(&step.sheet, &step.old);
         // The bench program finds the sheet's end itself.
         assert_eq!(text, bench(&case));

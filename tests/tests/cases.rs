@@ -3,7 +3,6 @@
 
 use firrozka_tests::bench_text::{bench, text};
 use firrozka_tests::cases;
-use firrozka_tests::steps::Step;
 use firrozka_tests::{refused, worked};
 
 /// "Sheet D below prints all of this".
@@ -16,13 +15,9 @@ move 0 from 0 to 1 count 27
 move 0 from 0 to 2 count 29
 ";
 
-fn input(step: &Step) -> Vec<u8> {
-    [&step.sheet[..], &step.old[..]].concat()
-}
-
 #[test]
 fn sheet_d() {
-    assert_eq!(bench(&input(&worked::d())), D);
+    assert_eq!(bench(&worked::d().input()), D);
     assert_eq!(text(&worked::d().sheet, &[]), D);
 }
 
@@ -37,7 +32,7 @@ node 2 helps 0 share 29 own 7
 move 0 from 2 to 0 count 1
 move 2 from 0 to 2 count 3
 ";
-    assert_eq!(bench(&input(&worked::e())), printed);
+    assert_eq!(bench(&worked::e().input()), printed);
 }
 
 /// "A refusal prints only `refused 5` with its number."
@@ -46,7 +41,7 @@ fn refusals() {
     for (refusal, step) in refused::all() {
         let printed = format!("refused {refusal}\n");
         assert_eq!(text(&step.sheet, &step.old), printed);
-        assert_eq!(bench(&input(&step)), printed);
+        assert_eq!(bench(&step.input()), printed);
     }
     let sheet = worked::d().sheet;
     for length in 0..sheet.len() {
@@ -59,7 +54,7 @@ fn refusals() {
         let longer = [&sheet[..], &vec![0; more]].concat();
         assert_eq!(bench(&longer), "refused 11\n");
     }
-    let longer = [input(&worked::e()), vec![0]].concat();
+    let longer = [worked::e().input(), vec![0]].concat();
     assert_eq!(bench(&longer), "refused 15\n");
 }
 

@@ -91,7 +91,7 @@ impl Parts {
 /// check has found; or the answer.
 fn instead<A: Answer>(faults: Vec<u32>, number: u32, found: bool, accepted: A) -> A {
     let others = faults.into_iter().filter(|&fault| fault != number);
-    let refusal = others.chain(found.then(|| number)).min();
+    let refusal = others.chain(found.then_some(number)).min();
     refusal.map_or(accepted, A::refused)
 }
 
