@@ -154,7 +154,7 @@ fn wanted(numbers: &[u32], pairs: &[(u32, u32)]) -> Vec<Vec<u32>> {
 
 /// What the first attempt gives whose first fault is the first one wanted, and
 /// which has the others too. Faults can hide each other, so it may take some.
-fn first_with<T>(wanted: &[u32], mut attempt: impl FnMut() -> (T, Vec<u32>)) -> T {
+pub fn first_with<T>(wanted: &[u32], mut attempt: impl FnMut() -> (T, Vec<u32>)) -> T {
     let suits = |found: &[u32]| {
         found.first() == wanted.first() && wanted.iter().all(|fault| found.contains(fault))
     };
