@@ -210,9 +210,6 @@ pub fn pairs_met() -> Vec<(u32, u32)> {
 /// The faults of an input, rising, as the bench program takes it apart.
 pub fn faults(input: &[u8]) -> Vec<u32> {
     let (sheet, old) = split(input).unwrap_or((input, &[]));
-    plan_step(&Call {
-        records: [sheet.to_vec(), old.to_vec()],
-        lengths: [0; 2],
-        needed: [0; 2],
-    })
+    let records = [sheet.to_vec(), old.to_vec()];
+    plan_step(&Call::without_buffers(records))
 }

@@ -12,7 +12,8 @@ use crate::answers::PartAnswer;
 use crate::cases::Files;
 use crate::implementations::{Implementation, REFERENCE};
 use crate::records::{plans, to_bytes, to_words};
-use crate::{refused, worked};
+use crate::refused;
+use crate::worked::{self, d_plan, plan};
 
 /// An old and a new plan.
 pub type Pair = [Vec<u8>; 2];
@@ -55,10 +56,6 @@ pub fn pairs() -> Vec<Pair> {
     all.flatten().collect()
 }
 
-fn plan(kind: u32, helpands: &[u32]) -> Vec<u8> {
-    plans::plan(kind, 36, helpands, &vec![0; helpands.len()]).bytes()
-}
-
 /// All kinds before and after, with the same tree and with another.
 fn of_three_nodes() -> Vec<Pair> {
     let (roots, chain) = (plan(0, &[0, 1, 2]), |kind| plan(kind, &[1, 2, 2]));
@@ -73,7 +70,7 @@ fn of_three_nodes() -> Vec<Pair> {
         all.push([plan(2, &[0, 0, 1]), plan(kind, &[0, 0, 0])]);
     }
     // Shares and limit play no part.
-    all.push([worked::d_plan(), plan(1, &[0, 0, 0])]);
+    all.push([d_plan(), plan(1, &[0, 0, 0])]);
     all
 }
 
@@ -96,9 +93,8 @@ fn of_other_sizes() -> Vec<Pair> {
 /// Each refusal of *read plan*, before and after a good plan; and no plan.
 fn refused_plans() -> Vec<Pair> {
     let bad = refused::plans().into_iter().map(|(_, plan)| plan);
-    let before_and_after =
-        |bad: Vec<u8>| [[bad.clone(), worked::d_plan()], [worked::d_plan(), bad]];
-    let none = [[worked::d_plan(), Vec::new()], [Vec::new(), Vec::new()]];
+    let before_and_after = |bad: Vec<u8>| [[bad.clone(), d_plan()], [d_plan(), bad]];
+    let none = [[d_plan(), Vec::new()], [Vec::new(), Vec::new()]];
     bad.flat_map(before_and_after).chain(none).collect()
 }
 
