@@ -97,7 +97,14 @@ fn sheet_bounds() -> Vec<Vec<u8>> {
     let counts = counts.map(|counts| sheet(10, &own, &counts));
     let all = nodes.into_iter().chain(tolerances).chain(entries);
     let all = all.chain(cells).chain(counts);
-    all.map(|record| record.bytes()).collect()
+    all.map(|record| record.bytes()).chain(headers()).collect()
+}
+
+/// Nothing but sizes, with E at its bound, one past it, and so large that its
+/// length is 0 or little in 32 bits.
+fn headers() -> [Vec<u8>; 5] {
+    let entries = [4_096, 4_097, 1 << 29, 1 << 30, u32::MAX];
+    entries.map(|e| to_bytes(&[64, 10, e]))
 }
 
 /// Old plans at each bound and one past it, behind the sheet of step D; and

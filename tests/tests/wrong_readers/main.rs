@@ -83,7 +83,10 @@ impl Parts {
 
     /// All counts but the last.
     fn but_the_last(&self) -> &[u32] {
-        self.second.split_last().map_or(&[], |(_, others)| others)
+        match self.second.split_last() {
+            Some((_, others)) => others,
+            None => &[],
+        }
     }
 }
 
