@@ -81,7 +81,8 @@ fn compare(
 ) -> Result<(), String> {
     // Times an odd number, the times give all offsets, in another order for each
     // of the four that are lent.
-    let lend = |bytes, odd| Guarded::new(bytes, odd * time % OFFSETS, GUARDS[time % GUARDS.len()]);
+    let lend =
+        |bytes: &[u8], odd| Guarded::new(bytes, odd * time % OFFSETS, GUARDS[time % GUARDS.len()]);
     let [first, second] = [lend(&call.records[0], 1), lend(&call.records[1], 3)];
     let [mut a, mut b] = [lend(&noise[0], 5), lend(&noise[1], 7)];
     let lent = [first.lent(), second.lent()];
