@@ -20,7 +20,7 @@ pub fn bench(input: &[u8]) -> String {
 /// "Standard input is a sheet followed at once by an old plan or nothing. The
 /// sheet is the first 4 × (3+2E) bytes, or all the input if that is shorter; a
 /// header refused by 1 to 4 ends the run with that number."
-fn split(input: &[u8]) -> Result<(&[u8], &[u8]), u32> {
+pub fn split(input: &[u8]) -> Result<(&[u8], &[u8]), u32> {
     // These four look at the header only.
     if let Err(refusal @ 1..=4) = sheet::read(input) {
         return Err(refusal);

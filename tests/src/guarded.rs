@@ -6,6 +6,10 @@ use std::sync::atomic::{compiler_fence, Ordering};
 /// How many bytes on either side, at least.
 const GUARD: usize = 16;
 
+/// As many places for the first byte are told apart: the longest unit that a
+/// machine reads or writes at once has eight bytes, and may want to be aligned.
+pub const OFFSETS: usize = 8;
+
 pub struct Guarded {
     memory: Vec<u8>,
     start: usize,
@@ -14,11 +18,12 @@ pub struct Guarded {
 }
 
 impl Guarded {
-    /// A copy of the bytes at an address `offset` bytes past a multiple of 4.
+    /// A copy of the bytes at an address `offset` bytes past a multiple of
+    /// `OFFSETS`.
     pub fn new(bytes: &[u8], offset: usize, guard: u8) -> Guarded {
-        let mut memory = vec![guard; GUARD + 3 + bytes.len() + GUARD];
-        let past = (memory.as_ptr() as usize + GUARD) % 4;
-        let start = GUARD + (4 + offset - past) % 4;
+        let mut memory = vec![guard; GUARD + OFFSETS - 1 + bytes.len() + GUARD];
+        let past = (memory.as_ptr() as usize + GUARD) % OFFSETS;
+        let start = GUARD + (OFFSETS + offset - past) % OFFSETS;
         let end = start + bytes.len();
         memory[start..end].copy_from_slice(bytes);
         Guarded {
@@ -60,9 +65,9 @@ impl Guarded {
 #[test]
 fn every_byte_is_looked_at() {
     let bytes = [1, 2, 3];
-    for offset in 0..4 {
+    for offset in 0..8 {
         let mut guarded = Guarded::new(&bytes, offset, 0xa5);
-        assert_eq!(guarded.lent().as_ptr() as usize % 4, offset);
+        assert_eq!(guarded.lent().as_ptr() as usize % 8, offset);
         assert_eq!(guarded.lent_mut(), bytes);
         for at in 0..guarded.memory.len() {
             assert_eq!(guarded.check(&bytes), Ok(()));

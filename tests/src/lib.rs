@@ -25,7 +25,8 @@
 //! | `plain` | the benchmark's baseline |
 //! | `speed` | the benchmark |
 //! | `refused` | a small step for each refusal of *plan a step* |
-//! | `cases` | the input and output of the program that the gate runs |
+//! | `damaged` | damaged inputs of the bench program |
+//! | `cases`, `stretches` | the inputs and outputs of programs that the gate runs |
 #![forbid(unsafe_code)]
 
 pub mod answers;
@@ -34,6 +35,7 @@ pub mod bounds;
 pub mod calls;
 pub mod cases;
 pub mod coverage;
+pub mod damaged;
 pub mod demands;
 pub mod division;
 pub mod exhaustive;
@@ -49,6 +51,7 @@ pub mod rival;
 pub mod settings;
 pub mod speed;
 pub mod steps;
+pub mod stretches;
 pub mod worked;
 
 pub use firrozka::ffi as boundary;

@@ -98,7 +98,12 @@ pub fn own(t: u32, counts: &[u32], old: Vec<u8>) -> Step {
 
 /// "An old plan given by helpands alone is kind 2 with limit 36 and shares 0."
 pub fn old(helpands: &[u32]) -> Vec<u8> {
-    plans::plan(2, 36, helpands, &vec![0; helpands.len()]).bytes()
+    plan(2, helpands)
+}
+
+/// The same, of any kind.
+pub fn plan(kind: u32, helpands: &[u32]) -> Vec<u8> {
+    plans::plan(kind, 36, helpands, &vec![0; helpands.len()]).bytes()
 }
 
 /// "plan words 3 2 36 0 0 0 0 27 29"

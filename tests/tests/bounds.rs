@@ -20,11 +20,7 @@ const TOP: u32 = u32::MAX;
 /// All answers agree, and the refusal is this one.
 fn expect(reader: &Operation, bytes: &[u8], refusal: u32) {
     let (name, record) = (reader.name, shown(bytes));
-    let call = Call {
-        records: [bytes.to_vec(), Vec::new()],
-        lengths: [0, 0],
-        needed: [0, 0],
-    };
+    let call = Call::without_buffers([bytes.to_vec(), Vec::new()]);
     let checked = check(reader, &ARCHIVE, &call);
     let checked = checked.unwrap_or_else(|wrong| panic!("{name}: {wrong}\n  {record}"));
     assert_eq!(checked.answer[0], refusal, "{name}: {record}");

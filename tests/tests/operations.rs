@@ -10,7 +10,7 @@ use firrozka_tests::implementations::IMPLEMENTATIONS;
 use firrozka_tests::records::moves::{moves, route};
 use firrozka_tests::records::plans::plan;
 use firrozka_tests::records::sheets::{cell, sheet};
-use firrozka_tests::records::to_words;
+use firrozka_tests::records::{shown, to_words};
 use firrozka_tests::settings::SEED;
 use firrozka_tests::steps::{self, Size, Step};
 use firrozka_tests::{refused, worked};
@@ -320,53 +320,62 @@ fn carry_out_writes() {
 
 // Tree in force.
 
-/// The parts handed back, for old and new plans.
-#[test]
-fn tree_in_force() {
-    let star = [0, 0, 0];
-    let chain = [0, 0, 1];
-    let of =
-        |kind: u32, helpands: &[u32]| plan(kind, 36, helpands, &vec![0; helpands.len()]).bytes();
-    let roots = of(0, &[0, 1, 2]);
-    let alone = of(0, &[0]);
-    // Limits and shares are not compared.
-    let kept = plan(1, 50, &star, &[0, 50, 1]).bytes();
-    let (from_old, from_new) = (helpands(PartAnswer::OLD, 3), helpands(PartAnswer::NEW, 3));
-    let nothing = NOTHING;
-    let bad = plan(2, 1, &star, &[0, 27, 29]).bytes();
-    let cases = [
-        // "If the new kind is 1, it hands back the helpand stretch of the old plan"
-        (worked::d_plan(), kept.clone(), from_old),
-        (of(1, &star), kept.clone(), from_old),
-        // "otherwise that of the new"
-        (worked::d_plan(), of(2, &chain), from_new),
-        (worked::d_plan(), of(2, &star), from_new),
-        (worked::d_plan(), roots.clone(), from_new),
-        (roots.clone(), roots.clone(), from_new),
-        (roots.clone(), of(2, &star), from_new),
-        (alone.clone(), alone.clone(), helpands(PartAnswer::NEW, 1)),
-        // "when either is refused"
-        (bad.clone(), kept.clone(), nothing),
-        (worked::d_plan(), bad.clone(), nothing),
-        (bad.clone(), bad, nothing),
-        (Vec::new(), of(2, &star), nothing),
-        (Vec::new(), roots.clone(), nothing),
-        (roots.clone(), Vec::new(), nothing),
-        // "the N differ"
-        (of(2, &[0, 0]), of(2, &star), nothing),
-        (of(2, &[0, 0]), kept.clone(), nothing),
-        (alone, roots.clone(), nothing),
-        // "the new kind is 1 and the old is kind 0 or has other helpands"
-        (roots, kept.clone(), nothing),
-        (of(2, &chain), kept.clone(), nothing),
-        (of(1, &[1, 1, 1]), kept, nothing),
-    ];
+const STAR: [u32; 3] = [0, 0, 0];
+const CHAIN: [u32; 3] = [0, 0, 1];
+
+/// Kind 1 over a star. Limits and shares are not compared.
+fn kept() -> Vec<u8> {
+    plan(1, 50, &STAR, &[0, 50, 1]).bytes()
+}
+
+fn roots() -> Vec<u8> {
+    worked::plan(0, &[0, 1, 2])
+}
+
+/// The part that is handed back for an old and a new plan.
+fn hands_back(old: Vec<u8>, new: Vec<u8>, part: PartAnswer) {
     for implementation in IMPLEMENTATIONS {
-        for (at, (old, new, part)) in cases.iter().enumerate() {
-            let answer = (implementation.tree_in_force)(old, new);
-            assert_eq!(answer, *part, "case {at}");
-        }
+        let answer = (implementation.tree_in_force)(&old, &new);
+        assert_eq!(answer, part, "{}, {}", shown(&old), shown(&new));
     }
+}
+
+#[test]
+fn tree_in_force_helpands() {
+    let of = worked::plan;
+    let (from_old, from_new) = (helpands(PartAnswer::OLD, 3), helpands(PartAnswer::NEW, 3));
+    // "If the new kind is 1, it hands back the helpand stretch of the old plan"
+    hands_back(worked::d_plan(), kept(), from_old);
+    hands_back(of(1, &STAR), kept(), from_old);
+    // "otherwise that of the new"
+    hands_back(worked::d_plan(), of(2, &CHAIN), from_new);
+    hands_back(worked::d_plan(), of(2, &STAR), from_new);
+    hands_back(worked::d_plan(), roots(), from_new);
+    hands_back(roots(), roots(), from_new);
+    hands_back(roots(), of(2, &STAR), from_new);
+    let alone = of(0, &[0]);
+    hands_back(alone.clone(), alone, helpands(PartAnswer::NEW, 1));
+}
+
+#[test]
+fn tree_in_force_empty() {
+    let of = worked::plan;
+    let bad = plan(2, 1, &STAR, &[0, 27, 29]).bytes();
+    // "when either is refused"
+    hands_back(bad.clone(), kept(), NOTHING);
+    hands_back(worked::d_plan(), bad.clone(), NOTHING);
+    hands_back(bad.clone(), bad, NOTHING);
+    hands_back(Vec::new(), of(2, &STAR), NOTHING);
+    hands_back(Vec::new(), roots(), NOTHING);
+    hands_back(roots(), Vec::new(), NOTHING);
+    // "the N differ"
+    hands_back(of(2, &[0, 0]), of(2, &STAR), NOTHING);
+    hands_back(of(2, &[0, 0]), kept(), NOTHING);
+    hands_back(of(0, &[0]), roots(), NOTHING);
+    // "the new kind is 1 and the old is kind 0 or has other helpands"
+    hands_back(roots(), kept(), NOTHING);
+    hands_back(of(2, &CHAIN), kept(), NOTHING);
+    hands_back(of(1, &[1, 1, 1]), kept(), NOTHING);
 }
 
 /// After a step the tree in force is the one that the plan names, wherever it

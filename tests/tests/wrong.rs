@@ -3,7 +3,7 @@
 #![forbid(unsafe_code)]
 
 use firrozka_tests::answers::{self, Answer, PartAnswer, StepAnswer, WeighedAnswer, WrittenAnswer};
-use firrozka_tests::calls::{Operation, CARRY_OUT, OPERATIONS, PLAN_STEP, TREE_IN_FORCE, WEIGH};
+use firrozka_tests::calls::{CARRY_OUT, OPERATIONS, PLAN_STEP, TREE_IN_FORCE, WEIGH};
 use firrozka_tests::demands::judge;
 use firrozka_tests::implementations::{
     Implementation, PlanStep, MOVES_BYTES, PLAN_BYTES, REFERENCE,
@@ -17,12 +17,6 @@ use firrozka_tests::settings::SEED;
 use firrozka_tests::steps::{self, Size};
 use firrozka_tests::worked;
 use std::collections::BTreeMap;
-
-/// The run reports the one who does this operation wrong.
-fn is_reported(operation: &Operation, wrong: &Implementation) {
-    let reported = operation.run(wrong, SEED, 2_000).is_err();
-    assert!(reported, "{}: {}", operation.name, wrong.name);
-}
 
 /// Demand 3 or a rule beside it is broken in some of a few steps.
 fn is_judged(wrong: &Implementation) {
@@ -60,7 +54,7 @@ fn rebuilds_always() {
         }
     }
     let planner = wrong_planner("rebuilds at every overload", wrong);
-    is_reported(&PLAN_STEP, &planner);
+    PLAN_STEP.must_report(&planner);
     is_judged(&planner);
 }
 
@@ -79,7 +73,7 @@ fn keeps_always() {
         StepAnswer { kind: 1, ..answer }
     }
     let planner = wrong_planner("keeps every tree", wrong);
-    is_reported(&PLAN_STEP, &planner);
+    PLAN_STEP.must_report(&planner);
     is_judged(&planner);
 }
 
@@ -100,7 +94,7 @@ fn places_the_first_helper_alone() {
         answer
     }
     let planner = wrong_planner("places the first helper alone", wrong);
-    is_reported(&PLAN_STEP, &planner);
+    PLAN_STEP.must_report(&planner);
     is_judged(&planner);
 }
 
@@ -119,7 +113,7 @@ fn rounds_the_limit_down() {
         StepAnswer { limit, ..answer }
     }
     let planner = wrong_planner("rounds the limit down", wrong);
-    is_reported(&PLAN_STEP, &planner);
+    PLAN_STEP.must_report(&planner);
     is_judged(&planner);
 }
 
@@ -144,7 +138,7 @@ fn leaves_a_move_out() {
         }
     }
     let planner = wrong_planner("leaves a move out", wrong);
-    is_reported(&PLAN_STEP, &planner);
+    PLAN_STEP.must_report(&planner);
     is_judged(&planner);
 }
 
@@ -156,7 +150,7 @@ fn short_buffers() {
         wrong_planner("writes the plan before 23", writes_before_23),
         wrong_planner("wants one byte more", wants_a_byte_more),
     ] {
-        is_reported(&PLAN_STEP, &planner);
+        PLAN_STEP.must_report(&planner);
     }
 }
 
@@ -193,10 +187,7 @@ fn writes_behind_the_record() {
         }
         answer
     }
-    is_reported(
-        &PLAN_STEP,
-        &wrong_planner("writes a byte behind the plan", wrong),
-    );
+    PLAN_STEP.must_report(&wrong_planner("writes a byte behind the plan", wrong));
 }
 
 #[test]
@@ -206,8 +197,53 @@ fn answers_with_buffers_unwritten() {
         plan_step(sheet, old, &mut other_plan, &mut other_moves)
     }
     let planner = wrong_planner("writes nothing", wrong);
-    is_reported(&PLAN_STEP, &planner);
+    PLAN_STEP.must_report(&planner);
     is_judged(&planner);
+}
+
+/// Records and buffers lie at addresses of every offset modulo 8: whoever goes
+/// wrong at one of them is reported.
+#[test]
+fn goes_wrong_at_an_offset() {
+    let planners = [
+        planners_at::<0>(),
+        planners_at::<1>(),
+        planners_at::<2>(),
+        planners_at::<3>(),
+    ];
+    for (lent, planners) in planners.into_iter().enumerate() {
+        for (offset, planner) in planners.into_iter().enumerate() {
+            println!("{lent} at offset {offset}");
+            PLAN_STEP.must_report(&wrong_planner("goes wrong at an offset", planner));
+        }
+    }
+}
+
+fn planners_at<const LENT: usize>() -> [PlanStep; 8] {
+    [
+        planner_at::<LENT, 0>,
+        planner_at::<LENT, 1>,
+        planner_at::<LENT, 2>,
+        planner_at::<LENT, 3>,
+        planner_at::<LENT, 4>,
+        planner_at::<LENT, 5>,
+        planner_at::<LENT, 6>,
+        planner_at::<LENT, 7>,
+    ]
+}
+
+/// Refuses where one of the four that are lent begins at this offset.
+fn planner_at<const LENT: usize, const OFFSET: usize>(
+    sheet: &[u8],
+    old: &[u8],
+    plan: &mut [u8],
+    moves: &mut [u8],
+) -> StepAnswer {
+    let begins = [sheet.as_ptr(), old.as_ptr(), plan.as_ptr(), moves.as_ptr()];
+    match begins[LENT] as usize % 8 == OFFSET {
+        true => Answer::refused(1),
+        false => plan_step(sheet, old, plan, moves),
+    }
 }
 
 /// "A refused sheet ends planning before the old plan is looked at."
@@ -221,10 +257,7 @@ fn looks_at_the_old_plan_first() {
             _ => Answer::refused(refusal),
         }
     }
-    is_reported(
-        &PLAN_STEP,
-        &wrong_planner("the old plan before the sheet", wrong),
-    );
+    PLAN_STEP.must_report(&wrong_planner("the old plan before the sheet", wrong));
 }
 
 /// What the judge says of a tree that would do and is built anew.
@@ -253,7 +286,7 @@ fn weighs_wrong() {
             weigh,
             ..REFERENCE
         };
-        is_reported(&WEIGH, &wrong);
+        WEIGH.must_report(&wrong);
     }
 }
 
@@ -299,7 +332,7 @@ fn carries_out_wrong() {
             carry_out,
             ..REFERENCE
         };
-        is_reported(&CARRY_OUT, &wrong);
+        CARRY_OUT.must_report(&wrong);
     }
 }
 
@@ -374,7 +407,7 @@ fn tree_in_force_wrong() {
             tree_in_force,
             ..REFERENCE
         };
-        is_reported(&TREE_IN_FORCE, &wrong);
+        TREE_IN_FORCE.must_report(&wrong);
     }
 }
 

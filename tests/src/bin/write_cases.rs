@@ -1,8 +1,9 @@
-//! `write_cases DIR SEED COUNT` writes DIR/stdin and DIR/stdout: cases for a
-//! program that the gate runs, the last COUNT of them random.
+//! `write_cases DIR` writes stdin and stdout of the programs that the gate runs
+//! on the second implementation's cases, to DIR/cases and DIR/stretches.
 #![forbid(unsafe_code)]
 
-use firrozka_tests::cases;
+use firrozka_tests::cases::{self, Files};
+use firrozka_tests::stretches;
 use std::path::Path;
 use std::process::ExitCode;
 use std::{env, fs};
@@ -22,39 +23,30 @@ fn main() -> ExitCode {
 }
 
 fn run(arguments: &[String]) -> Result<String, String> {
-    let (folder, seed, count) = match arguments {
-        [folder, seed, count] => (folder, seed, count),
-        _ => return Err("usage: write_cases DIR SEED COUNT".into()),
+    let folder = match arguments {
+        [folder] => Path::new(folder),
+        _ => return Err("usage: write_cases DIR".into()),
     };
-    let cases = cases::all(number(seed)?, number(count)?);
-    let folder = Path::new(folder);
-    fs::create_dir_all(folder).map_err(|wrong| format!("{}: {wrong}", folder.display()))?;
-    write(&folder.join("stdin"), &cases.stdin)?;
-    write(&folder.join("stdout"), cases.stdout.as_bytes())?;
-    Ok(summary(&cases.stdout, cases.stdin.len()))
+    let cases = written(&folder.join("cases"), &cases::all())?;
+    let stretches = written(&folder.join("stretches"), &stretches::all())?;
+    Ok([cases, stretches].join("\n"))
 }
 
-fn number(text: &str) -> Result<u64, String> {
-    text.parse().map_err(|_| format!("{text} is no number"))
+/// Writes both files, and says how long they are.
+fn written(folder: &Path, files: &Files) -> Result<String, String> {
+    fs::create_dir_all(folder).map_err(|wrong| format!("{}: {wrong}", folder.display()))?;
+    write(&folder.join("stdin"), &files.stdin)?;
+    write(&folder.join("stdout"), files.stdout.as_bytes())?;
+    let lengths = [files.stdin.len(), files.stdout.len()];
+    let lines = files.stdout.lines();
+    let firsts = lines.filter(|line| !line.starts_with("node") && !line.starts_with("move"));
+    let name = folder.display();
+    let count = firsts.count();
+    Ok(format!(
+        "{name}: {count} cases; stdin and stdout have {lengths:?} bytes"
+    ))
 }
 
 fn write(path: &Path, bytes: &[u8]) -> Result<(), String> {
     fs::write(path, bytes).map_err(|wrong| format!("{}: {wrong}", path.display()))
-}
-
-/// How many cases there are of each sort, and how long the files are.
-fn summary(stdout: &str, stdin: usize) -> String {
-    let count = |start: &str| {
-        stdout
-            .lines()
-            .filter(|line| line.starts_with(start))
-            .count()
-    };
-    let sorts = ["kind 0", "kind 1", "kind 2", "refused"];
-    let sorts = sorts.map(|sort| format!("{sort}: {}", count(sort)));
-    let sorts = sorts.join(", ");
-    format!(
-        "{sorts}; stdin {stdin} bytes, stdout {} bytes",
-        stdout.len()
-    )
 }

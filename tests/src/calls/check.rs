@@ -3,12 +3,17 @@
 //! with guard bytes round all that is lent and noise in the buffers.
 
 use super::{Call, Operation};
-use crate::guarded::Guarded;
+use crate::guarded::{Guarded, OFFSETS};
 use crate::implementations::{Implementation, REFERENCE};
 use crate::random::Random;
 
-/// How often the one under test is called for each call.
-pub const TIMES: usize = 3;
+/// How often the one under test is called for each call: once for each place
+/// that the first byte of what is lent can have.
+pub const TIMES: usize = OFFSETS;
+
+/// The bytes beside what is lent. They are others from time to time: who reads
+/// them may answer otherwise.
+const GUARDS: [u8; 3] = [0xa5, 0x00, 0xff];
 
 /// What a call came to.
 pub struct Checked {
@@ -41,10 +46,8 @@ pub fn check(
     if !faults.is_empty() && expected.buffers != noise {
         return Err("the reference refuses and writes".into());
     }
-    // Other guards each time: who reads beside the input may answer otherwise.
-    let places: [(usize, u8); TIMES] = [(0, 0xa5), (1, 0x00), (2, 0xff)];
-    for (offset, guard) in places {
-        compare(operation, tested, call, &noise, &expected, (offset, guard))?;
+    for time in 0..TIMES {
+        compare(operation, tested, call, &noise, &expected, time)?;
     }
     let answer = expected.answer;
     Ok(Checked { faults, answer })
@@ -74,11 +77,14 @@ fn compare(
     call: &Call,
     noise: &[Vec<u8>; 2],
     expected: &Outcome,
-    (offset, guard): (usize, u8),
+    time: usize,
 ) -> Result<(), String> {
-    let lend = |bytes: &Vec<u8>| Guarded::new(bytes, offset, guard);
-    let [first, second] = [&call.records[0], &call.records[1]].map(lend);
-    let [mut a, mut b] = [&noise[0], &noise[1]].map(lend);
+    // Times an odd number, the times give all offsets, in another order for each
+    // of the four that are lent.
+    let lend =
+        |bytes: &[u8], odd| Guarded::new(bytes, odd * time % OFFSETS, GUARDS[time % GUARDS.len()]);
+    let [first, second] = [lend(&call.records[0], 1), lend(&call.records[1], 3)];
+    let [mut a, mut b] = [lend(&noise[0], 5), lend(&noise[1], 7)];
     let lent = [first.lent(), second.lent()];
     let answer = (operation.answer)(tested, lent, [a.lent_mut(), b.lent_mut()]);
     if answer != expected.answer {

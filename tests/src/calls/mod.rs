@@ -34,6 +34,17 @@ pub struct Call {
     pub needed: [usize; 2],
 }
 
+impl Call {
+    /// One that is lent no buffers.
+    pub fn without_buffers(records: [Vec<u8>; 2]) -> Call {
+        Call {
+            records,
+            lengths: [0; 2],
+            needed: [0; 2],
+        }
+    }
+}
+
 /// One operation and all that its tests need.
 pub struct Operation {
     pub name: &'static str,

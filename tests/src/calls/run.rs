@@ -9,7 +9,7 @@ use crate::faults::pairs;
 use crate::implementations::{Implementation, ARCHIVE};
 use crate::random::Random;
 use crate::records::shown;
-use crate::settings::{seed, setting};
+use crate::settings::{seed, setting, SEED};
 
 /// How many calls a run has for each fault and each pair of faults.
 const FOR_EACH: usize = 20;
@@ -37,6 +37,12 @@ impl Operation {
             gaps.extend(self.corners_unmet(&met));
         }
         assert!(gaps.is_empty(), "{}: {gaps:#?}", self.name);
+    }
+
+    /// Panics unless a short run reports this one, who does the operation wrong.
+    pub fn must_report(&self, wrong: &Implementation) {
+        let reported = self.run(wrong, SEED, 2_000).is_err();
+        assert!(reported, "{}, {}: not reported", self.name, wrong.name);
     }
 
     /// Compares the answers of the one under test to the calls of a run: all
@@ -148,7 +154,7 @@ fn wanted(numbers: &[u32], pairs: &[(u32, u32)]) -> Vec<Vec<u32>> {
 
 /// What the first attempt gives whose first fault is the first one wanted, and
 /// which has the others too. Faults can hide each other, so it may take some.
-fn first_with<T>(wanted: &[u32], mut attempt: impl FnMut() -> (T, Vec<u32>)) -> T {
+pub fn first_with<T>(wanted: &[u32], mut attempt: impl FnMut() -> (T, Vec<u32>)) -> T {
     let suits = |found: &[u32]| {
         found.first() == wanted.first() && wanted.iter().all(|fault| found.contains(fault))
     };

@@ -174,18 +174,40 @@ fn other_node(node: usize, n: usize, random: &mut Random) -> u32 {
     ((node + 1 + random.place(n - 1)) % n) as u32
 }
 
-/// Makes a second root, takes the root away, or bends a branch into a ring.
+/// Makes a second root, takes the root away, sets two nodes apart, or bends a
+/// branch into a ring.
 fn break_tree(helpands: &mut [u32], random: &mut Random) {
     let n = helpands.len();
     let at = random.place(n);
-    match (random.below(4), root_of(helpands)) {
+    match (random.below(6), root_of(helpands)) {
         (0, _) => helpands[at] = at as u32,
         (1, Some(root)) => helpands[root] = other_node(root, n, random),
+        (2 | 3, Some(root)) => set_apart(helpands, root, random),
         _ => {
             let top = top_of_branch(helpands, at);
             helpands[top] = at as u32;
         }
     }
+}
+
+/// Has two nodes help each other and all others the root or each other: a ring
+/// that no other chain leads to. Takes three nodes.
+fn set_apart(helpands: &mut [u32], root: usize, random: &mut Random) {
+    let others: Vec<usize> = (0..helpands.len()).filter(|&node| node != root).collect();
+    if others.len() < 2 {
+        return;
+    }
+    let last = others.len() - 2;
+    let any = random.place(last + 1);
+    let at = random.one_of(&[0, any, last]);
+    let (a, b) = (others[at], others[at + 1]);
+    for helpand in helpands.iter_mut() {
+        if [a, b].contains(&(*helpand as usize)) {
+            *helpand = root as u32;
+        }
+    }
+    helpands[a] = b as u32;
+    helpands[b] = a as u32;
 }
 
 /// The last node before the root on the chain from `node`.

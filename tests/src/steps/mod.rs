@@ -30,6 +30,14 @@ pub struct Step {
     pub old: Vec<u8>,
 }
 
+impl Step {
+    /// What the bench program is given: "a sheet followed at once by an old plan
+    /// or nothing".
+    pub fn input(&self) -> Vec<u8> {
+        [&self.sheet[..], &self.old].concat()
+    }
+}
+
 impl fmt::Display for Step {
     fn fmt(&self, out: &mut fmt::Formatter) -> fmt::Result {
         let (sheet, old) = (shown(&self.sheet), shown(&self.old));
