@@ -30,5 +30,6 @@ pub mod words;
 /// The version of the library that the tool is built with: 1.0 is the scope
 /// paper's, and each request after it counts on.
 pub fn version() -> String {
-    String::from("1.0")
+    let version = firrozka::version();
+    format!("{}.{}", version / 100, version % 100)
 }
