@@ -22,9 +22,8 @@ use Rattle.tree.specs.Division.{WithinLimit, OnTarget, ownOf}
 use Rattle.tree.proofs.Tabulate.{zeros-at, tabulate-at, length-tabulate}
 use Rattle.tree.proofs.Weighing.{least-is}
 use Rattle.tree.proofs.Keeping.{holds-at}
-use Rattle.shares.specs.Shares.{shareOf}
-use Rattle.shares.proofs.KeptShares.{table-shares}
-use Rattle.shares.proofs.KeptShares as shares
+use Rattle.shares.specs.Shares.{keptShare}
+use Rattle.shares.proofs.KeptShares.{KeptWithin, table-shares}
 use Rattle.rebuild.specs.Target.{targetOf}
 use Rattle.rebuild.proofs.TargetSums.{targets-within-limit, WithinTargets}
 use Rattle.rebuild.proofs.Rebuilding.{Balanced, rebuilt-on-target}
@@ -107,7 +106,7 @@ module _ (nodes p t : ℕ) (table totals : List ℕ) (tree : Bool) (old : List �
     least-at : (k : ℕ) → k < nodes → at leasts k ≡ least nodes (at old) (at totals) limit k
     least-at k l = tabulate-at nodes (least nodes (at old) (at totals) limit) k l
 
-    kept-shares : shares.Kept nodes (at old) limit (at leasts) (at totals) (held table) (at (keptPlan nodes limit table totals old .shares))
+    kept-shares : KeptWithin nodes (at old) limit (at leasts) (at totals) (held table) (at (keptPlan nodes limit table totals old .shares))
     kept-shares =
         table-shares nodes r limit old leasts totals table rooted (g .counted)
         (λ n l. least-at n l ∙ least-is nodes (at old) (at totals) limit r rooted n ∙ ap (λ (x : ℕ). at totals n - x) (sym (spares n)))
@@ -123,7 +122,7 @@ module _ (nodes p t : ℕ) (table totals : List ℕ) (tree : Bool) (old : List �
         record {
           read-back =
               tree-read-written nodes limit old (keptPlan nodes limit table totals old .shares) (g .few) (bounds .written) (omega (arith, g .long, g .few))
-              (omega (arith, length-tabulate nodes (shareOf nodes (at old) limit (at leasts) (at totals) (held table)) (g .few), g .few)) 1 r (λ z. omega arith) (omega arith)
+              (omega (arith, length-tabulate nodes (keptShare nodes (at old) limit (at leasts) (at totals) (held table)) (g .few), g .few)) 1 r (λ z. omega arith) (omega arith)
               (not-alone f) rooted (kept-shares .most) (kept-shares .root r (rooted .root) (rooted .own));
           inside = rooted .inside;
           enough = kept-shares .enough;

@@ -6,7 +6,7 @@ use lib.ListN.{replicate}
 use Rattle.plan.specs.Tree.{at}
 use Rattle.tree.specs.Totals.{held, tabulate, primary}
 use Rattle.tree.specs.Weigh.{least, holds}
-use Rattle.shares.specs.Shares.{sharesOf}
+use Rattle.shares.specs.Shares.{keptShares}
 use Rattle.rebuild.specs.Rebuild.{rebuiltOf}
 use Rattle.decide.specs.declared.Decision.{Decision}
 
@@ -27,7 +27,7 @@ abbrev pub keptPlan : ℕ → ℕ → List ℕ → List ℕ → List ℕ → Dec
 keptPlan nodes limit table totals old = record {
   kind = 1;
   helpands = old;
-  shares = sharesOf nodes (at old) limit (at (leastsOf nodes old totals limit)) (at totals) (held table);
+  shares = keptShares nodes (at old) limit (at (leastsOf nodes old totals limit)) (at totals) (held table);
 }
 
 -- kind 2, rebuilt for a total of p

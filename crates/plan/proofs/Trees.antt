@@ -17,6 +17,20 @@ use Rattle.plan.specs.Tree.{helpandsBelow, isRoot, roots, reaches, shape
 -- ---- chains
 
 module _ (h : ℕ → ℕ) where
+  -- no step, one step more in front, and one more at the end
+  pub walk-none : (k : ℕ) → walk h 0 k ≡ k
+  unfolding walk
+  walk-none k = refl
+
+  pub walk-more : (j k : ℕ) → walk h (suc j) k ≡ walk h j (h k)
+  unfolding walk
+  walk-more j k = refl
+
+  pub walk-suc : (j k : ℕ) → walk h (suc j) k ≡ h (walk h j k)
+  unfolding walk
+  walk-suc zero k = refl
+  walk-suc (suc j) k = walk-suc j (h k)
+
   -- a chain stays at a root
   pub walk-own : (r : ℕ) → h r ≡ r → (j : ℕ) → walk h j r ≡ r
   unfolding walk

@@ -1,6 +1,7 @@
 pub mod Tabulate
 pub mod Totalled
 pub mod Families
+pub mod Linking
 pub mod Weighing
 pub mod Passing
 pub mod Filling

@@ -1,11 +1,11 @@
 -- The totals and the sum of the table: a table of 4,096 counts is 64 rows of 64, and a sum over all cells may be taken row by row or
 -- column by column. Assumes nothing.
-use mathlib.Core.Path.{_≡_, sym, ap, _∙_}
+use mathlib.Core.Path.{_≡_, sym, _∙_}
 use mathlib.Core.List.{List}
-use Prim.Native.Nat.{ℕ, zero, suc, _+_, _*_, _-_, _≤_, _<_}
+use Prim.Native.Nat.{ℕ, zero, suc, _+_, _*_, _≤_, _<_}
 use native.Mathlib.Omega.{arith}
 use Rattle.fold.specs.Sum.{sum}
-use Rattle.fold.proofs.Sums.{sum-none, sum-suc, sum-le, sum-eq, sum-zeros, sum-term, sum-exchange, sum-split}
+use Rattle.fold.proofs.Sums.{sum-none, sum-suc, sum-le, sum-eq, sum-zeros, sum-term, sum-exchange, sum-split, sum-fewer, sum-rest}
 use Rattle.limit.specs.Limit.{maxNodes}
 use Rattle.plan.specs.Tree.{at}
 use Rattle.tree.specs.Totals.{held, totalOf}
@@ -21,18 +21,6 @@ sum-rows (suc rows) f =
     let e : 64 * suc rows ≡ 64 * rows + 64 = omega arith in
     rw e (omega (arith, sum-split (64 * rows) 64 f, sum-rows rows f, sum-suc rows (λ i. sum 64 (λ j. f (64 * i + j)))))
 
--- the first n of m
-module _ (n m : ℕ) (f : ℕ → ℕ) (l : n ≤ m) where
-  parted : sum m f ≡ sum n f + sum (m - n) (λ k. f (n + k))
-  parted = let e : m ≡ n + (m - n) = omega arith in ap (λ (x : ℕ). sum x f) e ∙ sum-split n (m - n) f
-
-  sum-first : sum n f ≤ sum m f
-  sum-first = omega (arith, parted)
-
-  -- where the others are 0
-  sum-rest : ((k : ℕ) → n ≤ k → k < m → f k ≡ 0) → sum n f ≡ sum m f
-  sum-rest z = omega (arith, parted, sum-zeros (m - n) (λ k. f (n + k)) (λ k b. z (n + k) (omega arith) (omega arith)))
-
 -- ---- tables
 
 module _ (table : List ℕ) where
@@ -45,7 +33,7 @@ module _ (table : List ℕ) where
       omega (
         arith,
         by-rows,
-        sum-first holders 64 (λ k. held table k n) l,
+        sum-fewer holders 64 (λ k. held table k n) l,
         sum-le 64 (λ k. held table k n) (λ k. sum 64 (λ j. held table k j)) (λ k c. sum-term 64 (λ j. held table k j) n b),
       )
 

@@ -1,4 +1,5 @@
-// Deciding, first part: the totals of the subdomains, and whether the plan is primary. Weighing a tree stands in `weigh`.
+// Deciding, first part: the totals of the subdomains, and whether the plan is primary. Weighing a tree stands in
+// `weigh`, and the links that it goes by in `links`.
 ghost use mathlib.Core.Path.{_≡_};
 ghost use Prim.Native.Nat.{_+_, _≤_, _<_};
 ghost use lib.Dec.{leb};
@@ -8,6 +9,7 @@ ghost use Rattle.limit.specs.Limit.{maxNodes, maxTotal};
 ghost use Rattle.plan.specs.Tree.{at};
 ghost use Rattle.tree.specs.Totals.{totalOf, tabulate, totalsOf, primary};
 
+pub mod links;
 pub mod weigh;
 
 // Adds what `holder` has to the totals of what the holders below it have.

@@ -16,6 +16,7 @@ use Rattle.words.specs.Buffer.{placed}
 use Rattle.words.proofs.Words.{length-encode}
 use Rattle.words.proofs.Buffer.{sets-placed}
 use Rattle.tree.specs.Totals.{tabulate, totalsOf}
+use Rattle.tree.specs.Weigh.{least}
 use Rattle.tree.proofs.Tabulate.{length-row, take-tabulate}
 use Rattle.tree.proofs.Weighing.{holds-tabulated}
 use Rattle.sheet.specs.declared.Sheet.{Sheet}
@@ -48,6 +49,12 @@ module _ (s p : List ℕ) (h : Sheet) (w : Weighable s p h) where
 
   pub array-tree : (r : ℕ) × Tree (h .n) (at (padded (helpandsOf p (h .n)))) r
   array-tree = rw (padded-same (helpandsOf p (h .n))) tree
+
+  -- the leasts of the arrays that were read are those of the sheet and the plan
+  pub leasts-read : (table totals helpands leasts : List ℕ) → table ≡ tableOf s (h .e) → totals ≡ totalsOf (h .n) table
+      → helpands ≡ padded (helpandsOf p (h .n)) → leasts ≡ tabulate (h .n) (least (h .n) (at helpands) (at totals) (h .limit))
+      → leasts ≡ tabulate (h .n) (leastIn s p)
+  leasts-read table totals helpands leasts t o a e = rw (← w .sheet) (e ∙ rw (a, padded-same (helpandsOf p (h .n)), o, t))
 
 -- ---- one law for each way that the checks of a pair can go
 

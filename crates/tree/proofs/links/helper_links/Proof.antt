@@ -1,4 +1,4 @@
--- `shares::helper_links` meets its contract: the nodes from k on are linked. Assumes nothing.
+-- `tree::links::helper_links` meets its contract: the nodes from k on are linked. Assumes nothing.
 use borrow.Author.Needs.{needs}
 use mathlib.Core.Path.{_≡_, refl}
 use Prim.Native.Nat.{ℕ, _+_, _-_, _≤_, _<_}
@@ -6,9 +6,9 @@ use native.Mathlib.Omega.{arith}
 use lib.ListN.{length, length-set}
 use denote.Ref.{now}
 use Rattle.plan.specs.Tree.{at}
-use Rattle.shares.proofs.Links.{Linking, linking-none, linking-root, linking-helper, linked-all}
-use Rattle.shares.proofs.helper_links.Statement.{statement}
-use Rattle.shares.proofs.helper_links.Tie as tie
+use Rattle.tree.proofs.Linking.{Linking, linking-none, linking-root, linking-helper, linked-all}
+use Rattle.tree.proofs.links.helper_links.Statement.{statement}
+use Rattle.tree.proofs.links.helper_links.Tie as tie
 
 abbrev Inv-loop : tie.InvT-loop
 Inv-loop helpands nodes links₀ k₀ links k = (k ≤ nodes) × (length links ≡ 128) × Linking nodes (at helpands) k links

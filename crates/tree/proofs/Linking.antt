@@ -1,6 +1,7 @@
 -- Laws of the links from helper to helper, which are made from the last node down. Assumes nothing.
 use mathlib.Core.Path.{_≡_, refl, sym, _∙_}
 use mathlib.Core.Logic.{_≢_}
+use mathlib.Core.Bool.{true}
 use mathlib.Core.List.{List}
 use Prim.Native.Nat.{ℕ, _+_, _≤_, _<_}
 use native.Mathlib.Decide.{ℕ-discrete}
@@ -8,11 +9,11 @@ use native.Mathlib.Omega.{arith}
 use lib.ListN.{length, set, replicate, length-set, getD-replicate}
 use lib.Seq.{getD-set-same, getD-set-other}
 use Rattle.plan.specs.Tree.{at}
 use Rattle.tree.specs.Family.{helps}
 use Rattle.fold.specs.First.{FirstFrom}
 use Rattle.fold.proofs.First.{first-end, first-here, first-later}
-use Rattle.shares.specs.Walk.{Linked}
-use Rattle.shares.proofs.Families.{helps-yes, helps-own, helps-no}
+use Rattle.tree.specs.Links.{Linked}
+use Rattle.tree.proofs.Families.{helps-of, helps-yes, helps-self, helps-other, helper-below}
 
 -- the links once node m, which helps g, is put before g's other helpers
 abbrev linkTo : List ℕ → ℕ → ℕ → List ℕ
@@ -35,8 +36,8 @@ module _ {nodes : ℕ} {h : ℕ → ℕ} where
   pub linking-root : {m : ℕ} {links : List ℕ} → Linking nodes h (m + 1) links → h m ≡ m → Linking nodes h m links
   linking-root {m} {links} x e = record {
     first = λ n l. first-later nodes (helps h n) m (at links n) (x .first n l) (elim (ℕ-discrete (h m) n) [
-      | yes q ↦ helps-own h n m (sym e ∙ q)
-      | no d ↦ helps-no h n m d
+      | yes q ↦ helps-self h n m (sym e ∙ q)
+      | no d ↦ helps-other h n m d
     ]);
     next = λ k b l d. x .next k (elim (ℕ-discrete k m) [
       | yes q ↦ absurd (d (rw q e))
@@ -49,8 +50,8 @@ module _ {nodes : ℕ} {h : ℕ → ℕ} where
       → Linking nodes h m (linkTo links (h m) m)
   linking-helper {m} {links} x e b l i d = record {
     first = λ n ln. elim (ℕ-discrete n (h m)) [
-      | yes q ↦ rw (q, own) (first-here nodes (helps h (h m)) m l (helps-yes h (h m) m (λ p. d (sym p)) refl))
-      | no c ↦ rw (other n c (λ p. absurd (omega arith))) (first-later nodes (helps h n) m (at links n) (x .first n ln) (helps-no h n m (λ p. c (sym p))))
+      | yes q ↦ rw (q, own) (first-here nodes (helps h (h m)) m l (helps-yes h (h m) m refl (λ p. d (sym p))))
+      | no c ↦ rw (other n c (λ p. absurd (omega arith))) (first-later nodes (helps h n) m (at links n) (x .first n ln) (helps-other h n m (λ p. c (sym p))))
     ];
     next = λ k c lk dk. elim (ℕ-discrete k m) [
       | yes q ↦ rw (q, after) (x .first (h m) i)
@@ -72,3 +73,11 @@ module _ {nodes : ℕ} {h : ℕ → ℕ} where
   -- after it
   pub linked-all : {links : List ℕ} → Linking nodes h 0 links → Linked nodes h links
   linked-all x = record { first = x .first; next = λ k l d. x .next k (omega arith) l d }
+
+-- where a loop over the helpers of n begins, and the next helper behind its helper k
+module _ {nodes : ℕ} {h : ℕ → ℕ} {links : List ℕ} (x : Linked nodes h links) (n : ℕ) where
+  pub link-first : {to : ℕ} → n < nodes → to ≡ at links n → FirstFrom nodes (helps h n) 0 to
+  link-first l e = rw e (x .first n l)
+
+  pub link-next : {k to : ℕ} → k < nodes → helps h n k ≡ true → to ≡ at links (64 + k) → FirstFrom nodes (helps h n) (k + 1) to
+  link-next {k} l y e = rw (e, ← helps-of h n k y) (x .next k l (helper-below h n k y))
