@@ -32,7 +32,8 @@ keptPlan nodes limit table totals old = record {
 
 -- kind 2, rebuilt for a total of p
 abbrev pub rebuiltPlan : ℕ → ℕ → List ℕ → List ℕ → Decision
-rebuiltPlan nodes p totals old = record { kind = 2; helpands = rebuiltOf nodes p totals old .helpands; shares = rebuiltOf nodes p totals old .shares }
+rebuiltPlan nodes p totals old =
+    record { kind = 2; helpands = rebuiltOf nodes p totals old .helpands; shares = rebuiltOf nodes p totals old .shares }
 
 -- a tree is needed: the old one is kept if there is one and it holds
 abbrev pub treePlan : ℕ → ℕ → ℕ → List ℕ → List ℕ → Bool → List ℕ → Decision

@@ -1,21 +1,14 @@
 -- The checks of n nodes look at the first n helpands and shares alone: two functions that agree below n pass the same of them. A
 -- chain stays below n, so it goes the same way in both. Assumes nothing.
-use mathlib.Core.Path.{_≡_, refl, ap, ap₂, _∙_}
+use mathlib.Core.Path.{_≡_, ap, ap₂, _∙_}
 use mathlib.Core.Bool.{Bool, true, cond, _||_, _&&_, not}
 use Prim.Native.Nat.{ℕ, zero, suc, _<_}
-use native.Mathlib.Omega.{arith}
 use borrow.Author.Tests.{ltb-true}
 use lib.Dec.{ltb, leb, eqb}
 use Rattle.fold.specs.Sum.{only}
-use Rattle.fold.specs.All.{all}
-use Rattle.fold.proofs.Tests.{all-at}
+use Rattle.fold.proofs.Tests.{all-at, all-agree}
 use Rattle.fold.proofs.Sums.{sum-eq}
 use Rattle.plan.specs.Tree.{helpandsBelow, isRoot, roots, reaches, shapeFine, shareFine, sharesFine}
-
-all-agree : (n : ℕ) (p q : ℕ → Bool) → ((k : ℕ) → k < n → p k ≡ q k) → all n p ≡ all n q
-unfolding all
-all-agree zero p q e = refl
-all-agree (suc n) p q e = ap₂ _&&_ (all-agree n p q (λ k l. e k (omega arith))) (e n (omega arith))
 
 module _ (n : ℕ) (f g : ℕ → ℕ) (same : (k : ℕ) → k < n → f k ≡ g k) where
   pub below-agree : helpandsBelow n f ≡ helpandsBelow n g

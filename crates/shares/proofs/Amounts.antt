@@ -8,7 +8,7 @@ use Rattle.fold.specs.Sum.{only, sum}
 use Rattle.fold.proofs.Sums.{sum-le, sum-fewer}
 use Rattle.tree.specs.Family.{helps, overHelpers}
 use Rattle.tree.proofs.Families.{helpers-eq, helpers-add, helpers-more}
-use Rattle.shares.specs.Fill.{room, fill}
+use Rattle.shares.specs.Fill.{room}
 use Rattle.shares.specs.Shares.{space, kept, rest, amount}
 use Rattle.shares.proofs.Spaces.{space-own, space-helper, family-part}
 use Rattle.shares.proofs.FillLaws.{fill-space, fill-keeps, fill-whole}
@@ -25,7 +25,8 @@ module _ (h : ℕ → ℕ) (limit : ℕ) (least holding : ℕ → ℕ) (r n : �
   kept-sum = family-part h limit least r n keeps (λ k. omega arith)
 
   -- what one helper more keeps is still there
-  pub kept-left : (nodes k : ℕ) → n < nodes → k < nodes → helps h n k ≡ true → keeps n + overHelpers k h n keeps + keeps k ≤ sum nodes holding
+  pub kept-left : (nodes k : ℕ) → n < nodes → k < nodes → helps h n k ≡ true
+      → keeps n + overHelpers k h n keeps + keeps k ≤ sum nodes holding
   kept-left nodes k l b y =
       omega (
         arith,
@@ -36,12 +37,14 @@ module _ (h : ℕ → ℕ) (limit : ℕ) (least holding : ℕ → ℕ) (r n : �
       )
 
   -- what is kept and the rooms make up the spaces
-  rooms-sum : (nodes : ℕ) → overHelpers nodes h n (room spaces keeps) + overHelpers nodes h n keeps ≡ overHelpers nodes h n (λ k. limit - least k)
+  rooms-sum : (nodes : ℕ)
+      → overHelpers nodes h n (room spaces keeps) + overHelpers nodes h n keeps ≡ overHelpers nodes h n (λ k. limit - least k)
   rooms-sum nodes =
       omega (
         arith,
         helpers-add nodes h n (room spaces keeps) keeps,
-        helpers-eq nodes h n (λ k. room spaces keeps k + keeps k) (λ k. limit - least k) (λ k b y. omega (arith, space-helper h limit least r n k y)),
+        helpers-eq nodes h n (λ k. room spaces keeps k + keeps k) (λ k. limit - least k)
+            (λ k b y. omega (arith, space-helper h limit least r n k y)),
       )
 
 module _ (nodes : ℕ) (h : ℕ → ℕ) (limit : ℕ) (least total : ℕ → ℕ) (held : ℕ → ℕ → ℕ) (r n : ℕ) where

@@ -9,7 +9,7 @@ use Rattle.tree.specs.Family.{helps, overHelpers}
 use Rattle.tree.proofs.Families.{helps-ne, helpers-eq, helpers-add, helpers-in-turn}
 use Rattle.shares.specs.Fill.{room, ahead, fill}
 
-sub-sub : (x a b : ℕ) → x - (a + b) ≡ x - a - b
+pub sub-sub : (x a b : ℕ) → x - (a + b) ≡ x - a - b
 sub-sub x a b = omega arith
 
 module _ (h : ℕ → ℕ) (n : ℕ) (space kept : ℕ → ℕ) (rest : ℕ) where

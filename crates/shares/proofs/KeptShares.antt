@@ -12,7 +12,8 @@ use Rattle.tree.specs.Family.{helps, overHelpers}
 use Rattle.tree.specs.Down.{Descends}
 use Rattle.tree.specs.Division.{WithinLimit, ownOf}
 use Rattle.tree.proofs.Tabulate.{tabulate-at}
-use Rattle.tree.proofs.Filling.{Fills, family-room, down-descends, descends-only, descends-at, descends-same, share-spare, helpers-most, own-filled, descends-within}
+use Rattle.tree.proofs.Filling.{Fills, family-room, share-spare, helpers-most, own-filled, descends-within}
+use Rattle.tree.proofs.Filling.{down-descends, descends-only, descends-at, descends-same}
 use Rattle.shares.specs.Shares.{amount, keptShare, keptShares}
 use Rattle.shares.proofs.Spaces.{space-own, space-helper}
 use Rattle.shares.proofs.Amounts.{amount-space, amount-keeps, amount-whole}
@@ -59,11 +60,14 @@ module _ {nodes : ℕ} {h : ℕ → ℕ} {limit : ℕ} {least total : ℕ → �
       record {
         owner = λ r n. omega (arith, amount-space nodes h limit least total held r n n, space-own h limit least r n);
         helper = λ r n k y. omega (arith, amount-space nodes h limit least total held r n k, space-helper h limit least r n k y);
-        whole = λ r n l s. amount-whole nodes h limit least total held r n l (t .adds n l) (family-room nodes h total limit least n r (t .leasts n l) (t .holds n l) s);
+        whole = λ r n l s.
+            amount-whole nodes h limit least total held r n l (t .adds n l)
+            (family-room nodes h total limit least n r (t .leasts n l) (t .holds n l) s);
       }
 
   -- THEOREM 3. Shares from the root down in a tree that holds are a division within the limit, and keep in place what they can.
-  pub kept-shares : (share : ℕ → ℕ) → Descends nodes h (amount nodes h limit least total held) share → KeptWithin nodes h limit least total held share
+  pub kept-shares : (share : ℕ → ℕ) → Descends nodes h (amount nodes h limit least total held) share
+      → KeptWithin nodes h limit least total held share
   kept-shares share s =
       record {
         within = descends-within fills s;
@@ -71,7 +75,13 @@ module _ {nodes : ℕ} {h : ℕ → ℕ} {limit : ℕ} {least total : ℕ → �
         most = λ k l. omega (arith, share-spare fills s k l);
         enough = helpers-most fills s;
         own-space = λ n l. omega (arith, own-filled fills s n l, fills .owner (share n) n);
-        own-keeps = λ n l. omega (arith, own-filled fills s n l, amount-keeps nodes h limit least total held (share n) n n, space-own h limit least (share n) n);
+        own-keeps = λ n l.
+            omega (
+              arith,
+              own-filled fills s n l,
+              amount-keeps nodes h limit least total held (share n) n n,
+              space-own h limit least (share n) n,
+            );
         helper-space = λ n k l y. share-spare fills s k l;
         helper-keeps = λ n k l y.
             omega (
@@ -83,10 +93,12 @@ module _ {nodes : ℕ} {h : ℕ → ℕ} {limit : ℕ} {least total : ℕ → �
       }
 
 -- THEOREM 3, as a program has it: the array of shares of a table of counts, on which the totals are counted.
-pub table-shares : (nodes root limit : ℕ) (helpands leasts totals table : List ℕ) → Tree nodes (at helpands) root → totals ≡ totalsOf nodes table
+pub table-shares : (nodes root limit : ℕ) (helpands leasts totals table : List ℕ)
+    → Tree nodes (at helpands) root → totals ≡ totalsOf nodes table
     → ((n : ℕ) → n < nodes → at leasts n ≡ at totals n - overHelpers nodes (at helpands) n (λ k. limit - at leasts k))
     → ((n : ℕ) → n < nodes → at leasts n ≤ limit)
-    → KeptWithin nodes (at helpands) limit (at leasts) (at totals) (held table) (at (keptShares nodes (at helpands) limit (at leasts) (at totals) (held table)))
+    → KeptWithin nodes (at helpands) limit (at leasts) (at totals) (held table)
+    (at (keptShares nodes (at helpands) limit (at leasts) (at totals) (held table)))
 table-shares nodes root limit helpands leasts totals table t e f g =
     let share : ℕ → ℕ = keptShare nodes (at helpands) limit (at leasts) (at totals) (held table) in
     kept-shares

@@ -24,7 +24,8 @@ module _ {h : ℕ → ℕ} {n : ℕ} {amount : ℕ → ℕ} {before : List ℕ} 
   noted-none = record { helper = λ k l. absurd (omega arith); other = λ k e. refl }
 
   -- from one helper to the next
-  pub noted-next : {nodes m to : ℕ} {out : List ℕ} → Noted h n amount m before out → FirstFrom nodes (helps h n) m to → Noted h n amount to before out
+  pub noted-next : {nodes m to : ℕ} {out : List ℕ} → Noted h n amount m before out → FirstFrom nodes (helps h n) m to
+      → Noted h n amount to before out
   noted-next {nodes} {m} p x =
       record {
         helper = λ k l y. elim (decLt k m) [
@@ -50,11 +51,17 @@ module _ {h : ℕ → ℕ} {n : ℕ} {amount : ℕ → ℕ} {before : List ℕ} 
       }
 
 -- where the noted amounts are those of the family of n, from the root down, no right share is lost
-pub noted-right : {nodes : ℕ} {h : ℕ → ℕ} {fill : ℕ → ℕ → ℕ → ℕ} {share : ℕ → ℕ} {n r : ℕ} {before out : List ℕ} → Descends nodes h fill share
-    → r ≡ share n → Noted h n (fill r n) nodes before out
+pub noted-right : {nodes : ℕ} {h : ℕ → ℕ} {fill : ℕ → ℕ → ℕ → ℕ} {share : ℕ → ℕ} {n r : ℕ} {before out : List ℕ}
+    → Descends nodes h fill share → r ≡ share n → Noted h n (fill r n) nodes before out
     → ((k : ℕ) → k < nodes → helps h n k ≡ true → at out k ≡ share k) × Passed nodes h share n before 0 out
-noted-right {nodes} {h} {fill} {share} {n} {r} {before} {out} d e p =
-    (right, record { below = λ i j steps l. absurd (omega arith); kept = λ j l q. kept j l q (either (helps h n j)); behind = λ j l. p .other j (λ b. absurd (omega arith)) })
+noted-right {nodes} {h} {fill} {share} {n} {r} {before} {out} d e p = (
+  right,
+  record {
+    below = λ i j steps l. absurd (omega arith);
+    kept = λ j l q. kept j l q (either (helps h n j));
+    behind = λ j l. p .other j (λ b. absurd (omega arith));
+  },
+)
   where
     right : (k : ℕ) → k < nodes → helps h n k ≡ true → at out k ≡ share k
     right k l y = p .helper k l y ∙ descends-at d n k r l y e

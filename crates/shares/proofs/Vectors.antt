@@ -30,16 +30,19 @@ sharesIn x =
     let total : ℕ → ℕ = λ n. sum nodes (λ k. heldIn (x .rows) k n) in
     keptShares nodes h (x .limit) (least nodes h total (x .limit)) total (heldIn (x .rows))
 
+abbrev pub example : ℕ → List ℕ → List (List ℕ) → List ℕ → Example
+example limit helpands rows shares = record { limit = limit; helpands = helpands; rows = rows; shares = shares }
+
 unfoldable pub examples : List Example
 examples =
     -- E with subdomain 0 held 34, 23, 30
-    record { limit = 36; helpands = 0 ∷ 0 ∷ 0 ∷ []; rows = (34 ∷ 0 ∷ 3 ∷ []) ∷ (23 ∷ 6 ∷ 0 ∷ []) ∷ (30 ∷ 0 ∷ 4 ∷ []) ∷ []; shares = 0 ∷ 23 ∷ 29 ∷ [] }
+    example 36 (0 ∷ 0 ∷ 0 ∷ []) ((34 ∷ 0 ∷ 3 ∷ []) ∷ (23 ∷ 6 ∷ 0 ∷ []) ∷ (30 ∷ 0 ∷ 4 ∷ []) ∷ []) (0 ∷ 23 ∷ 29 ∷ [])
     -- the first helper up to its space, the next one with what is left, and node 2 as owner
-    ∷ record { limit = 12; helpands = 2 ∷ 2 ∷ 2 ∷ []; rows = (2 ∷ 0 ∷ 0 ∷ []) ∷ (0 ∷ 2 ∷ 0 ∷ []) ∷ (0 ∷ 0 ∷ 30 ∷ []) ∷ []; shares = 10 ∷ 8 ∷ 0 ∷ [] }
+    ∷ example 12 (2 ∷ 2 ∷ 2 ∷ []) ((2 ∷ 0 ∷ 0 ∷ []) ∷ (0 ∷ 2 ∷ 0 ∷ []) ∷ (0 ∷ 0 ∷ 30 ∷ []) ∷ []) (10 ∷ 8 ∷ 0 ∷ [])
     -- node 1 has a share of 5, and so keeps but 5 of its own 8
-    ∷ record { limit = 10; helpands = 0 ∷ 0 ∷ 1 ∷ []; rows = (15 ∷ 0 ∷ 0 ∷ []) ∷ (0 ∷ 8 ∷ 0 ∷ []) ∷ (0 ∷ 0 ∷ 0 ∷ []) ∷ []; shares = 0 ∷ 5 ∷ 3 ∷ [] }
+    ∷ example 10 (0 ∷ 0 ∷ 1 ∷ []) ((15 ∷ 0 ∷ 0 ∷ []) ∷ (0 ∷ 8 ∷ 0 ∷ []) ∷ (0 ∷ 0 ∷ 0 ∷ []) ∷ []) (0 ∷ 5 ∷ 3 ∷ [])
     -- what a node outside the family holds is part of the rest
-    ∷ record { limit = 10; helpands = 0 ∷ 0 ∷ 1 ∷ []; rows = (2 ∷ 0 ∷ 0 ∷ []) ∷ (3 ∷ 0 ∷ 0 ∷ []) ∷ (9 ∷ 0 ∷ 0 ∷ []) ∷ []; shares = 0 ∷ 4 ∷ 0 ∷ [] }
+    ∷ example 10 (0 ∷ 0 ∷ 1 ∷ []) ((2 ∷ 0 ∷ 0 ∷ []) ∷ (3 ∷ 0 ∷ 0 ∷ []) ∷ (9 ∷ 0 ∷ 0 ∷ []) ∷ []) (0 ∷ 4 ∷ 0 ∷ [])
     ∷ []
 
 -- THEOREM. The shares of all these examples are as noted.

@@ -81,7 +81,8 @@ module _ (h : ℕ → ℕ) (n : ℕ) (f : ℕ → ℕ) where
   -- helpers that are filled in turn, each up to its room, take all that there is room for
   pub helpers-in-turn : (m x : ℕ) → overHelpers m h n (λ k. min (x - overHelpers k h n f) (f k)) ≡ min x (overHelpers m h n f)
   helpers-in-turn m x =
-      sum-eq m (λ k. only (helps h n k) (min (x - overHelpers k h n f) (f k))) (λ k. min (x - overHelpers k h n f) (only (helps h n k) (f k)))
+      sum-eq m (λ k. only (helps h n k) (min (x - overHelpers k h n f) (f k)))
+      (λ k. min (x - overHelpers k h n f) (only (helps h n k) (f k)))
       (λ k l. only-min (helps h n k) (x - overHelpers k h n f) (f k))
       ∙ sum-in-turn m (λ k. only (helps h n k) (f k)) x
 

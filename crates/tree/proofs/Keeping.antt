@@ -76,7 +76,8 @@ module _ (nodes : ℕ) (h total : ℕ → ℕ) (limit : ℕ) where
           whole = λ x n l s. omega (
             arith,
             fill-own x n,
-            helpers-eq nodes h n (fill x n) (λ k. min (total n - (limit - x) - overHelpers k h n spare) (spare k)) (λ k b y. fill-helper x n k y),
+            helpers-eq nodes h n (fill x n) (λ k. min (total n - (limit - x) - overHelpers k h n spare) (spare k))
+                (λ k b y. fill-helper x n k y),
             helpers-in-turn h n spare nodes (total n - (limit - x)),
             family-room nodes h total limit lst n x (least-is nodes h total limit r t n) (holds-at e n l) s,
           );
@@ -91,5 +92,6 @@ module _ (nodes : ℕ) (h total : ℕ → ℕ) (limit : ℕ) where
         )
 
     -- THEOREM. For every tree, counts and limit, a division within the limit exists exactly when the tree holds.
-    pub division-iff-holds : ((own : ℕ → ℕ) × (share : ℕ → ℕ) × WithinLimit nodes h total limit own share) ↔ (holds nodes h total limit ≡ true)
+    pub division-iff-holds :
+        ((own : ℕ → ℕ) × (share : ℕ → ℕ) × WithinLimit nodes h total limit own share) ↔ (holds nodes h total limit ≡ true)
     division-iff-holds = ((λ w. within-holds (w .0) (w .1) (w .2)), holds-within)

@@ -1,7 +1,6 @@
 -- Laws of `tabulate`, an array of 64 with f k at each node k and zeros behind them: its entries, and that it is known by them.
 -- Assumes nothing.
-use mathlib.Core.Path.{_≡_, refl, sym, ap, ap₂, _∙_}
-use mathlib.Core.Bool.{_&&_}
+use mathlib.Core.Path.{_≡_, refl, sym, ap, _∙_}
 use mathlib.Core.List.{List, [], _∷_}
 use Prim.Native.Nat.{ℕ, zero, suc, _+_, _-_, _≤_, _<_}
 use native.Mathlib.Decide.{ℕ-discrete, decLt}
@@ -9,8 +8,8 @@ use native.Mathlib.Omega.{arith}
 use lib.Dec.{leb}
 use lib.ListN.{length, getD, set, take, replicate, length-append, length-replicate, List·getD-append, List·getD-eq-default}
 use lib.Seq.{ext-getD, getD-append-seam, getD-set-same, getD-set-other, take-at}
-use Rattle.fold.specs.All.{all}
 use Rattle.fold.specs.Collect.{collect}
+use Rattle.fold.proofs.Tests.{all-agree}
 use Rattle.fold.proofs.Lists.{collect-eq, collect-more}
 use Rattle.words.specs.Words.{padded}
 use Rattle.words.proofs.Words.{padded-at, padded-more}
@@ -74,15 +73,11 @@ pub tabulate-eq : (nodes : ℕ) (f g : ℕ → ℕ) → ((k : ℕ) → k < nodes
 unfolding tabulate
 tabulate-eq nodes f g e = ap padded (collect-eq nodes (λ k. f k ∷ []) (λ k. g k ∷ []) (λ k l. ap (λ (x : ℕ). x ∷ []) (e k l)))
 
-within-same : (n : ℕ) (f g : ℕ → ℕ) (limit : ℕ) → ((k : ℕ) → k < n → f k ≡ g k) → primary n f limit ≡ primary n g limit
-unfolding all
-within-same zero f g limit e = refl
-within-same (suc n) f g limit e =
-    ap₂ _&&_ (within-same n f g limit (λ k l. e k (omega arith))) (ap (λ (x : ℕ). leb x limit) (e n (omega arith)))
-
 -- a test of a tabulated array against the limit is the test of what was tabulated: of the totals it is `primary`, of the leasts `holds`
 pub tabulate-within : (nodes : ℕ) (f : ℕ → ℕ) (limit : ℕ) → primary nodes (at (tabulate nodes f)) limit ≡ primary nodes f limit
-tabulate-within nodes f limit = within-same nodes (at (tabulate nodes f)) f limit (tabulate-at nodes f)
+tabulate-within nodes f limit =
+    all-agree nodes (λ k. leb (at (tabulate nodes f) k) limit) (λ k. leb (f k) limit)
+    (λ k l. ap (λ (x : ℕ). leb x limit) (tabulate-at nodes f k l))
 
 -- ---- a loop that fills an array from the front
 

@@ -92,7 +92,8 @@ module _ (s p : List ℕ) (h : Sheet) (q : Plan) (r : Read s p h q) (leasts : Li
   leasts-placed out f =
       let n : h .n ≡ readSheet s .n = ap (λ (a : SheetAnswer). a .n) (r .sheet) in
       let e = length-encode (collect (readSheet s .n) (λ k. leastIn s p k ∷ [])) in
-      ap (λ (ws : List ℕ). sets out 0 (encode ws)) (ap (take (h .n)) l ∙ take-tabulate (h .n) (leastIn s p) ∙ ap (λ (m : ℕ). collect m (λ k. leastIn s p k ∷ [])) n)
+      ap (λ (ws : List ℕ). sets out 0 (encode ws))
+      (ap (take (h .n)) l ∙ take-tabulate (h .n) (leastIn s p) ∙ ap (λ (m : ℕ). collect m (λ k. leastIn s p k ∷ [])) n)
       ∙ sets-placed (leastBytes s p) out (omega (arith, e, length-row (leastIn s p) (readSheet s .n)))
 
   pub leasts-hold : all (h .n) (λ k. leb (at leasts k) (h .limit)) ≡ holdsIn s p
@@ -101,7 +102,8 @@ module _ (s p : List ℕ) (h : Sheet) (q : Plan) (r : Read s p h q) (leasts : Li
       (holds-tabulated (h .n) (at (helpandsOf p (h .n))) (at (totalsOf (h .n) (tableOf s (h .e)))) (h .limit))
 
 -- a refusal leaves the buffer, and its number is not 0
-pub refused-both : (leasts out : List ℕ) (a : WeighAnswer) (k : ℕ) → (k ≡ 0 → ⊥) → a ≡ refused k → (refused k ≡ a) × (out ≡ bytesAfter leasts a out)
+pub refused-both : (leasts out : List ℕ) (a : WeighAnswer) (k : ℕ) → (k ≡ 0 → ⊥) → a ≡ refused k
+    → (refused k ≡ a) × (out ≡ bytesAfter leasts a out)
 refused-both leasts out a k d e = rw e (refl, rw (ne-eqb k 0 d))
 
 -- ---- one law for each way that the two readings can go

@@ -24,8 +24,8 @@ returns c =
     let h = t .before in
     let l = weighed h .leasts in
     let a = start h .args in
-    way-kept (a .nodes) (a .p) (a .limit) (now (a .table)) (a .totals) (a .t3) (l .result) (l .ensures) (h .holds .result) (h .holds .ensures)
-    (t .if1 .taken) (c .shares .result) (c .shares .ensures)
+    way-kept (a .nodes) (a .p) (a .limit) (now (a .table)) (a .totals) (a .t3) (l .result) (l .ensures) (h .holds .result)
+    (h .holds .ensures) (t .if1 .taken) (c .shares .result) (c .shares .ensures)
 
 returns-2 : tie.Need-returns-2
 returns-2 c =
@@ -33,8 +33,8 @@ returns-2 c =
     let h = t .before in
     let l = weighed h .leasts in
     let a = start h .args in
-    way-broken (a .nodes) (a .p) (a .limit) (now (a .table)) (a .totals) (a .t3) (l .result) (l .ensures) (h .holds .result) (h .holds .ensures)
-    (t .if1 .left) (c .rebuilt-plan .result) (c .rebuilt-plan .ensures)
+    way-broken (a .nodes) (a .p) (a .limit) (now (a .table)) (a .totals) (a .t3) (l .result) (l .ensures) (h .holds .result)
+    (h .holds .ensures) (t .if1 .left) (c .rebuilt-plan .result) (c .rebuilt-plan .ensures)
 
 pub weighed-plan-spec : {M : Type 1} → statement M
 weighed-plan-spec =

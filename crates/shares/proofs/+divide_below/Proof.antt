@@ -44,7 +44,7 @@ abbrev claims : ℕ → lts.Claims
 claims t = (first.Asked, first.Learnt, family.Asked, family.Learnt, Deeper t, reads.Post, next.Asked, next.Learnt)
 
 -- k is the next helper of n, or the number of nodes
-record Dividing (nodes : ℕ) (h share : ℕ → ℕ) (n : ℕ) (noted out : List ℕ) (k : ℕ) : Type 0 where
+record DividedSoFar (nodes : ℕ) (h share : ℕ → ℕ) (n : ℕ) (noted out : List ℕ) (k : ℕ) : Type 0 where
   k-le : k ≤ nodes
   helper : k < nodes → helps h n k ≡ true
   long : length out ≡ 64
@@ -52,7 +52,7 @@ record Dividing (nodes : ℕ) (h share : ℕ → ℕ) (n : ℕ) (noted out : Lis
 
 abbrev Inv : lts.InvT-loop
 Inv depth n table totals leasts helpands links nodes limit noted k₀ out k =
-    Dividing nodes (at helpands) (shareIn nodes limit helpands leasts totals table) n noted out k
+    DividedSoFar nodes (at helpands) (shareIn nodes limit helpands leasts totals table) n noted out k
 
 abbrev μ : lts.MeasureT-loop
 μ depth n table totals leasts helpands links nodes limit noted k₀ out k = nodes - k
@@ -83,12 +83,13 @@ module _ (t : ℕ) where
         let a = start .args in
         shareIn (a .nodes) (a .limit) (now (a .helpands)) (now (a .leasts)) (now (a .totals)) (now (a .table))
 
-    described : let a = start .args in
-        Descends (a .nodes) (at (now (a .helpands))) (amountsIn (a .nodes) (a .limit) (now (a .helpands)) (now (a .leasts)) (now (a .totals)) (now (a .table))) right
-    described =
+    described :
         let a = start .args in
+        let amounts = amountsIn (a .nodes) (a .limit) (now (a .helpands)) (now (a .leasts)) (now (a .totals)) (now (a .table)) in
+        Descends (a .nodes) (at (now (a .helpands))) amounts right
+    described =
         let w = start .pre .1 .0 .rooted in
-        shares-described (a .nodes) (at (now (a .helpands))) (a .limit) (at (now (a .leasts))) (at (now (a .totals))) (held (now (a .table))) (w .0) (w .1)
+        shares-described _ _ _ _ _ (held (now (start .args .table))) (w .0) (w .1)
 
   holds : lts.Need-loop-holds (claims t) (Here t) reads.Post Inv μ
   holds c =
@@ -104,8 +105,10 @@ module _ (t : ℕ) where
     helps-n : helps (at (now (start divided .args .helpands))) (start divided .args .n) (c .before .loop .k) ≡ true
     helps-n = c .before .loop .inv .helper (c .loop-test .taken)
 
-    onward : {to : ℕ} → to ≡ at (now (start divided .args .links)) (64 + c .before .loop .k)
-        → FirstFrom (start divided .args .nodes) (helps (at (now (start divided .args .helpands))) (start divided .args .n)) (c .before .loop .k + 1) to
+    onward : {to : ℕ} →
+        let a = start divided .args in
+        let k = c .before .loop .k in
+        to ≡ at (now (a .links)) (64 + k) → FirstFrom (a .nodes) (helps (at (now (a .helpands))) (a .n)) (k + 1) to
     onward e = link-next (start divided .pre .1 .0 .linked) (start divided .args .n) (c .loop-test .taken) helps-n e
 
   requires : lts.Need-divide-below-requires (claims t) (Here t) reads.Post Inv μ

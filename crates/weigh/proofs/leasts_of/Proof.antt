@@ -65,8 +65,9 @@ returns c =
     let w = h .before .before in
     let t = w .before in
     let s = before-links h in
-    leasts-read (sheet s) (plan s) (start s .args .s) (start s .pre) (t .before .before .unpack .result) (t .totals .result) (w .words-64 .result)
-    (c .leasts .result) (t .before .before .unpack .ensures) (t .totals .ensures) (w .words-64 .ensures) (c .leasts .ensures)
+    let u = t .before .before in
+    leasts-read (sheet s) (plan s) (start s .args .s) (start s .pre) (u .unpack .result) (t .totals .result) (w .words-64 .result)
+    (c .leasts .result) (u .unpack .ensures) (t .totals .ensures) (w .words-64 .ensures) (c .leasts .ensures)
 
 pub leasts-of-spec : {M : Type 1} → statement M
 leasts-of-spec =

@@ -4,41 +4,29 @@ use borrow.Author.Needs.{needs}
 use mathlib.Core.Path.{_≡_, ap, _∙_}
 use mathlib.Core.Bool.{true}
 use mathlib.Core.List.{List}
-use Prim.Native.Nat.{ℕ, _+_, _-_, _≤_, _<_, min}
+use Prim.Native.Nat.{ℕ, _+_, _-_, _≤_, _<_}
 use native.Mathlib.Omega.{arith}
 use denote.Ref.{now}
 use Rattle.fold.specs.First.{FirstFrom}
 use Rattle.fold.proofs.Sums.{sum-term}
 use Rattle.plan.specs.Tree.{at}
 use Rattle.tree.specs.Totals.{held, totalOf}
-use Rattle.tree.specs.Family.{helps, overHelpers}
+use Rattle.tree.specs.Family.{helps}
 use Rattle.tree.proofs.Tabulate.{tabulate-at}
-use Rattle.tree.proofs.Families.{helpers-none, helpers-next, helpers-more}
-use Rattle.tree.proofs.Linking.{link-first, link-next}
+use Rattle.tree.proofs.Linking.{link-first, link-next, Left, left-first, left-next, left-all}
 use Rattle.shares.specs.Inner.{keepsIn}
 use Rattle.shares.proofs.Spaces.{space-own, space-helper}
 use Rattle.shares.proofs.Amounts.{kept-sum, kept-left}
 use Rattle.shares.proofs.family.rest.Statement.{statement}
 use Rattle.shares.proofs.family.rest.Tie as tie
 
--- k is the next helper of n, or the number of nodes
-record Resting (nodes : ℕ) (h : ℕ → ℕ) (n total : ℕ) (keeps : ℕ → ℕ) (rest k : ℕ) : Type 0 where
-  k-le : k ≤ nodes
-  helper : k < nodes → helps h n k ≡ true
-  rest-is : rest ≡ total - (keeps n + overHelpers k h n keeps)
-
 abbrev Inv-loop : tie.InvT-loop
 Inv-loop table totals leasts helpands links nodes limit share n rest₀ k₀ rest k =
-    Resting nodes (at helpands) n (at totals n) (keepsIn limit helpands leasts table share n) rest k
+    let keeps = keepsIn limit helpands leasts table share n in
+    Left nodes (at helpands) n keeps (at totals n - keeps n) rest k
 
 abbrev μ-loop : tie.MeasureT-loop
 μ-loop table totals leasts helpands links nodes limit share n rest₀ k₀ rest k = nodes - k
-
--- from the helpers below m to the next one
-resting-next : {nodes : ℕ} {h : ℕ → ℕ} {n total : ℕ} {keeps : ℕ → ℕ} {rest m k : ℕ} → rest ≡ total - (keeps n + overHelpers m h n keeps)
-    → FirstFrom nodes (helps h n) m k → Resting nodes h n total keeps rest k
-resting-next {h = h} {n = n} {keeps = keeps} e x =
-    record { k-le = x .to-le; helper = x .passes; rest-is = omega (arith, e, helpers-next h n keeps x) }
 
 -- ---- the owner
 
@@ -70,8 +58,8 @@ loop-holds : tie.Need-loop-holds Inv-loop μ-loop
 loop-holds c =
     let o = c .before .before .before in
     let b = o .before in
-    let h = at (now (b .args .helpands)) in
-    resting-next (omega (arith, owner-keeps o, helpers-none h (b .args .n) (keeps b))) (link-first (b .pre .0 .linked) (b .args .n) (b .pre .1) (c .first .ensures))
+    left-first (ap (λ (x : ℕ). at (now (b .args .totals)) (b .args .n) - x) (owner-keeps o))
+    (link-first (b .pre .0 .linked) (b .args .n) (b .pre .1) (c .first .ensures))
 
 -- ---- a turn, whose helper is k
 
@@ -94,7 +82,8 @@ module _ (c : tie.After-helper Inv-loop μ-loop) where
   keeps-is : c .helper .result .keeps ≡ keeps start k
   keeps-is =
       let a = start .args in
-      omega (arith, c .helper .ensures .1, space-helper (at (now (a .helpands))) (a .limit) (at (now (a .leasts))) (a .share) (a .n) k helps-n)
+      let e = space-helper (at (now (a .helpands))) (a .limit) (at (now (a .leasts))) (a .share) (a .n) k helps-n in
+      omega (arith, c .helper .ensures .1, e)
 
   still-there : c .helper .result .keeps ≤ loop .loop .rest
   still-there =
@@ -103,30 +92,29 @@ module _ (c : tie.After-helper Inv-loop μ-loop) where
         arith,
         keeps-is,
         total-is start,
-        loop .loop .inv .rest-is,
-        kept-left (at (now (a .helpands))) (a .limit) (at (now (a .leasts))) (holding start) (a .share) (a .n) (a .nodes) k (start .pre .1) k-lt helps-n,
+        loop .loop .inv .left-is,
+        kept-left (at (now (a .helpands))) (a .limit) (at (now (a .leasts))) (holding start) (a .share) (a .n) (a .nodes) k
+            (start .pre .1) k-lt helps-n,
       )
 
-  next-first : {to : ℕ} → to ≡ at (now (start .args .links)) (64 + k) → FirstFrom (start .args .nodes) (helps (at (now (start .args .helpands))) (start .args .n)) (k + 1) to
+  next-first : {to : ℕ} →
+      let a = start .args in
+      to ≡ at (now (a .links)) (64 + k) → FirstFrom (a .nodes) (helps (at (now (a .helpands))) (a .n)) (k + 1) to
   next-first e = link-next (start .pre .0 .linked) (start .args .n) k-lt helps-n e
 
 loop-again : tie.Need-loop-again Inv-loop μ-loop
 loop-again c =
     let m = c .before .before in
-    let a = start m .args in
-    resting-next
-    (omega (arith, keeps-is m, loop m .loop .inv .rest-is, helpers-more (at (now (a .helpands))) (a .n) (keeps (start m)) (k m) (helps-n m)))
-    (next-first m (c .next .ensures))
+    left-next (loop m .loop .inv) (k-lt m) (ap (λ (x : ℕ). loop m .loop .rest - x) (keeps-is m)) (next-first m (c .next .ensures))
 
 returns : tie.Need-returns Inv-loop μ-loop
 returns c =
     let l = c .before in
     let b = l .before .before .before .before .before in
     let a = b .args in
-    let e : l .loop .k ≡ a .nodes = omega (arith, l .loop .inv .k-le) in
     omega (
       arith,
-      rw e at (l .loop .inv .rest-is),
+      left-all (l .loop .inv) (c .loop-test .left) .1,
       kept-sum (at (now (a .helpands))) (a .limit) (at (now (a .leasts))) (holding b) (a .share) (a .n) (a .nodes) (b .pre .1),
     )
 

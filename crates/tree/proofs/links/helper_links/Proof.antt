@@ -28,7 +28,10 @@ fits : (c : tie.After-helpand Inv-loop μ-loop) → at (now (c .before .before .
 fits c = omega (arith, below c, c .before .before .before .pre .0)
 
 -- the nodes behind it are linked
-behind : (c : tie.After-helpand Inv-loop μ-loop) → let l = c .before .before in let a = l .before .args in Linking (a .nodes) (at (now (a .helpands))) (here c + 1) (l .loop .links)
+behind : (c : tie.After-helpand Inv-loop μ-loop) →
+    let l = c .before .before in
+    let a = l .before .args in
+    Linking (a .nodes) (at (now (a .helpands))) (here c + 1) (l .loop .links)
 behind c =
     let l = c .before .before in
     let e : here c + 1 ≡ l .loop .k = omega arith in
@@ -37,7 +40,11 @@ behind c =
 loop-again : tie.Need-loop-again Inv-loop μ-loop
 loop-again c =
     let l = c .before .before .before in
-    (search needs, simp length-set (l .loop .inv .1), linking-helper (behind (c .before)) (l .loop .inv .1) (l .before .pre .0) (omega arith) (below (c .before)) (c .if1 .taken))
+    let b = c .before in (
+      search needs,
+      simp length-set (l .loop .inv .1),
+      linking-helper (behind b) (l .loop .inv .1) (l .before .pre .0) (omega arith) (below b) (c .if1 .taken),
+    )
 
 loop-again-2 : tie.Need-loop-again-2 Inv-loop μ-loop
 loop-again-2 c =

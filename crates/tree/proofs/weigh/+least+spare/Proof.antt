@@ -2,7 +2,7 @@
 -- `spare`. At the loop's head the helpers passed are weighed. Assumes nothing.
 use borrow.Author.Needs.{needs}
 use Prim.Native.Nat.{ℕ, _<_, _≤_, _+_, _-_}
-use mathlib.Core.Path.{_≡_, sym, ap, _∙_}
+use mathlib.Core.Path.{_≡_, refl, sym, ap, _∙_}
 use mathlib.Core.Bool.{true}
 use mathlib.Core.List.{List}
 use native.Mathlib.Omega.{arith}
@@ -10,12 +10,12 @@ use lib.ListN.{length, set, length-set}
 use borrow.Fn.Kinds.{In}
 use borrow.Fn.PlainCycle.{Measures, is, falls, and}
 use denote.Ref.{now}
+use Rattle.fold.specs.First.{FirstFrom}
 use Rattle.plan.specs.Tree.{at}
-use Rattle.tree.specs.Family.{helps, overHelpers}
+use Rattle.tree.specs.Family.{helps}
 use Rattle.tree.specs.Weigh.{least as leastOf}
 use Rattle.tree.specs.Inner.{LinkedTree, Descended}
-use Rattle.tree.proofs.Families.{helpers-none, helpers-next, helpers-more}
-use Rattle.tree.proofs.Linking.{link-first, link-next}
+use Rattle.tree.proofs.Linking.{link-first, link-next, Left, left-first, left-next, left-all}
 use Rattle.tree.proofs.Weighing.{shallow-some, shallow-helper, least-is}
 use Rattle.tree.proofs.Passing.{Passed, passed-none, passed-next, passed-helper, passed-store}
 use Rattle.tree.proofs.weigh.least.Reads as least
@@ -52,56 +52,26 @@ spare-below t = and 4 spare-kinds.ps (falls 4 spare-kinds.ps _<_ μ-spare t) spa
 abbrev claims : ℕ → least-lts.Claims
 claims t = (first.Asked, first.Learnt, spare-below t, spare.Post, less.Asked, less.Learnt, next.Asked, next.Learnt)
 
--- ---- the loop over the helpers of n
+-- ---- the loop over the helpers of n: those below k are weighed
 
--- k is the next helper, or the number of nodes, and those below k are weighed
-record Weighing (nodes : ℕ) (h total : ℕ → ℕ) (limit n : ℕ) (before out : List ℕ) (left k : ℕ) : Type 0 where
-  k-le : k ≤ nodes
-  helper : k < nodes → helps h n k ≡ true
+record WeighedSoFar (nodes : ℕ) (h total : ℕ → ℕ) (limit n : ℕ) (before out : List ℕ) (left k : ℕ) : Type 0 where
   long : length out ≡ 64
-  left-is : left ≡ total n - overHelpers k h n (λ i. limit - leastOf nodes h total limit i)
+  spared : Left nodes h n (λ i. limit - leastOf nodes h total limit i) (total n) left k
   passed : Passed nodes h (leastOf nodes h total limit) n before k out
 
-module _ {nodes : ℕ} {h : ℕ → ℕ} {links : List ℕ} (total : ℕ → ℕ) (limit n : ℕ) (before : List ℕ) (w : LinkedTree nodes h links) (l : n < nodes) where
-  begins : {k : ℕ} → length before ≡ 64 → k ≡ at links n → Weighing nodes h total limit n before before (total n) k
-  begins e q =
-      let x = link-first (w .linked) n l q in
-      let spare : ℕ → ℕ = λ i. limit - leastOf nodes h total limit i in
-      record {
-        k-le = x .to-le;
-        helper = x .passes;
-        long = e;
-        left-is = omega (arith, helpers-none h n spare, helpers-next h n spare x);
-        passed = passed-next passed-none x;
-      }
-
-  goes-on : {out after : List ℕ} {left k s to : ℕ} → Weighing nodes h total limit n before out left k → k < nodes → length after ≡ 64
-      → s ≡ limit - leastOf nodes h total limit k → Descended nodes h (leastOf nodes h total limit) k out after → to ≡ at links (64 + k)
-      → Weighing nodes h total limit n before after (left - s) to
-  goes-on {k = k} v b e q d z =
-      let y = v .helper b in
-      let x = link-next (w .linked) n b y z in
-      let spare : ℕ → ℕ = λ i. limit - leastOf nodes h total limit i in
-      record {
-        k-le = x .to-le;
-        helper = x .passes;
-        long = e;
-        left-is = omega (arith, v .left-is, helpers-more h n spare k y, helpers-next h n spare x);
-        passed = passed-next (passed-helper (v .passed) d) x;
-      }
-
-  -- what is left is the least of n, which is stored
-  ends : {out : List ℕ} {left k : ℕ} → Weighing nodes h total limit n before out left k → nodes ≤ k
-      → (left ≡ leastOf nodes h total limit n) × (length (set out n left) ≡ 64)
-      × Descended nodes h (leastOf nodes h total limit) n before (set out n left)
-  ends {out} {left} {k} v b =
-      let e : k ≡ nodes = omega (arith, v .k-le) in
-      let t = w .rooted .1 in
-      let q = (rw e at (v .left-is)) ∙ sym (least-is nodes h total limit (w .rooted .0) t n) in
-      (q, simp length-set (v .long), passed-store t l (omega (arith, v .long, w .few)) (rw e at (v .passed)) left q)
+-- what is left is the least of n, which is stored
+ends : {nodes : ℕ} {h total : ℕ → ℕ} {limit n : ℕ} {before out links : List ℕ} {left k : ℕ} → LinkedTree nodes h links → n < nodes
+    → WeighedSoFar nodes h total limit n before out left k → nodes ≤ k
+    → (left ≡ leastOf nodes h total limit n) × (length (set out n left) ≡ 64)
+    × Descended nodes h (leastOf nodes h total limit) n before (set out n left)
+ends {nodes} {h} {total} {limit} {n} {left = left} w l v b =
+    let e = left-all (v .spared) b in
+    let q = e .1 ∙ sym (least-is nodes h total limit (w .rooted .0) (w .rooted .1) n) in
+    (q, simp length-set (v .long), passed-store (w .rooted .1) l (omega (arith, v .long, w .few)) (rw (e .0) at (v .passed)) left q)
 
 abbrev Inv : least-lts.InvT-loop
-Inv depth n totals helpands links nodes limit out₀ left₀ k₀ out left k = Weighing nodes (at helpands) (at totals) limit n out₀ out left k
+Inv depth n totals helpands links nodes limit out₀ left₀ k₀ out left k =
+    WeighedSoFar nodes (at helpands) (at totals) limit n out₀ out left k
 
 abbrev μ : least-lts.MeasureT-loop
 μ depth n totals helpands links nodes limit out₀ left₀ k₀ out left k = nodes - k
@@ -114,16 +84,24 @@ module _ (t : ℕ) where
   holds : least-lts.Need-loop-holds (claims t) (least-at t) least.Post Inv μ
   holds c =
       let p = c .before .before .before .pre .1 in
-      begins _ _ _ _ (p .0) (p .1) (p .3) (c .first .ensures)
+      let x = link-first (p .0 .linked) _ (p .1) (c .first .ensures) in
+      record { long = p .3; spared = left-first refl x; passed = passed-next passed-none x }
 
   -- a turn begins
   module _ (c : least-lts.In-loop (claims t) (least-at t) least.Post Inv μ) where
     abbrev start : least-lts.Start (claims t) (least-at t) least.Post Inv μ
     start = c .before .before .before .before .before
 
-    weighing : let a = start .args in let l = c .before .loop in
-        Weighing (a .nodes) (at (now (a .helpands))) (at (now (a .totals))) (a .limit) (a .n) (now (a .leasts)) (l .leasts) (l .left) (l .k)
-    weighing = c .before .loop .inv
+    abbrev k : ℕ
+    k = c .before .loop .k
+
+    helps-n : helps (at (now (start .args .helpands))) (start .args .n) k ≡ true
+    helps-n = c .before .loop .inv .spared .helper (c .loop-test .taken)
+
+    onward : {to : ℕ} →
+        let a = start .args in
+        to ≡ at (now (a .links)) (64 + k) → FirstFrom (a .nodes) (helps (at (now (a .helpands))) (a .n)) (k + 1) to
+    onward e = link-next (start .pre .1 .0 .linked) (start .args .n) (c .loop-test .taken) helps-n e
 
   down : least-lts.Need-spare-requires (claims t) (least-at t) least.Post Inv μ
   down c κs =
@@ -131,29 +109,27 @@ module _ (t : ℕ) where
       let p = start i .pre .1 in
       let b = i .loop-test .taken in (
         omega (arith, start i .pre .0, shallow-some _ _ _ _ (p .2)),
-        (p .0, b, shallow-helper _ _ _ _ (p .2) (i .before .loop .k) b (weighing i .helper b), weighing i .long),
+        (p .0, b, shallow-helper _ _ _ _ (p .2) (k i) b (helps-n i), i .before .loop .inv .long),
       )
-
-  -- the next helper stands behind this one
-  falls-again : least-lts.Need-loop-less (claims t) (least-at t) least.Post Inv μ
-  falls-again c =
-      let i = c .before .before .before .before in
-      let b = i .loop-test .taken in
-      omega (arith, link-next (start i .pre .1 .0 .linked) (start i .args .n) b (weighing i .helper b) (c .next .ensures) .from-le)
 
   again : least-lts.Need-loop-again (claims t) (least-at t) least.Post Inv μ
   again c =
       let m = c .before in
       let d = m .before in
       let i = d .before .before in
-      let p = start i .pre .1 in
+      let v = i .before .loop .inv in
       let s = d .spare .ensures in
-      rw (m .less .ensures) (goes-on _ _ _ _ (p .0) (p .1) (weighing i) (i .loop-test .taken) (s .1) (s .0) (s .2) (c .next .ensures))
+      let x = onward i (c .next .ensures) in
+      record {
+        long = s .1;
+        spared = left-next (v .spared) (i .loop-test .taken) (m .less .ensures ∙ ap (λ (y : ℕ). i .before .loop .left - y) (s .0)) x;
+        passed = passed-next (passed-helper (v .passed) (s .2)) x;
+      }
 
   done : least-lts.Need-returns-2 (claims t) (least-at t) least.Post Inv μ
   done c =
       let p = c .before .before .before .before .before .pre .1 in
-      ends _ _ _ _ (p .0) (p .1) (c .before .loop .inv) (c .loop-test .left)
+      ends (p .0) (p .1) (c .before .loop .inv) (c .loop-test .left)
 
   spared : spare-lts.Need-returns (least-below t, least.Post, less.Asked, less.Learnt) (spare-at t) spare.Post
   spared c =
@@ -177,7 +153,7 @@ pub +least+spare-spec : {M : Type 1} → statement M
     (down t)
     (λ c κs. search needs)  -- least-less-requires
     (λ c κs. search needs)  -- least-next-requires
-    (falls-again t)
+    (λ c. omega (arith, onward t (c .before .before .before .before) (c .next .ensures) .from-le))  -- least-loop-less
     (again t)
     (λ c. search needs)  -- least-mul-leasts
     (λ c. search needs)  -- least-element-write-leasts
