@@ -10,7 +10,7 @@ use borrow.Author.Tests.{le-leb}
 use lib.Dec.{leb}
 use lib.ListN.{length, length-replicate}
 use Rattle.fold.specs.Sum.{only, sum}
-use Rattle.fold.proofs.Sums.{sum-eq, sum-zeros, sum-term}
+use Rattle.fold.proofs.Sums.{sum-zeros, sum-term}
 use Rattle.fold.proofs.Tests.{either, and-left, and-right, all-of, only-max}
 use Rattle.limit.specs.Limit.{maxNodes, maxTolerance, maxTotal, limitOf}
 use Rattle.plan.specs.Tree.{helpandsBelow, Tree}
@@ -20,11 +20,11 @@ use Rattle.tree.specs.Family.{helps, overHelpers}
 use Rattle.tree.specs.Weigh.{least, holds}
 use Rattle.tree.specs.Division.{WithinLimit, OnTarget, ownOf}
 use Rattle.arrays.specs.Arrays.{at}
+use Rattle.tree.proofs.Families.{helpers-eq}
 use Rattle.tree.proofs.Weighing.{least-is}
 use Rattle.tree.proofs.Keeping.{holds-at}
-use Rattle.shares.specs.Shares.{shareOf}
-use Rattle.shares.proofs.KeptShares.{table-shares}
-use Rattle.shares.proofs.KeptShares as shares
+use Rattle.shares.specs.Shares.{keptShare}
+use Rattle.shares.proofs.KeptShares.{KeptWithin, table-shares}
 use Rattle.rebuild.specs.Target.{targetOf}
 use Rattle.rebuild.proofs.TargetSums.{targets-within-limit, WithinTargets}
 use Rattle.rebuild.proofs.Rebuilding.{Balanced, rebuilt-on-target}
@@ -59,13 +59,17 @@ pub record Fine (nodes limit : ℕ) (totals : List ℕ) (d : Decision) : Type 0 
 pub record KeptFine (nodes limit : ℕ) (totals old : List ℕ) (d : Decision) : Type 0 where
   pub kind : d .kind ≡ 1
   pub helpands : d .helpands ≡ old
-  pub within : WithinLimit nodes (at (d .helpands)) (at totals) limit (ownOf nodes (at (d .helpands)) (at totals) (at (d .shares))) (at (d .shares))
+  pub within :
+      let own = ownOf nodes (at (d .helpands)) (at totals) (at (d .shares)) in
+      WithinLimit nodes (at (d .helpands)) (at totals) limit own (at (d .shares))
 
 -- kind 2 has a tree, and its shares are a division with every load equal to the node's target
 pub record RebuiltFine (nodes p : ℕ) (totals : List ℕ) (d : Decision) : Type 0 where
   pub kind : d .kind ≡ 2
   pub tree : (r : ℕ) × Tree nodes (at (d .helpands)) r
-  pub on-target : OnTarget nodes (at (d .helpands)) (at totals) (targetOf nodes p) (ownOf nodes (at (d .helpands)) (at totals) (at (d .shares))) (at (d .shares))
+  pub on-target :
+      let own = ownOf nodes (at (d .helpands)) (at totals) (at (d .shares)) in
+      OnTarget nodes (at (d .helpands)) (at totals) (targetOf nodes p) own (at (d .shares))
 
 module _ (nodes p t : ℕ) (table totals : List ℕ) (tree : Bool) (old : List ℕ) (g : Given nodes p t table totals tree old) where
   abbrev limit : ℕ
@@ -81,8 +85,11 @@ module _ (nodes p t : ℕ) (table totals : List ℕ) (tree : Bool) (old : List �
   not-alone : primary nodes (at totals) limit ≡ false → nodes ≢ 1
   not-alone f e =
       true≢false
-      (sym (all-of nodes (λ n. leb (at totals n) limit) (λ n l. le-leb (at totals n) limit (omega (arith, sum-term nodes (at totals) n l, g .adds, bounds .room, ap (λ (m : ℕ). m * limit) e))))
+      (sym (all-of nodes (λ n. leb (at totals n) limit) (λ n l. le-leb (at totals n) limit (within n l)))
       ∙ f)
+    where
+      within : (n : ℕ) → n < nodes → at totals n ≤ limit
+      within n l = omega (arith, sum-term nodes (at totals) n l, g .adds, bounds .room, ap (λ (m : ℕ). m * limit) e)
 
   -- ---- primary
 
@@ -92,13 +99,18 @@ module _ (nodes p t : ℕ) (table totals : List ℕ) (tree : Bool) (old : List �
       record {
         read-back =
             roots-read-written nodes limit (primaryPlan nodes .helpands) (primaryPlan nodes .shares) (g .few) (bounds .written)
-            (omega (arith, length-tabulate nodes (λ j. j) (g .few), g .few)) (omega (arith, length-replicate {A = ℕ} 64 0, g .few)) (g .some) own (λ k l. zeros-at 64 k);
+            (omega (arith, length-tabulate nodes (λ j. j) (g .few), g .few)) (omega (arith, length-replicate {A = ℕ} 64 0, g .few))
+            (g .some) own (λ k l. zeros-at 64 k);
         inside = λ k l. omega (arith, own k l);
         enough = λ n l.
             omega (
               arith,
               sum-zeros nodes (λ k. only (helps (at (primaryPlan nodes .helpands)) n k) (at (primaryPlan nodes .shares) k))
-                  (λ k b. omega (arith, only-max (helps (at (primaryPlan nodes .helpands)) n k) (at (primaryPlan nodes .shares) k), zeros-at 64 k)),
+                  (λ k b. omega (
+                    arith,
+                    only-max (helps (at (primaryPlan nodes .helpands)) n k) (at (primaryPlan nodes .shares) k),
+                    zeros-at 64 k,
+                  )),
             );
       }
 
@@ -111,24 +123,27 @@ module _ (nodes p t : ℕ) (table totals : List ℕ) (tree : Bool) (old : List �
     least-at : (k : ℕ) → k < nodes → at leasts k ≡ least nodes (at old) (at totals) limit k
     least-at k l = tabulate-at nodes (least nodes (at old) (at totals) limit) k l
 
-    kept-shares : shares.Kept nodes (at old) limit (at leasts) (at totals) (held table) (at (keptPlan nodes limit table totals old .shares))
+    kept-shares : KeptWithin nodes (at old) limit (at leasts) (at totals) (held table) (at (keptPlan nodes limit table totals old .shares))
     kept-shares =
         table-shares nodes r limit old leasts totals table rooted (g .counted)
         (λ n l. least-at n l ∙ least-is nodes (at old) (at totals) limit r rooted n ∙ ap (λ (x : ℕ). at totals n - x) (sym (spares n)))
         (λ n l. omega (arith, least-at n l, holds-at nodes (at old) (at totals) limit h n l))
       where
-        spares : (n : ℕ) → overHelpers nodes (at old) n (λ k. limit - at leasts k) ≡ overHelpers nodes (at old) n (λ k. limit - least nodes (at old) (at totals) limit k)
-        spares n =
-            sum-eq nodes (λ k. only (helps (at old) n k) (limit - at leasts k)) (λ k. only (helps (at old) n k) (limit - least nodes (at old) (at totals) limit k))
-            (λ k l. ap (λ (x : ℕ). only (helps (at old) n k) (limit - x)) (least-at k l))
+        spare : ℕ → ℕ
+        spare k = limit - least nodes (at old) (at totals) limit k
+
+        spares : (n : ℕ) → overHelpers nodes (at old) n (λ k. limit - at leasts k) ≡ overHelpers nodes (at old) n spare
+        spares n = helpers-eq nodes (at old) n (λ k. limit - at leasts k) spare (λ k l y. ap (λ (x : ℕ). limit - x) (least-at k l))
 
     kept-fine : primary nodes (at totals) limit ≡ false → Fine nodes limit totals (keptPlan nodes limit table totals old)
     kept-fine f =
         record {
           read-back =
-              tree-read-written nodes limit old (keptPlan nodes limit table totals old .shares) (g .few) (bounds .written) (omega (arith, g .long, g .few))
-              (omega (arith, length-tabulate nodes (shareOf nodes (at old) limit (at leasts) (at totals) (held table)) (g .few), g .few)) 1 r (λ z. omega arith) (omega arith)
-              (not-alone f) rooted (kept-shares .most) (kept-shares .root r (rooted .root) (rooted .own));
+              let share = keptShare nodes (at old) limit (at leasts) (at totals) (held table) in
+              tree-read-written nodes limit old (keptPlan nodes limit table totals old .shares) (g .few) (bounds .written)
+              (omega (arith, g .long, g .few)) (omega (arith, length-tabulate nodes share (g .few), g .few))
+              1 r (λ z. omega arith) (omega arith) (not-alone f) rooted (kept-shares .most)
+              (kept-shares .root r (rooted .root) (rooted .own));
           inside = rooted .inside;
           enough = kept-shares .enough;
         }
@@ -138,7 +153,9 @@ module _ (nodes p t : ℕ) (table totals : List ℕ) (tree : Bool) (old : List �
 
   -- ---- rebuilt
 
-  rebuilt : (r : ℕ) × Balanced nodes p totals (record { helpands = rebuiltPlan nodes p totals old .helpands; shares = rebuiltPlan nodes p totals old .shares }) r
+  rebuilt :
+      let d = rebuiltPlan nodes p totals old in
+      (r : ℕ) × Balanced nodes p totals (record { helpands = d .helpands; shares = d .shares }) r
   rebuilt =
       let b = rebuilt-on-target nodes p totals old (g .some) (g .few) (g .below) totals-long (g .adds) in (b .0, b .2)
 
@@ -168,7 +185,9 @@ module _ (nodes p t : ℕ) (table totals : List ℕ) (tree : Bool) (old : List �
   unfolding decided
   decided-fine = by-load (either (primary nodes (at totals) limit))
     where
-      by-tree : primary nodes (at totals) limit ≡ false → (tree && holds nodes (at old) (at totals) limit ≡ true) ⊎ (tree && holds nodes (at old) (at totals) limit ≡ false) → Fine nodes limit totals decision
+      by-tree : primary nodes (at totals) limit ≡ false
+          → (tree && holds nodes (at old) (at totals) limit ≡ true) ⊎ (tree && holds nodes (at old) (at totals) limit ≡ false)
+          → Fine nodes limit totals decision
       by-tree f (inl h) =
           let r = g .rooted (and-left tree (holds nodes (at old) (at totals) limit) h) in
           rw (f, h) (kept-fine (r .0) (r .1) (and-right tree (holds nodes (at old) (at totals) limit) h) f)
@@ -179,11 +198,13 @@ module _ (nodes p t : ℕ) (table totals : List ℕ) (tree : Bool) (old : List �
       by-load (inr f) = by-tree f (either (tree && holds nodes (at old) (at totals) limit))
 
   -- THEOREM. Where a tree is needed, an old tree that holds is kept, and its shares are a division within the limit.
-  pub decided-kept : primary nodes (at totals) limit ≡ false → tree ≡ true → holds nodes (at old) (at totals) limit ≡ true → KeptFine nodes limit totals old decision
+  pub decided-kept : primary nodes (at totals) limit ≡ false → tree ≡ true → holds nodes (at old) (at totals) limit ≡ true
+      → KeptFine nodes limit totals old decision
   unfolding decided
   decided-kept f e h = let r = g .rooted e in rw (f, e, h) (kept-way (r .0) (r .1) h)
 
   -- THEOREM. Where a tree is needed and there is none that holds, the new one puts every node on its target.
-  pub decided-rebuilt : primary nodes (at totals) limit ≡ false → (tree && holds nodes (at old) (at totals) limit) ≡ false → RebuiltFine nodes p totals decision
+  pub decided-rebuilt : primary nodes (at totals) limit ≡ false → (tree && holds nodes (at old) (at totals) limit) ≡ false
+      → RebuiltFine nodes p totals decision
   unfolding decided
   decided-rebuilt f h = rw (f, h) rebuilt-way

@@ -9,7 +9,7 @@ use Rattle.arrays.specs.Arrays.{at}
 use Rattle.sheet.specs.Table.{held}
 use Rattle.tree.specs.Weigh.{holds}
 use Rattle.tree.proofs.Weighing.{holds-tabulated}
-use Rattle.shares.specs.Shares.{sharesOf}
+use Rattle.shares.specs.Shares.{keptShares}
 use Rattle.decide.specs.declared.Decision.{Decision}
 use Rattle.decide.specs.Decide.{primaryPlan, leastsOf, rebuiltPlan, treePlan, decided}
 use Rattle.tree.specs.Primary.{primary}
@@ -19,13 +19,18 @@ module _ (nodes p limit : ℕ) (table totals old : List ℕ) where
 
   module _ (leasts : List ℕ) (l : leasts ≡ leastsOf nodes old totals limit) where
     tested : (b : Bool) → b ≡ all nodes (λ n. leb (at leasts n) limit) → holds nodes (at old) (at totals) limit ≡ b
-    tested b e = sym (holds-tabulated nodes (at old) (at totals) limit) ∙ ap (λ (xs : List ℕ). all nodes (λ n. leb (at xs n) limit)) (sym l) ∙ sym e
+    tested b e =
+        sym (holds-tabulated nodes (at old) (at totals) limit)
+        ∙ ap (λ (xs : List ℕ). all nodes (λ n. leb (at xs n) limit)) (sym l)
+        ∙ sym e
 
     pub way-kept : (b : Bool) → b ≡ all nodes (λ n. leb (at leasts n) limit) → b ≡ true
-        → (shares : List ℕ) → shares ≡ sharesOf nodes (at old) limit (at leasts) (at totals) (held table)
+        → (shares : List ℕ) → shares ≡ keptShares nodes (at old) limit (at leasts) (at totals) (held table)
         → record { kind = 1; helpands = old; shares = shares } ≡ treePlan nodes p limit table totals true old
     way-kept b e t shares s =
-        rw (tested b e, t) (ap (λ (xs : List ℕ). record { kind = 1; helpands = old; shares = xs }) (s ∙ ap (λ (xs : List ℕ). sharesOf nodes (at old) limit (at xs) (at totals) (held table)) l))
+        rw (tested b e, t)
+        (ap (λ (xs : List ℕ). record { kind = 1; helpands = old; shares = xs })
+        (s ∙ ap (λ (xs : List ℕ). keptShares nodes (at old) limit (at xs) (at totals) (held table)) l))
 
     pub way-broken : (b : Bool) → b ≡ all nodes (λ n. leb (at leasts n) limit) → b ≡ false
         → (d : Decision) → d ≡ rebuiltPlan nodes p totals old → d ≡ treePlan nodes p limit table totals true old

@@ -6,7 +6,7 @@ use lib.ListN.{replicate}
 use Rattle.arrays.specs.Arrays.{at, tabulate}
 use Rattle.sheet.specs.Table.{held}
 use Rattle.tree.specs.Weigh.{least, holds}
-use Rattle.shares.specs.Shares.{sharesOf}
+use Rattle.shares.specs.Shares.{keptShares}
 use Rattle.rebuild.specs.Rebuild.{rebuiltOf}
 use Rattle.decide.specs.declared.Decision.{Decision}
 use Rattle.tree.specs.Primary.{primary}
@@ -28,12 +28,13 @@ abbrev pub keptPlan : ℕ → ℕ → List ℕ → List ℕ → List ℕ → Dec
 keptPlan nodes limit table totals old = record {
   kind = 1;
   helpands = old;
-  shares = sharesOf nodes (at old) limit (at (leastsOf nodes old totals limit)) (at totals) (held table);
+  shares = keptShares nodes (at old) limit (at (leastsOf nodes old totals limit)) (at totals) (held table);
 }
 
 -- kind 2, rebuilt for a total of p
 abbrev pub rebuiltPlan : ℕ → ℕ → List ℕ → List ℕ → Decision
-rebuiltPlan nodes p totals old = record { kind = 2; helpands = rebuiltOf nodes p totals old .helpands; shares = rebuiltOf nodes p totals old .shares }
+rebuiltPlan nodes p totals old =
+    record { kind = 2; helpands = rebuiltOf nodes p totals old .helpands; shares = rebuiltOf nodes p totals old .shares }
 
 -- a tree is needed: the old one is kept if there is one and it holds
 abbrev pub treePlan : ℕ → ℕ → ℕ → List ℕ → List ℕ → Bool → List ℕ → Decision

@@ -73,12 +73,13 @@ fn weighed_plan(
     ensures { λ r. ⌜ r ≡ treePlan nodes p limit (now (table .entry)) totals true old ⌝ }
 {
     let root = tree::weigh::find_root(old, nodes);
-    let leasts = tree::weigh::leasts(totals, old, nodes, root, limit);
+    let links = tree::links::helper_links(&old, nodes);
+    let leasts = tree::weigh::leasts(totals, old, &links, nodes, root, limit);
     if tree::weigh::holds(leasts, nodes, limit) {
         return Decision {
             kind: 1,
             helpands: old,
-            shares: shares::shares(table, totals, leasts, old, nodes, root, limit),
+            shares: shares::shares(table, totals, leasts, old, &links, nodes, root, limit),
         };
     }
     rebuilt_plan(totals, old, nodes, p)

@@ -17,8 +17,9 @@ use Rattle.plan.specs.Write.{planBytes}
 use Rattle.moves.specs.Write.{movesBytes}
 use Rattle.arrays.specs.Arrays.{tabulate}
 use Rattle.tree.specs.Weigh.{leastWithin}
-use Rattle.shares.specs.Fill.{ahead, fill}
-use Rattle.shares.specs.Shares.{space, amount, shareWithin}
+use Rattle.tree.specs.Down.{down}
+use Rattle.shares.specs.Fill.{fill}
+use Rattle.shares.specs.Shares.{space, amount}
 use Rattle.rebuild.specs.Target.{targetOf}
 use Rattle.rebuild.specs.Rebuild.{turnOf, startOf, runOf, finishOf, rebuiltOf}
 use Rattle.transfer.specs.Due.{dueWith}
@@ -30,7 +31,7 @@ use Rattle.planner.specs.Worked.{steps, expected, outcome}
 -- THEOREM. On steps A to K the definitions of *plan a step* give the answers, the plans and the moves of the list.
 pub steps-worked : map outcome steps ≡ map expected steps
 unfolding steps readSheet readHeader words encode rising runningSum limitOf readOld readPlan headAnswer arraysAnswer all sum reaches
-    tableOf countsFrom countAt tabulate collect decided leastWithin shareWithin amount space ahead fill rebuiltOf startOf runOf
+    tableOf countsFrom countAt tabulate collect decided leastWithin down amount space fill rebuiltOf startOf runOf
     turnOf finishOf targetOf best decisionIn planIn planBytes movesOf movesIn movesBytes dueWith matched writtenAnswer
     stepAnswer
 steps-worked = refl

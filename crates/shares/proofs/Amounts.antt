@@ -1,79 +1,78 @@
 -- What the members of one family get: laws of `amount`. They rest on what `fill` promises, in whatever order it fills. Assumes
 -- nothing.
-use mathlib.Core.Path.{_≡_, sym, ap, _∙_}
-use mathlib.Core.List.{List}
+use mathlib.Core.Path.{_≡_}
+use mathlib.Core.Bool.{true}
 use Prim.Native.Nat.{ℕ, _+_, _-_, _≤_, _<_, min}
 use native.Mathlib.Omega.{arith}
-use Rattle.fold.specs.Sum.{sum}
-use Rattle.fold.proofs.Sums.{sum-le, sum-eq, sum-add, sum-more, sum-split}
-use Rattle.arrays.specs.Arrays.{at, tabulate}
-use Rattle.shares.specs.Fill.{room, fill}
+use Rattle.fold.specs.Sum.{only, sum}
+use Rattle.fold.proofs.Sums.{sum-le, sum-fewer}
+use Rattle.tree.specs.Family.{helps, overHelpers}
+use Rattle.tree.proofs.Families.{helpers-eq, helpers-add, helpers-more}
+use Rattle.shares.specs.Fill.{room}
 use Rattle.shares.specs.Shares.{space, kept, rest, amount}
-use Rattle.shares.proofs.FillLaws.{fill-eq, fill-space, fill-keeps, fill-sum}
-use Rattle.arrays.proofs.Tabulate.{tabulate-at, tabulate-eq}
+use Rattle.shares.proofs.Spaces.{space-own, space-helper, family-part}
+use Rattle.shares.proofs.FillLaws.{fill-space, fill-keeps, fill-whole}
 
--- a sum over fewer numbers is no larger
-sum-fewer : (m n : ℕ) (f : ℕ → ℕ) → m ≤ n → sum m f ≤ sum n f
-sum-fewer m n f h =
-    let e : m + (n - m) ≡ n = omega arith in
-    omega (arith, ap (λ (j : ℕ). sum j f) e, sum-split m (n - m) f)
+module _ (h : ℕ → ℕ) (limit : ℕ) (least holding : ℕ → ℕ) (r n : ℕ) where
+  abbrev spaces : ℕ → ℕ
+  spaces = space h limit least r n
 
--- what one member more keeps is still there
-pub kept-left : (nodes k : ℕ) (spaces holding : ℕ → ℕ) → k < nodes → kept spaces holding k + sum k (kept spaces holding) ≤ sum nodes holding
-kept-left nodes k spaces holding h =
-    omega (
-      arith,
-      sum-more k (kept spaces holding),
-      sum-le (k + 1) (kept spaces holding) holding (λ j l. omega arith),
-      sum-fewer (k + 1) nodes holding (omega arith),
-    )
+  abbrev keeps : ℕ → ℕ
+  keeps = kept (space h limit least r n) holding
+
+  -- what all members keep
+  pub kept-sum : (nodes : ℕ) → n < nodes → sum nodes keeps ≡ keeps n + overHelpers nodes h n keeps
+  kept-sum = family-part h limit least r n keeps (λ k. omega arith)
+
+  -- what one helper more keeps is still there
+  pub kept-left : (nodes k : ℕ) → n < nodes → k < nodes → helps h n k ≡ true
+      → keeps n + overHelpers k h n keeps + keeps k ≤ sum nodes holding
+  kept-left nodes k l b y =
+      omega (
+        arith,
+        helpers-more h n keeps k y,
+        sum-fewer (k + 1) nodes (λ j. only (helps h n j) (keeps j)) (omega arith),
+        kept-sum nodes l,
+        sum-le nodes keeps holding (λ j c. omega arith),
+      )
+
+  -- what is kept and the rooms make up the spaces
+  rooms-sum : (nodes : ℕ)
+      → overHelpers nodes h n (room spaces keeps) + overHelpers nodes h n keeps ≡ overHelpers nodes h n (λ k. limit - least k)
+  rooms-sum nodes =
+      omega (
+        arith,
+        helpers-add nodes h n (room spaces keeps) keeps,
+        helpers-eq nodes h n (λ k. room spaces keeps k + keeps k) (λ k. limit - least k)
+            (λ k b y. omega (arith, space-helper h limit least r n k y)),
+      )
 
 module _ (nodes : ℕ) (h : ℕ → ℕ) (limit : ℕ) (least total : ℕ → ℕ) (held : ℕ → ℕ → ℕ) (r n : ℕ) where
-  -- the amounts from the arrays of the spaces and of what is kept
-  pub amount-arrays : (ss ks : List ℕ) (x : ℕ) → n < nodes → ss ≡ tabulate nodes (space h limit least r n)
-      → ks ≡ tabulate nodes (kept (space h limit least r n) (λ j. held j n)) → x ≡ rest nodes (total n) (kept (space h limit least r n) (λ j. held j n))
-      → tabulate nodes (fill n (at ss) (at ks) x) ≡ tabulate nodes (amount nodes h limit least total held r n)
+  abbrev given : ℕ → ℕ
+  given = amount nodes h limit least total held r n
+
+  -- no member gets more than its space, or less than it keeps
+  pub amount-space : (k : ℕ) → given k ≤ space h limit least r n k
   unfolding amount
-  amount-arrays ss ks x l es ek ex =
-      tabulate-eq nodes (fill n (at ss) (at ks) x) (amount nodes h limit least total held r n)
-      (λ k lk.
-      fill-eq nodes n (at ss) (space h limit least r n) (at ks) (kept (space h limit least r n) (λ j. held j n)) x k l lk
-      (λ j lj. rw es (tabulate-at nodes (space h limit least r n) j lj))
-      (λ j lj. rw ek (tabulate-at nodes (kept (space h limit least r n) (λ j. held j n)) j lj))
-      ∙ ap (λ (y : ℕ). fill n (space h limit least r n) (kept (space h limit least r n) (λ j. held j n)) y k) ex)
+  amount-space k = fill-space h n (space h limit least r n) _ _ k (omega arith)
 
-  -- ---- no member gets more than its space, or less than it keeps
-
-  pub amount-space : (k : ℕ) → amount nodes h limit least total held r n k ≤ space h limit least r n k
+  pub amount-keeps : (k : ℕ) → min (space h limit least r n k) (held k n) ≤ given k
   unfolding amount
-  amount-space k =
-      let s = space h limit least r n in
-      fill-space n s (kept s (λ j. held j n)) (rest nodes (total n) (kept s (λ j. held j n))) k (omega arith)
+  amount-keeps k = fill-keeps h n (space h limit least r n) (kept (space h limit least r n) (λ j. held j n)) _ k
 
-  pub amount-keeps : (k : ℕ) → min (space h limit least r n k) (held k n) ≤ amount nodes h limit least total held r n k
+  -- and the members get all, where they have space for it
+  pub amount-whole : n < nodes → sum nodes (λ k. held k n) ≡ total n → total n ≤ limit - r + overHelpers nodes h n (λ k. limit - least k)
+      → given n + overHelpers nodes h n given ≡ total n
   unfolding amount
-  amount-keeps k =
-      let s = space h limit least r n in
-      fill-keeps n s (kept s (λ j. held j n)) (rest nodes (total n) (kept s (λ j. held j n))) k
-
-  -- ---- and the members get all, where they have space for it
-
-  pub amount-sum : n < nodes → sum nodes (λ k. held k n) ≡ total n → total n ≤ sum nodes (space h limit least r n)
-      → sum nodes (amount nodes h limit least total held r n) ≡ total n
-  unfolding amount
-  amount-sum l e f =
-      fill-sum nodes n l s ks (rest nodes (total n) ks) (omega (arith, rooms)) ∙ there
-    where
-      s : ℕ → ℕ
-      s = space h limit least r n
-
-      ks : ℕ → ℕ
-      ks = kept (space h limit least r n) (λ j. held j n)
-
-      rooms : sum nodes (room s ks) + sum nodes ks ≡ sum nodes s
-      rooms =
-          sym (sum-add nodes (room s ks) ks)
-          ∙ sum-eq nodes (λ k. room s ks k + ks k) s (λ k b. omega arith)
-
-      there : sum nodes ks + rest nodes (total n) ks ≡ total n
-      there = omega (arith, sum-le nodes ks (λ k. held k n) (λ k b. omega arith))
+  amount-whole l e f =
+      let s : ℕ → ℕ = space h limit least r n in
+      let ks : ℕ → ℕ = kept s (λ j. held j n) in
+      let whole = kept-sum h limit least (λ j. held j n) r n nodes l in
+      let under = sum-le nodes ks (λ k. held k n) (λ k b. omega arith) in
+      omega (
+        arith,
+        fill-whole h n s ks (rest nodes (total n) ks) nodes
+            (omega (arith, space-own h limit least r n, rooms-sum h limit least (λ j. held j n) r n nodes, whole, under)),
+        whole,
+        under,
+      )

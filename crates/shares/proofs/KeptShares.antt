@@ -9,28 +9,39 @@ use Rattle.fold.specs.Sum.{sum}
 use Rattle.plan.specs.Tree.{Tree}
 use Rattle.sheet.specs.Table.{held}
 use Rattle.tree.specs.Family.{helps, overHelpers}
+use Rattle.tree.specs.Down.{Descends}
 use Rattle.tree.specs.Division.{WithinLimit, ownOf}
-use Rattle.shares.specs.Shares.{space, amount, sharesOf, RootDown}
 use Rattle.arrays.specs.Arrays.{at}
-use Rattle.shares.proofs.Families.{helps-of, helper-below}
-use Rattle.shares.proofs.Spaces.{space-own, space-helper, spaces-sum}
-use Rattle.shares.proofs.Amounts.{amount-space, amount-keeps, amount-sum}
-use Rattle.shares.proofs.Filling.{Fitting, share-spare, shares-most, own-given, filled-within}
-use Rattle.shares.proofs.Levels.{array-described}
+use Rattle.tree.proofs.Filling.{Fills, family-room, share-spare, helpers-most, own-filled, descends-within}
+use Rattle.tree.proofs.Filling.{down-descends, descends-only, descends-at, descends-same}
+use Rattle.shares.specs.Shares.{amount, keptShare, keptShares}
+use Rattle.shares.proofs.Spaces.{space-own, space-helper}
+use Rattle.shares.proofs.Amounts.{amount-space, amount-keeps, amount-whole}
 use Rattle.arrays.proofs.Tabulate.{tabulate-at}
 use Rattle.sheet.specs.Totals.{totalOf, totalsOf}
+
+-- ---- the shares are those that document 01 describes, with no word of a depth
+
+module _ (nodes : ℕ) (h : ℕ → ℕ) (limit : ℕ) (least total : ℕ → ℕ) (held : ℕ → ℕ → ℕ) (root : ℕ) (t : Tree nodes h root) where
+  -- THEOREM. The share is 0 for the root, and for each other node its amount in its helpand's family, with its helpand's share.
+  pub shares-described : Descends nodes h (amount nodes h limit least total held) (keptShare nodes h limit least total held)
+  shares-described = down-descends nodes h (amount nodes h limit least total held) root t
+
+  -- THEOREM. There are no others.
+  pub shares-only : (share : ℕ → ℕ) → Descends nodes h (amount nodes h limit least total held) share
+      → (k : ℕ) → k < nodes → share k ≡ keptShare nodes h limit least total held k
+  shares-only = descends-only nodes h (amount nodes h limit least total held) root t
 
 -- ---- a tree that holds, with its leasts, and holdings that add up to the totals
 
 pub record Holding (nodes : ℕ) (h : ℕ → ℕ) (limit : ℕ) (least total : ℕ → ℕ) (held : ℕ → ℕ → ℕ) : Type 0 where
-  pub inside : (k : ℕ) → k < nodes → h k < nodes
   pub leasts : (n : ℕ) → n < nodes → least n ≡ total n - overHelpers nodes h n (λ k. limit - least k)
   pub holds : (n : ℕ) → n < nodes → least n ≤ limit
   pub adds : (n : ℕ) → n < nodes → sum nodes (λ k. held k n) ≡ total n
 
 -- ---- what is shown of the shares
 
-pub record Kept (nodes : ℕ) (h : ℕ → ℕ) (limit : ℕ) (least total : ℕ → ℕ) (held : ℕ → ℕ → ℕ) (share : ℕ → ℕ) : Type 0 where
+pub record KeptWithin (nodes : ℕ) (h : ℕ → ℕ) (limit : ℕ) (least total : ℕ → ℕ) (held : ℕ → ℕ → ℕ) (share : ℕ → ℕ) : Type 0 where
   -- they are a rival's division
   pub within : WithinLimit nodes h total limit (ownOf nodes h total share) share
   -- what a plan needs to be written
@@ -44,67 +55,60 @@ pub record Kept (nodes : ℕ) (h : ℕ → ℕ) (limit : ℕ) (least total : ℕ
   pub helper-space : (n k : ℕ) → k < nodes → helps h n k ≡ true → share k ≤ limit - least k
   pub helper-keeps : (n k : ℕ) → k < nodes → helps h n k ≡ true → min (limit - least k) (held k n) ≤ share k
 
-module _ {nodes : ℕ} {h : ℕ → ℕ} {limit : ℕ} {least total : ℕ → ℕ} {held : ℕ → ℕ → ℕ} (t : Holding nodes h limit least total held) (share : ℕ → ℕ) (s : RootDown nodes h limit least total held share) where
-  given : ℕ → ℕ → ℕ
-  given n k = amount nodes h limit least total held (share n) n k
-
-  fitting : Fitting nodes h limit least share given
-  unfolding given
-  fitting = record {
-    inside = t .inside;
-    root = s .root;
-    helper = s .helper;
-    spaces = λ n k l. amount-space nodes h limit least total held (share n) n k;
-  }
-
-  -- an owner's share leaves space for its least, so its family has space for all
-  wide : (n : ℕ) → n < nodes → total n ≤ sum nodes (space h limit least (share n) n)
-  wide n l = omega (arith, spaces-sum nodes h n l limit least (share n), share-spare fitting n l, t .holds n l, t .leasts n l)
-
-  adds : (n : ℕ) → n < nodes → sum nodes (given n) ≡ total n
-  unfolding given
-  adds n l = amount-sum nodes h limit least total held (share n) n l (t .adds n l) (wide n l)
+module _ {nodes : ℕ} {h : ℕ → ℕ} {limit : ℕ} {least total : ℕ → ℕ} {held : ℕ → ℕ → ℕ} (t : Holding nodes h limit least total held) where
+  -- the amounts fill each family
+  fills : Fills nodes h total limit least (amount nodes h limit least total held)
+  fills =
+      record {
+        owner = λ r n. omega (arith, amount-space nodes h limit least total held r n n, space-own h limit least r n);
+        helper = λ r n k y. omega (arith, amount-space nodes h limit least total held r n k, space-helper h limit least r n k y);
+        whole = λ r n l s.
+            amount-whole nodes h limit least total held r n l (t .adds n l)
+            (family-room nodes h total limit least n r (t .leasts n l) (t .holds n l) s);
+      }
 
   -- THEOREM 3. Shares from the root down in a tree that holds are a division within the limit, and keep in place what they can.
-  pub kept-shares : Kept nodes h limit least total held share
-  unfolding given
-  kept-shares = record {
-    within = filled-within fitting adds;
-    root = s .root;
-    most = λ k l. omega (arith, share-spare fitting k l);
-    enough = shares-most fitting adds;
-    own-space = λ n l. omega (arith, own-given fitting adds n l, fitting .spaces n n l, space-own h limit least (share n) n n refl);
-    own-keeps = λ n l. omega (
-      arith,
-      own-given fitting adds n l,
-      amount-keeps nodes h limit least total held (share n) n n,
-      space-own h limit least (share n) n n refl,
-    );
-    helper-space = λ n k l y. share-spare fitting k l;
-    helper-keeps = λ n k l y.
-        let e = helps-of h n k y in
-        let d = helper-below h n k y in
-        omega (
-          arith,
-          s .helper k l d,
-          amount-keeps nodes h limit least total held (share (h k)) (h k) k,
-          space-helper h limit least (share (h k)) (h k) k (λ q. d (sym q)) refl,
-          ap (held k) e,
-        );
-  }
+  pub kept-shares : (share : ℕ → ℕ) → Descends nodes h (amount nodes h limit least total held) share
+      → KeptWithin nodes h limit least total held share
+  kept-shares share s =
+      record {
+        within = descends-within fills s;
+        root = s .root;
+        most = λ k l. omega (arith, share-spare fills s k l);
+        enough = helpers-most fills s;
+        own-space = λ n l. omega (arith, own-filled fills s n l, fills .owner (share n) n);
+        own-keeps = λ n l.
+            omega (
+              arith,
+              own-filled fills s n l,
+              amount-keeps nodes h limit least total held (share n) n n,
+              space-own h limit least (share n) n,
+            );
+        helper-space = λ n k l y. share-spare fills s k l;
+        helper-keeps = λ n k l y.
+            omega (
+              arith,
+              descends-at s n k (share n) l y refl,
+              amount-keeps nodes h limit least total held (share n) n k,
+              space-helper h limit least (share n) n k y,
+            );
+      }
 
 -- THEOREM 3, as a program has it: the array of shares of a table of counts, on which the totals are counted.
-pub table-shares : (nodes root limit : ℕ) (helpands leasts totals table : List ℕ) → Tree nodes (at helpands) root → totals ≡ totalsOf nodes table
+pub table-shares : (nodes root limit : ℕ) (helpands leasts totals table : List ℕ)
+    → Tree nodes (at helpands) root → totals ≡ totalsOf nodes table
     → ((n : ℕ) → n < nodes → at leasts n ≡ at totals n - overHelpers nodes (at helpands) n (λ k. limit - at leasts k))
     → ((n : ℕ) → n < nodes → at leasts n ≤ limit)
-    → Kept nodes (at helpands) limit (at leasts) (at totals) (held table) (at (sharesOf nodes (at helpands) limit (at leasts) (at totals) (held table)))
+    → KeptWithin nodes (at helpands) limit (at leasts) (at totals) (held table)
+    (at (keptShares nodes (at helpands) limit (at leasts) (at totals) (held table)))
 table-shares nodes root limit helpands leasts totals table t e f g =
+    let share : ℕ → ℕ = keptShare nodes (at helpands) limit (at leasts) (at totals) (held table) in
     kept-shares
     (record {
-      inside = t .inside;
       leasts = f;
       holds = g;
       adds = λ n l. sym (ap (λ (xs : List ℕ). at xs n) e ∙ tabulate-at nodes (totalOf nodes table) n l);
     })
-    (at (sharesOf nodes (at helpands) limit (at leasts) (at totals) (held table)))
-    (array-described nodes (at helpands) limit (at leasts) (at totals) (held table) root t)
+    (at (keptShares nodes (at helpands) limit (at leasts) (at totals) (held table)))
+    (descends-same (shares-described nodes (at helpands) limit (at leasts) (at totals) (held table) root t)
+    (at (keptShares nodes (at helpands) limit (at leasts) (at totals) (held table))) (t .inside) (tabulate-at nodes share))

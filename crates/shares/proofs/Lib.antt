@@ -1,10 +1,6 @@
-pub mod Families
 pub mod Spaces
 pub mod FillLaws
 pub mod Amounts
-pub mod Levels
-pub mod Links
-pub mod Walks
-pub mod Filling
+pub mod Noting
 pub mod KeptShares
 pub mod Vectors

@@ -1,3 +1,3 @@
 pub mod Fill
 pub mod Shares
-pub mod Walk
+pub mod Inner

@@ -1,54 +1,67 @@
-// One family's division: the spaces of its members, what they keep, and the rest.
-use super::fill;
+// One family: the spaces of its members, what they keep, and the rest.
 use fold::numbers;
+use tree::links;
 ghost use mathlib.Core.Path.{_≡_};
-ghost use Prim.Native.Nat.{_<_};
-ghost use Rattle.shares.specs.Shares.{space};
-ghost use Rattle.shares.specs.Walk.{Fine, amountsIn};
+ghost use Prim.Native.Nat.{_-_, _<_, min};
+ghost use Rattle.limit.specs.Limit.{maxNodes};
+ghost use Rattle.arrays.specs.Arrays.{at};
+ghost use Rattle.sheet.specs.Table.{held};
+ghost use Rattle.tree.specs.Inner.{LinkedTree};
+ghost use Rattle.shares.specs.Inner.{restIn};
+ghost use Rattle.sheet.specs.Totals.{totalsOf};
 
-// The space for subdomain n at node k, which has this helpand and this least; share is n's.
-fn space_for(helpand: u32, least: u32, limit: u32, share: u32, n: usize, k: usize) -> u32
-    ensures { λ r. ⌜ r ≡ space (λ j. helpand) limit (λ j. least) share n k ⌝ }
-{
-    if k == n {
-        return numbers::less(limit, share);
-    }
-    if helpand as usize == n {
-        numbers::less(limit, least)
-    } else {
-        0
-    }
+// A member of the family of n: its space for subdomain n, and what it keeps of it.
+pub struct Member {
+    pub space: u32,
+    pub keeps: u32,
 }
 
-// What each node gets of subdomain n, whose owner has this share of its own helpand's. Most nodes are in other families and are
-// passed.
-pub fn divide_family(
+// The owner n itself, which has this share of its own helpand's subdomain.
+pub fn owner(table: &[u32; 4096], limit: u32, share: u32, n: usize) -> Member
+    requires { ⌜ n < maxNodes ⌝ }
+    ensures { λ m. ⌜ (m .space ≡ limit - share) × (m .keeps ≡ min (limit - share) (held (now (table .entry)) n n)) ⌝ }
+{
+    let space = numbers::less(limit, share);
+    let keeps = numbers::smaller(space, table[64 * n + n]);
+    Member { space, keeps }
+}
+
+// Helper k of n.
+pub fn helper(table: &[u32; 4096], leasts: &[u32; 64], limit: u32, n: usize, k: usize) -> Member
+    requires { ⌜ (n < maxNodes) × (k < maxNodes) ⌝ }
+    ensures { λ m. ⌜
+        (m .space ≡ limit - at (now (leasts .entry)) k)
+        × (m .keeps ≡ min (limit - at (now (leasts .entry)) k) (held (now (table .entry)) k n)) ⌝ }
+{
+    let space = numbers::less(limit, leasts[k]);
+    let keeps = numbers::smaller(space, table[64 * k + n]);
+    Member { space, keeps }
+}
+
+// "The rest": what the members of the family of n do not keep of subdomain n.
+pub fn rest(
     table: &[u32; 4096],
     totals: &[u32; 64],
     leasts: &[u32; 64],
     helpands: &[u32; 64],
+    links: &[usize; 128],
     nodes: usize,
     limit: u32,
     share: u32,
     n: usize,
-) -> [u32; 64]
-    requires { ⌜ (Fine nodes (now helpands) (now totals) (now table)) × (n < nodes) ⌝ }
+) -> u32
+    requires { ⌜
+        (LinkedTree nodes (at (now helpands)) (now links)) × (n < nodes) × (now totals ≡ totalsOf nodes (now table)) ⌝ }
     ensures { λ r. ⌜
-        r ≡ amountsIn nodes limit (now (helpands .entry)) (now (leasts .entry)) (now (totals .entry)) (now (table .entry)) share n ⌝ }
+        r ≡ restIn nodes limit (now (helpands .entry)) (now (leasts .entry)) (now (totals .entry)) (now (table .entry)) share n ⌝ }
 {
-    let mut spaces = [0u32; 64];
-    let mut kept = [0u32; 64];
-    let mut rest = totals[n];
-    let mut k = 0;
+    let own = owner(table, limit, share, n);
+    let mut rest = totals[n] - own.keeps;
+    let mut k = links::first(links, n);
     while k < nodes {
-        let space = space_for(helpands[k], leasts[k], limit, share, n, k);
-        if space != 0 {
-            let keeps = numbers::smaller(space, table[64 * k + n]);
-            spaces[k] = space;
-            kept[k] = keeps;
-            rest -= keeps;
-        }
-        k += 1;
+        let member = helper(table, leasts, limit, n, k);
+        rest -= member.keeps;
+        k = links::next(links, k);
     }
-    fill::fill(&spaces, &kept, rest, nodes, n)
+    rest
 }

@@ -1,39 +1,24 @@
-// Shares in a kept tree, from the root down: the paragraph of that name.
+// Shares in a kept tree, from the root down: the paragraph of that name. Each function goes through a family by the links from helper to
+// helper; the helpands are there for the contracts.
 mod family;
 mod fill;
 
+use tree::links;
 ghost use mathlib.Core.Path.{_≡_};
-ghost use Prim.Native.Nat.{ℕ, _≤_, _<_};
+ghost use Prim.Native.Nat.{_≤_, _<_};
 ghost use lib.ListN.{length};
 ghost use Rattle.limit.specs.Limit.{maxNodes};
 ghost use Rattle.plan.specs.Tree.{Tree};
 ghost use Rattle.sheet.specs.Table.{held};
-ghost use Rattle.shares.specs.Shares.{sharesOf};
-ghost use Rattle.shares.specs.Walk.{Fine, Linked, sharesIn, Walked};
+ghost use Rattle.tree.specs.Links.{Linked};
+ghost use Rattle.tree.specs.Inner.{LinkedTree, Shallow, Descended};
+ghost use Rattle.shares.specs.Shares.{keptShares};
+ghost use Rattle.shares.specs.Inner.{amountsIn, shareIn, Noted};
 ghost use Rattle.arrays.specs.Arrays.{at};
 ghost use Rattle.sheet.specs.Totals.{totalsOf};
 
-// Links from helper to helper, so that nobody searches all nodes for the helpers of one: at n the lowest helper of n, at 64 + k the
-// next after k of the node that k helps, and the number of nodes where there is none.
-fn helper_links(helpands: &[u32; 64], nodes: usize) -> [usize; 128]
-    requires { ⌜ (nodes ≤ maxNodes) × ((k : ℕ) → k < nodes → at (now helpands) k < nodes) ⌝ }
-    ensures { λ r. ⌜ Linked nodes (at (now (helpands .entry))) r ⌝ }
-{
-    let mut links = [nodes; 128];
-    let mut k = nodes;
-    while k > 0 {
-        k -= 1;
-        let helpand = helpands[k] as usize;
-        if helpand != k {
-            links[64 + k] = links[helpand];
-            links[helpand] = k;
-        }
-    }
-    links
-}
-
-// Divides the families of n and of all below it, so many levels down, and notes the shares. The share of n stands already.
-fn divide_below(
+// Divides the family of n, whose share stands already, and notes the shares of its helpers.
+fn divide_family(
     table: &[u32; 4096],
     totals: &[u32; 64],
     leasts: &[u32; 64],
@@ -41,40 +26,90 @@ fn divide_below(
     links: &[usize; 128],
     nodes: usize,
     limit: u32,
-    depth: usize,
     n: usize,
     shares: &mut [u32; 64],
 )
     requires { ⌜
-        (Fine nodes (now helpands) (now totals) (now table)) × (Linked nodes (at (now helpands)) (now links)) × (n < nodes)
-        × (length (now shares) ≡ 64)
-        × (at (now shares) n ≡ at (sharesIn nodes limit (now helpands) (now leasts) (now totals) (now table)) n) ⌝ }
+        (LinkedTree nodes (at (now helpands)) (now links)) × (n < nodes) × (now totals ≡ totalsOf nodes (now table))
+        × (length (now shares) ≡ 64) ⌝ }
     ensures { λ _. ⌜
         (length (now (shares .exit)) ≡ 64)
-        × Walked nodes (at (now (helpands .entry)))
-        (at (sharesIn nodes limit (now (helpands .entry)) (now (leasts .entry)) (now (totals .entry)) (now (table .entry))))
-        depth n (at (now (shares .entry))) (at (now (shares .exit))) ⌝ }
+        × Noted (at (now (helpands .entry))) n
+        (amountsIn nodes limit (now (helpands .entry)) (now (leasts .entry)) (now (totals .entry)) (now (table .entry))
+        (at (now (shares .entry)) n) n)
+        nodes (now (shares .entry)) (now (shares .exit)) ⌝ }
 {
-    if depth == 0 {
-        return;
-    }
-    let mut k = links[n];
-    if k == nodes {
-        return;
-    }
-    let amounts = family::divide_family(
+    let share = shares[n];
+    let rest = family::rest(
         table,
         totals,
         leasts,
         helpands,
+        links,
         nodes,
         limit,
-        shares[n],
+        share,
         n,
     );
+    fill::fill(
+        table,
+        leasts,
+        helpands,
+        links,
+        nodes,
+        limit,
+        share,
+        rest,
+        n,
+        shares,
+    );
+}
+
+// Divides the families of n and of all below it, and notes the shares. The share of n stands already.
+fn divide_below(
+    depth: usize,
+    n: usize,
+    table: &[u32; 4096],
+    totals: &[u32; 64],
+    leasts: &[u32; 64],
+    helpands: &[u32; 64],
+    links: &[usize; 128],
+    nodes: usize,
+    limit: u32,
+    shares: &mut [u32; 64],
+)
+    requires { ⌜
+        (LinkedTree nodes (at (now helpands)) (now links)) × (n < nodes) × (Shallow nodes (at (now helpands)) depth n)
+        × (now totals ≡ totalsOf nodes (now table)) × (length (now shares) ≡ 64)
+        × (at (now shares) n ≡ shareIn nodes limit (now helpands) (now leasts) (now totals) (now table) n) ⌝ }
+    ensures { λ _. ⌜
+        (length (now (shares .exit)) ≡ 64)
+        × Descended nodes (at (now (helpands .entry)))
+        (shareIn nodes limit (now (helpands .entry)) (now (leasts .entry)) (now (totals .entry)) (now (table .entry)))
+        n (now (shares .entry)) (now (shares .exit)) ⌝ }
+{
+    if depth == 0 {
+        return;
+    }
+    let mut k = links::first(links, n);
+    if k == nodes {
+        return;
+    }
+    divide_family(
+        table,
+        totals,
+        leasts,
+        helpands,
+        links,
+        nodes,
+        limit,
+        n,
+        shares,
+    );
     while k < nodes {
-        shares[k] = amounts[k];
         divide_below(
+            depth - 1,
+            k,
             table,
             totals,
             leasts,
@@ -82,40 +117,40 @@ fn divide_below(
             links,
             nodes,
             limit,
-            depth - 1,
-            k,
             shares,
         );
-        k = links[64 + k];
+        k = links::next(links, k);
     }
 }
 
-// The shares of all nodes in a tree that is kept, with these totals and leasts.
+// The shares of all nodes in a tree that is kept, with these totals and leasts, whose helpers are linked.
 pub fn shares(
     table: &[u32; 4096],
     totals: [u32; 64],
     leasts: [u32; 64],
     helpands: [u32; 64],
+    links: &[usize; 128],
     nodes: usize,
     root: usize,
     limit: u32,
 ) -> [u32; 64]
-    requires { ⌜ (nodes ≤ maxNodes) × (Tree nodes (at helpands) root) × (totals ≡ totalsOf nodes (now table)) ⌝ }
-    ensures { λ r. ⌜ r ≡ sharesOf nodes (at helpands) limit (at leasts) (at totals) (held (now (table .entry))) ⌝ }
+    requires { ⌜
+        (nodes ≤ maxNodes) × (Tree nodes (at helpands) root) × (Linked nodes (at helpands) (now links))
+        × (totals ≡ totalsOf nodes (now table)) ⌝ }
+    ensures { λ r. ⌜ r ≡ keptShares nodes (at helpands) limit (at leasts) (at totals) (held (now (table .entry))) ⌝ }
 {
-    let levels = nodes;
-    let links = helper_links(&helpands, nodes);
+    let levels = nodes + 1;
     let mut out = [0u32; 64];
     divide_below(
+        levels,
+        root,
         table,
         &totals,
         &leasts,
         &helpands,
-        &links,
+        links,
         nodes,
         limit,
-        levels,
-        root,
         &mut out,
     );
     out

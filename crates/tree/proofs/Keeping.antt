@@ -1,37 +1,22 @@
 -- A division within the limit exists exactly when the tree holds. Whoever divides, an owner gets at least its least, at every depth.
 -- And where no least is above the limit, each family can be filled from the root down: the owner first, then the helpers in turn.
 -- Assumes nothing.
-use mathlib.Core.Path.{_≡_, ap, _∙_}
-use mathlib.Core.Logic.{_↔_, _⊎_, inl, inr}
-use mathlib.Core.Bool.{true, false, not}
+use mathlib.Core.Path.{_≡_, refl, ap}
+use mathlib.Core.Logic.{_↔_}
+use mathlib.Core.Bool.{true, not, cond}
 use Prim.Native.Nat.{ℕ, zero, suc, _-_, _≤_, _<_, min}
 use native.Mathlib.Omega.{arith}
-use lib.Dec.{leb}
-use borrow.Author.Tests.{le-leb, leb-true}
-use Rattle.fold.specs.Sum.{only, sum}
-use Rattle.fold.proofs.Tests.{either, only-is, only-not, all-at, all-of}
-use Rattle.fold.proofs.Sums.{sum-eq}
+use lib.Dec.{eqb, leb}
+use borrow.Author.Tests.{eq-eqb, ne-eqb, le-leb, leb-true}
+use Rattle.fold.proofs.Tests.{only-is, all-at, all-of}
 use Rattle.plan.specs.Tree.{isRoot, Tree}
 use Rattle.tree.specs.Family.{helps, overHelpers}
 use Rattle.tree.specs.Weigh.{leastWithin, spareWithin, least, holds}
+use Rattle.tree.specs.Down.{down}
 use Rattle.tree.specs.Division.{WithinLimit, ownOf}
-use Rattle.tree.proofs.Families.{helper-no-root, helpers-le}
+use Rattle.tree.proofs.Families.{helps-ne, helper-no-root, helpers-le, helpers-eq, helpers-in-turn}
 use Rattle.tree.proofs.Weighing.{least-is}
-use Rattle.tree.proofs.Filling.{Fills, family-room, down, down-descends, descends-within}
-
--- ---- what is poured into rooms in turn: each takes the smaller of its room and of what is left
-
-pour : (ℕ → ℕ) → ℕ → ℕ → ℕ
-pour room x k = min (x - sum k room) (room k)
-
-pour-max : (room : ℕ → ℕ) (x k : ℕ) → pour room x k ≤ room k
-unfolding pour
-pour-max room x k = omega arith
-
-pour-sum : (n : ℕ) (room : ℕ → ℕ) (x : ℕ) → sum n (pour room x) ≡ min x (sum n room)
-unfolding sum pour
-pour-sum zero room x = omega arith
-pour-sum (suc n) room x = omega (arith, pour-sum n room x)
+use Rattle.tree.proofs.Filling.{Fills, family-room, down-descends, descends-within}
 
 module _ (nodes : ℕ) (h total : ℕ → ℕ) (limit : ℕ) where
   -- ---- the tree holds when there is a division within the limit
@@ -67,51 +52,46 @@ module _ (nodes : ℕ) (h total : ℕ → ℕ) (limit : ℕ) where
   abbrev lst : ℕ → ℕ
   lst = least nodes h total limit
 
-  abbrev space : ℕ → ℕ → ℕ
-  space n k = only (helps h n k) (limit - lst k)
+  abbrev spare : ℕ → ℕ
+  spare k = limit - lst k
 
-  -- the owner takes what it has space for, and the helpers the rest in turn
+  -- what node k gets of subdomain n, whose owner has share r: the owner takes what it has space for, and the helpers the rest in turn
   fill : ℕ → ℕ → ℕ → ℕ
-  fill n x k = pour (space n) (total n - (limit - x)) k
+  fill r n k = cond (eqb k n) (min (total n) (limit - r)) (min (total n - (limit - r) - overHelpers k h n spare) (spare k))
 
-  fill-space : (n x k : ℕ) → helps h n k ≡ true → fill n x k ≤ limit - lst k
+  fill-own : (r n : ℕ) → fill r n n ≡ min (total n) (limit - r)
   unfolding fill
-  fill-space n x k e = omega (arith, pour-max (space n) (total n - (limit - x)) k, only-is (helps h n k) (limit - lst k) e)
+  fill-own r n = rw (eq-eqb n n refl)
 
-  -- only helpers have space, so only helpers get some
-  fill-sum : (n x : ℕ) → overHelpers nodes h n (fill n x) ≡ min (total n - (limit - x)) (overHelpers nodes h n (λ k. limit - lst k))
+  fill-helper : (r n k : ℕ) → helps h n k ≡ true → fill r n k ≡ min (total n - (limit - r) - overHelpers k h n spare) (spare k)
   unfolding fill
-  fill-sum n x =
-      sum-eq nodes (λ k. only (helps h n k) (fill n x k)) (fill n x) (λ k l. alone k (either (helps h n k)))
-      ∙ pour-sum nodes (space n) (total n - (limit - x))
-    where
-      alone : (k : ℕ) → (helps h n k ≡ true) ⊎ (helps h n k ≡ false) → only (helps h n k) (fill n x k) ≡ fill n x k
-      alone k (inl e) = only-is (helps h n k) (fill n x k) e
-      alone k (inr e) =
-          omega (
-            arith,
-            only-not (helps h n k) (fill n x k) e,
-            pour-max (space n) (total n - (limit - x)) k,
-            only-not (helps h n k) (limit - lst k) e,
-          )
+  fill-helper r n k e = rw (ne-eqb k n (helps-ne h n k e))
 
   module _ (r : ℕ) (t : Tree nodes h r) where
     fills : holds nodes h total limit ≡ true → Fills nodes h total limit lst fill
     fills e =
         record {
-          space = fill-space;
-          part = λ n x l s. omega (arith, fill-sum n x);
-          rest = λ n x l s. omega (arith, fill-sum n x, family-room nodes h total limit lst n x (least-is nodes h total limit r t n) (holds-at e n l) s);
+          owner = λ x n. omega (arith, fill-own x n);
+          helper = λ x n k y. omega (arith, fill-helper x n k y);
+          whole = λ x n l s. omega (
+            arith,
+            fill-own x n,
+            helpers-eq nodes h n (fill x n) (λ k. min (total n - (limit - x) - overHelpers k h n spare) (spare k))
+                (λ k b y. fill-helper x n k y),
+            helpers-in-turn h n spare nodes (total n - (limit - x)),
+            family-room nodes h total limit lst n x (least-is nodes h total limit r t n) (holds-at e n l) s,
+          );
         }
 
     holds-within : holds nodes h total limit ≡ true → (own : ℕ → ℕ) × (share : ℕ → ℕ) × WithinLimit nodes h total limit own share
     holds-within e =
-        let share = down nodes h total limit lst fill nodes in (
+        let share = down h fill nodes in (
           ownOf nodes h total share,
           share,
-          descends-within nodes h total limit lst fill share (fills e) (down-descends nodes h total limit lst fill r t),
+          descends-within (fills e) (down-descends nodes h fill r t),
         )
 
     -- THEOREM. For every tree, counts and limit, a division within the limit exists exactly when the tree holds.
-    pub division-iff-holds : ((own : ℕ → ℕ) × (share : ℕ → ℕ) × WithinLimit nodes h total limit own share) ↔ (holds nodes h total limit ≡ true)
+    pub division-iff-holds :
+        ((own : ℕ → ℕ) × (share : ℕ → ℕ) × WithinLimit nodes h total limit own share) ↔ (holds nodes h total limit ≡ true)
     division-iff-holds = ((λ w. within-holds (w .0) (w .1) (w .2)), holds-within)

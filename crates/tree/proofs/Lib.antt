@@ -1,4 +1,5 @@
 pub mod Families
+pub mod Linking
 pub mod Weighing
 pub mod Passing
 pub mod Filling

@@ -1,30 +1,28 @@
--- The array of leasts as it is passed down a tree and back: one law for each way that a turn of `least`'s loop over the helpers can
--- go, and what stands in the array when the loop is done. Whatever is written is right, so no order matters. Assumes nothing.
+-- An array as it is passed down a tree and back: one law for each way that a turn of a loop over the helpers can go, and what stands in
+-- the array when the loop is done. Whatever is written is right, so no order matters. Assumes nothing.
 use mathlib.Core.Path.{_≡_, refl, sym, ap, _∙_}
 use mathlib.Core.Logic.{_≢_}
-use mathlib.Core.Bool.{true, false, true≢false}
+use mathlib.Core.Bool.{true, true≢false}
 use mathlib.Core.List.{List}
-use Prim.Native.Nat.{ℕ, zero, suc, _+_, _-_, _≤_, _<_}
-use native.Mathlib.Decide.{ℕ-discrete}
+use Prim.Native.Nat.{ℕ, zero, suc, _+_, _≤_, _<_}
+use native.Mathlib.Decide.{ℕ-discrete, decLt}
 use native.Mathlib.Omega.{arith}
-use lib.ListN.{length, set}
+use lib.ListN.{length, set, replicate}
 use lib.Seq.{getD-set-same, getD-set-other}
-use Rattle.fold.specs.Sum.{only, sum}
-use Rattle.fold.proofs.Tests.{only-is, only-not}
-use Rattle.fold.proofs.Sums.{sum-none, sum-more}
+use Rattle.fold.specs.First.{FirstFrom}
 use Rattle.plan.specs.Tree.{walk, Tree}
-use Rattle.plan.proofs.Trees.{walk-inside}
+use Rattle.plan.proofs.Trees.{walk-none, walk-suc, walk-inside}
+use Rattle.arrays.specs.Arrays.{at, tabulate}
 use Rattle.tree.specs.Family.{helps}
-use Rattle.tree.specs.Weigh.{least}
-use Rattle.tree.specs.Descent.{Weighed}
+use Rattle.tree.specs.Inner.{Descended}
 use Rattle.tree.proofs.Families.{helps-yes}
-use Rattle.tree.proofs.Weighing.{walk-suc, least-is}
-use Rattle.arrays.specs.Arrays.{at}
+use Rattle.arrays.proofs.Padded.{zeros-at}
+use Rattle.arrays.proofs.Tabulate.{tabulate-is}
 
 -- a chain that comes to n from elsewhere comes through a helper of n
 through-helper : (nodes : ℕ) (h : ℕ → ℕ) → ((k : ℕ) → k < nodes → h k < nodes) → (n steps j : ℕ) → j < nodes → j ≢ n → walk h steps j ≡ n
     → (i : ℕ) × (s : ℕ) × (i < nodes) × (helps h n i ≡ true) × (walk h s j ≡ i)
-through-helper nodes h inside n zero j l d e = absurd (d (unfold walk in e))
+through-helper nodes h inside n zero j l d e = absurd (d (sym (walk-none h j) ∙ e))
 through-helper nodes h inside n (suc steps) j l d e = elim (ℕ-discrete (walk h steps j) n) [
   | yes q ↦ through-helper nodes h inside n steps j l d q
   | no q ↦ (
@@ -36,94 +34,80 @@ through-helper nodes h inside n (suc steps) j l d e = elim (ℕ-discrete (walk h
   )
 ]
 
-module _ (nodes : ℕ) (h total : ℕ → ℕ) (limit n : ℕ) (before : List ℕ) where
-  abbrev lst : ℕ → ℕ
-  lst = least nodes h total limit
+-- the state of a loop over the helpers of n once those below k are passed, and with them all nodes below them
+pub record Passed (nodes : ℕ) (h right : ℕ → ℕ) (n : ℕ) (before : List ℕ) (k : ℕ) (out : List ℕ) : Type 0 where
+  pub below : (i j steps : ℕ) → i < k → helps h n i ≡ true → j < nodes → walk h steps j ≡ i → at out j ≡ right j
+  pub kept : (j : ℕ) → j < nodes → at before j ≡ right j → at out j ≡ right j
+  pub behind : (j : ℕ) → nodes ≤ j → at out j ≡ at before j
 
-  -- what the helpers of n below k can spare
-  abbrev spares : ℕ → ℕ
-  spares k = sum k (λ i. only (helps h n i) (limit - lst i))
+module _ {nodes : ℕ} {h right : ℕ → ℕ} {n : ℕ} {before : List ℕ} where
+  pub passed-none : Passed nodes h right n before 0 before
+  passed-none = record { below = λ i j steps l. absurd (omega arith); kept = λ j l e. e; behind = λ j l. refl }
 
-  -- the loop's state where the helpers of n below k have been weighed
-  pub record Passed (k left : ℕ) (out : List ℕ) : Type 0 where
-    pub left-is : left ≡ total n - spares k
-    pub below : (i j steps : ℕ) → i < k → helps h n i ≡ true → j < nodes → walk h steps j ≡ i → at out j ≡ lst j
-    pub kept : (j : ℕ) → j < nodes → at before j ≡ lst j → at out j ≡ lst j
-    pub behind : (j : ℕ) → nodes ≤ j → at out j ≡ at before j
-
-  pub passed-none : Passed 0 (total n) before
-  passed-none =
+  -- from one helper to the next
+  pub passed-next : {m to : ℕ} {out : List ℕ} → Passed nodes h right n before m out → FirstFrom nodes (helps h n) m to
+      → Passed nodes h right n before to out
+  passed-next {m} p x =
       record {
-        left-is = omega (arith, sum-none (λ i. only (helps h n i) (limit - lst i)));
-        below = λ i j steps l. absurd (omega arith);
-        kept = λ j l e. e;
-        behind = λ j l. refl;
+        below = λ i j steps l e. elim (decLt i m) [
+          | yes b ↦ p .below i j steps b e
+          | no d ↦ absurd (true≢false (sym e ∙ x .none i (omega arith) l))
+        ];
+        kept = p .kept;
+        behind = p .behind;
       }
 
-  module _ (k left : ℕ) (out : List ℕ) (p : Passed k left out) where
-    below-skip : (b : helps h n k ≡ false) (i : ℕ) → i < k + 1 → helps h n i ≡ true → i < k
-    below-skip b i l e = elim (ℕ-discrete i k) [
-      | yes q ↦ absurd (true≢false (sym e ∙ ap (helps h n) q ∙ b))
-      | no d ↦ omega arith
+  -- the pass went down from helper k
+  pub passed-helper : {k : ℕ} {out after : List ℕ} → Passed nodes h right n before k out → Descended nodes h right k out after
+      → Passed nodes h right n before (k + 1) after
+  passed-helper {k} p w =
+      record {
+        below = λ i j steps l e m q. elim (ℕ-discrete i k) [
+          | yes z ↦ w .below j steps m (q ∙ z)
+          | no d ↦ w .kept j m (p .below i j steps (omega arith) e m q)
+        ];
+        kept = λ j m q. w .kept j m (p .kept j m q);
+        behind = λ j m. w .behind j m ∙ p .behind j m;
+      }
+
+  -- all helpers are passed, and n has its entry
+  pub passed-all : {r : ℕ} {out : List ℕ} → Tree nodes h r → Passed nodes h right n before nodes out → at out n ≡ right n
+      → Descended nodes h right n before out
+  passed-all {r} {out} t p e =
+      record {
+        below = λ j steps l q. elim (ℕ-discrete j n) [
+          | yes z ↦ ap (at out) z ∙ e ∙ ap right (sym z)
+          | no d ↦
+              let w = through-helper nodes h (t .inside) n steps j l d q in
+              p .below (w .0) j (w .1) (w .2) (w .3) l (w .4)
+        ];
+        kept = p .kept;
+        behind = p .behind;
+      }
+
+-- the entry of n is stored after its helpers
+pub passed-store : {nodes : ℕ} {h right : ℕ → ℕ} {n r : ℕ} {before out : List ℕ} → Tree nodes h r → n < nodes → n < length out
+    → Passed nodes h right n before nodes out → (v : ℕ) → v ≡ right n → Descended nodes h right n before (set out n v)
+passed-store {nodes} {h} {right} {n} {r} {before} {out} t l b p v e =
+    passed-all t
+    (record {
+      below = λ i j steps m y q z. stays j (p .below i j steps m y q z);
+      kept = λ j m q. stays j (p .kept j m q);
+      behind = λ j m. getD-set-other out n j v 0 (λ q. omega arith) ∙ p .behind j m;
+    })
+    here
+  where
+    here : at (set out n v) n ≡ right n
+    here = getD-set-same out n v 0 b ∙ e
+
+    stays : (j : ℕ) → at out j ≡ right j → at (set out n v) j ≡ right j
+    stays j q = elim (ℕ-discrete j n) [
+      | yes z ↦ rw z here
+      | no d ↦ getD-set-other out n j v 0 d ∙ q
     ]
 
-    -- k is no helper of n
-    pub passed-skip : helps h n k ≡ false → Passed (k + 1) left out
-    passed-skip b =
-        record {
-          left-is = omega (
-            arith,
-            p .left-is,
-            sum-more k (λ i. only (helps h n i) (limit - lst i)),
-            only-not (helps h n k) (limit - lst k) b,
-          );
-          below = λ i j steps l e. p .below i j steps (below-skip b i l e) e;
-          kept = p .kept;
-          behind = p .behind;
-        }
-
-    -- k helps n, and was weighed
-    pub passed-more : (s : ℕ) (after : List ℕ) → helps h n k ≡ true → s ≡ limit - lst k
-        → Weighed nodes h total limit k out after → Passed (k + 1) (left - s) after
-    passed-more s after b e w =
-        record {
-          left-is = omega (
-            arith,
-            p .left-is,
-            sum-more k (λ i. only (helps h n i) (limit - lst i)),
-            only-is (helps h n k) (limit - lst k) b,
-          );
-          below = λ i j steps l f m q. elim (ℕ-discrete i k) [
-            | yes z ↦ w .below j steps m (q ∙ z)
-            | no d ↦ w .kept j m (p .below i j steps (omega arith) f m q)
-          ];
-          kept = λ j m q. w .kept j m (p .kept j m q);
-          behind = λ j m. w .behind j m ∙ p .behind j m;
-        }
-
-  -- all helpers are weighed, and the least of n is what is left
-  pub passed-all : (r : ℕ) → Tree nodes h r → n < nodes → (left : ℕ) (out : List ℕ) → n < length out → Passed nodes left out
-      → Weighed nodes h total limit n before (set out n left)
-  passed-all r t l left out b p =
-      record {
-        below = λ j steps m e. elim (ℕ-discrete j n) [
-          | yes q ↦ here j q
-          | no d ↦ there j d ∙ through j steps m d e
-        ];
-        kept = λ j m e. elim (ℕ-discrete j n) [
-          | yes q ↦ here j q
-          | no d ↦ there j d ∙ p .kept j m e
-        ];
-        behind = λ j m. there j (λ e. omega arith) ∙ p .behind j m;
-      }
-    where
-      here : (j : ℕ) → j ≡ n → at (set out n left) j ≡ lst j
-      here j q = rw q (getD-set-same out n left 0 b ∙ p .left-is ∙ sym (least-is nodes h total limit r t n))
-
-      there : (j : ℕ) → j ≢ n → at (set out n left) j ≡ at out j
-      there j d = getD-set-other out n j left 0 d
-
-      through : (j steps : ℕ) → j < nodes → j ≢ n → walk h steps j ≡ n → at out j ≡ lst j
-      through j steps m d e =
-          let w = through-helper nodes h (t .inside) n steps j m d e in
-          p .below (w .0) j (w .1) (w .2) (w .3) m (w .4)
+-- a pass from the root, over an array of zeros: every chain comes to the root, so all entries are right
+pub descended-root : {nodes : ℕ} {h right : ℕ → ℕ} {r : ℕ} {out : List ℕ} → Tree nodes h r → nodes ≤ 64 → length out ≡ 64
+    → Descended nodes h right r (replicate 64 0) out → out ≡ tabulate nodes right
+descended-root {nodes} {right = right} {out = out} t b e w =
+    tabulate-is nodes right b out e (λ k l. w .below k nodes l (t .reach k l)) (λ k l. w .behind k l ∙ zeros-at 64 k)

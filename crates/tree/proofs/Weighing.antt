@@ -1,27 +1,23 @@
 -- The leasts of a tree: the remaining depth of their definition drops out. A tree of N nodes has at most N levels below the root, so
 -- from depth N + 1 on one more level changes nothing. Assumes nothing.
-use mathlib.Core.Path.{_≡_, refl, sym, ap, _∙_}
+use mathlib.Core.Path.{_≡_, sym, ap, _∙_}
 use mathlib.Core.Logic.{_≢_}
 use mathlib.Core.Bool.{true}
-use Prim.Native.Nat.{ℕ, zero, suc, _-_, _<_}
-use native.Mathlib.Numerals.{sub-one}
+use Prim.Native.Nat.{ℕ, zero, suc, _+_, _-_, _<_}
+use native.Mathlib.Numerals.{add-one, sub-one}
 use native.Mathlib.Omega.{arith}
 use lib.Dec.{leb}
 use Rattle.fold.specs.All.{all}
 use Rattle.plan.specs.Tree.{walk, Tree}
+use Rattle.plan.proofs.Trees.{walk-none, walk-suc}
 use Rattle.arrays.specs.Arrays.{at, tabulate}
 use Rattle.tree.specs.Family.{helps, overHelpers}
 use Rattle.tree.specs.Weigh.{leastWithin, spareWithin, least, holds}
-use Rattle.tree.specs.Descent.{Shallow}
+use Rattle.tree.specs.Inner.{Shallow}
 use Rattle.tree.proofs.Families.{helps-of, helps-ne, helpers-eq}
 use Rattle.arrays.proofs.Tabulate.{tabulate-within}
 
 -- ---- how deep a tree is
-
-pub walk-suc : (h : ℕ → ℕ) (steps k : ℕ) → walk h (suc steps) k ≡ h (walk h steps k)
-unfolding walk
-walk-suc h zero k = refl
-walk-suc h (suc steps) k = walk-suc h steps (h k)
 
 module _ (nodes : ℕ) (h : ℕ → ℕ) where
   -- what the remaining depth is good for: it is not used up at a node, and one less is enough for the node's helpers
@@ -38,16 +34,20 @@ module _ (nodes : ℕ) (h : ℕ → ℕ) where
   -- where no chain of so many steps ends in n, the tree below n has fewer levels
   pub shallow-of : (depth n : ℕ) → n < nodes → ((j : ℕ) → j < nodes → walk h depth j ≢ n) → Shallow nodes h depth n
   unfolding Shallow
-  shallow-of zero n l f = unfold walk in f n l refl
+  shallow-of zero n l f = f n l (walk-none h n)
   shallow-of (suc depth) n l f = λ k b e. shallow-of depth k b (λ j c q. f j c (walk-suc h depth j ∙ ap h q ∙ helps-of h n k e))
 
   -- no helper is the root
   pub helper-below : (r : ℕ) → Tree nodes h r → (n k : ℕ) → helps h n k ≡ true → k ≢ r
   helper-below r t n k e q = helps-ne h n k e (q ∙ sym (t .own) ∙ ap h (sym q) ∙ helps-of h n k e)
 
-  pub tree-shallow : (r : ℕ) → Tree nodes h r → (n : ℕ) → Shallow nodes h (suc nodes) n
+  tree-shallow : (r : ℕ) → Tree nodes h r → (n : ℕ) → Shallow nodes h (suc nodes) n
   unfolding Shallow
   tree-shallow r t n = λ k b e. shallow-of nodes k b (λ j c q. helper-below r t n k e (sym q ∙ t .reach j c))
+
+  -- so much is enough for a pass from the root
+  pub root-shallow : {r : ℕ} → Tree nodes h r → Shallow nodes h (nodes + 1) r
+  root-shallow {r} t = rw (add-one nodes) (tree-shallow r t r)
 
 -- ---- the equations
 

@@ -1,5 +1,7 @@
 pub mod Primary
 pub mod Family
 pub mod Weigh
+pub mod Down
 pub mod Division
-pub mod Descent
+pub mod Links
+pub mod Inner

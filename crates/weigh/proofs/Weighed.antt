@@ -16,6 +16,7 @@ use Rattle.words.specs.Buffer.{placed}
 use Rattle.words.proofs.Words.{length-encode}
 use Rattle.words.proofs.Buffer.{sets-placed}
 use Rattle.sheet.specs.Totals.{totalsOf}
+use Rattle.tree.specs.Weigh.{least}
 use Rattle.arrays.specs.Arrays.{padded, tabulate, at}
 use Rattle.tree.proofs.Weighing.{holds-tabulated}
 use Rattle.sheet.specs.declared.Sheet.{Sheet}
@@ -49,6 +50,12 @@ module _ (s p : List ℕ) (h : Sheet) (w : Weighable s p h) where
 
   pub array-tree : (r : ℕ) × Tree (h .n) (at (padded (helpandsOf p (h .n)))) r
   array-tree = rw (padded-same (helpandsOf p (h .n))) tree
+
+  -- the leasts of the arrays that were read are those of the sheet and the plan
+  pub leasts-read : (table totals helpands leasts : List ℕ) → table ≡ tableOf s (h .e) → totals ≡ totalsOf (h .n) table
+      → helpands ≡ padded (helpandsOf p (h .n)) → leasts ≡ tabulate (h .n) (least (h .n) (at helpands) (at totals) (h .limit))
+      → leasts ≡ tabulate (h .n) (leastIn s p)
+  leasts-read table totals helpands leasts t o a e = rw (← w .sheet) (e ∙ rw (a, padded-same (helpandsOf p (h .n)), o, t))
 
 -- ---- one law for each way that the checks of a pair can go
 
@@ -86,7 +93,8 @@ module _ (s p : List ℕ) (h : Sheet) (q : Plan) (r : Read s p h q) (leasts : Li
   leasts-placed out f =
       let n : h .n ≡ readSheet s .n = ap (λ (a : SheetAnswer). a .n) (r .sheet) in
       let e = length-encode (collect (readSheet s .n) (λ k. leastIn s p k ∷ [])) in
-      ap (λ (ws : List ℕ). sets out 0 (encode ws)) (ap (take (h .n)) l ∙ take-tabulate (h .n) (leastIn s p) ∙ ap (λ (m : ℕ). collect m (λ k. leastIn s p k ∷ [])) n)
+      ap (λ (ws : List ℕ). sets out 0 (encode ws))
+      (ap (take (h .n)) l ∙ take-tabulate (h .n) (leastIn s p) ∙ ap (λ (m : ℕ). collect m (λ k. leastIn s p k ∷ [])) n)
       ∙ sets-placed (leastBytes s p) out (omega (arith, e, length-row (leastIn s p) (readSheet s .n)))
 
   pub leasts-hold : all (h .n) (λ k. leb (at leasts k) (h .limit)) ≡ holdsIn s p
@@ -95,7 +103,8 @@ module _ (s p : List ℕ) (h : Sheet) (q : Plan) (r : Read s p h q) (leasts : Li
       (holds-tabulated (h .n) (at (helpandsOf p (h .n))) (at (totalsOf (h .n) (tableOf s (h .e)))) (h .limit))
 
 -- a refusal leaves the buffer, and its number is not 0
-pub refused-both : (leasts out : List ℕ) (a : WeighAnswer) (k : ℕ) → (k ≡ 0 → ⊥) → a ≡ refused k → (refused k ≡ a) × (out ≡ bytesAfter leasts a out)
+pub refused-both : (leasts out : List ℕ) (a : WeighAnswer) (k : ℕ) → (k ≡ 0 → ⊥) → a ≡ refused k
+    → (refused k ≡ a) × (out ≡ bytesAfter leasts a out)
 refused-both leasts out a k d e = rw e (refl, rw (ne-eqb k 0 d))
 
 -- ---- one law for each way that the two readings can go

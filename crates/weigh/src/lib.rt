@@ -41,7 +41,8 @@ fn leasts_of(sheet: &[u8], plan: &[u8], s: Sheet) -> [u32; 64]
     let totals = sheet::totals::totals(&table, nodes);
     let helpands = words::words_64(plan, 3, nodes);
     let root = tree::weigh::find_root(helpands, nodes);
-    tree::weigh::leasts(totals, helpands, nodes, root, s.limit)
+    let links = tree::links::helper_links(&helpands, nodes);
+    tree::weigh::leasts(totals, helpands, &links, nodes, root, s.limit)
 }
 
 // Weighs a sheet and a plan that were read.

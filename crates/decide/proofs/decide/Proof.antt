@@ -10,7 +10,8 @@ returns c =
     let t = c .before in
     let i = t .before in
     let a = i .before .args in
-    way-primary (a .nodes) (a .p) (a .limit) (now (a .table)) (a .totals) (a .old) (a .tree) (i .is-primary .result) (i .is-primary .ensures) (t .if1 .taken) (c .primary-plan .result) (c .primary-plan .ensures)
+    way-primary (a .nodes) (a .p) (a .limit) (now (a .table)) (a .totals) (a .old) (a .tree) (i .is-primary .result)
+    (i .is-primary .ensures) (t .if1 .taken) (c .primary-plan .result) (c .primary-plan .ensures)
 
 returns-2 : tie.Need-returns-2
 returns-2 c =
@@ -18,7 +19,8 @@ returns-2 c =
     let t = u .before in
     let i = t .before in
     let a = i .before .args in
-    way-weighed (a .nodes) (a .p) (a .limit) (now (a .table)) (a .totals) (a .old) (a .tree) (i .is-primary .result) (i .is-primary .ensures) (t .if1 .left) (u .if2 .taken) (c .weighed-plan .result) (c .weighed-plan .ensures)
+    way-weighed (a .nodes) (a .p) (a .limit) (now (a .table)) (a .totals) (a .old) (a .tree) (i .is-primary .result)
+    (i .is-primary .ensures) (t .if1 .left) (u .if2 .taken) (c .weighed-plan .result) (c .weighed-plan .ensures)
 
 returns-3 : tie.Need-returns-3
 returns-3 c =
@@ -26,7 +28,8 @@ returns-3 c =
     let t = u .before in
     let i = t .before in
     let a = i .before .args in
-    way-none (a .nodes) (a .p) (a .limit) (now (a .table)) (a .totals) (a .old) (a .tree) (i .is-primary .result) (i .is-primary .ensures) (t .if1 .left) (u .if2 .left) (c .rebuilt-plan .result) (c .rebuilt-plan .ensures)
+    way-none (a .nodes) (a .p) (a .limit) (now (a .table)) (a .totals) (a .old) (a .tree) (i .is-primary .result)
+    (i .is-primary .ensures) (t .if1 .left) (u .if2 .left) (c .rebuilt-plan .result) (c .rebuilt-plan .ensures)
 
 pub decide-spec : {M : Type 1} → statement M
 decide-spec =

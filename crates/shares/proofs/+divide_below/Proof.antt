@@ -1,35 +1,37 @@
--- `divide_below` meets its contract: k is a helper of n or the end of the nodes, and the helpers of n below k and all below them have their
--- shares. The depth falls from call to call. Assumes nothing.
+-- `divide_below` meets its contract: k is a helper of n or the end of the nodes, all helpers of n have their shares, and so have the nodes
+-- below those helpers that are passed. The depth falls from call to call. Assumes nothing.
 use borrow.Author.Needs.{needs}
 use borrow.Fn.Kinds.{In}
 use borrow.Fn.PlainCycle.{Measures, is, falls, and}
-use mathlib.Core.Path.{_≡_, ap, _∙_}
+use mathlib.Core.Path.{_≡_}
 use mathlib.Core.Bool.{true}
 use mathlib.Core.List.{List}
-use Prim.Native.Nat.{ℕ, suc, _+_, _-_, _≤_, _<_}
+use Prim.Native.Nat.{ℕ, _+_, _-_, _≤_, _<_}
 use native.Mathlib.Omega.{arith}
-use lib.ListN.{length, length-set}
-use lib.Seq.{getD-set-same}
+use lib.ListN.{length}
 use denote.Ref.{now}
+use Rattle.fold.specs.First.{FirstFrom}
 use Rattle.arrays.specs.Arrays.{at}
 use Rattle.sheet.specs.Table.{held}
 use Rattle.tree.specs.Family.{helps}
-use Rattle.shares.specs.Shares.{amount}
-use Rattle.fold.specs.First.{FirstFrom}
-use Rattle.shares.specs.Walk.{sharesIn}
-use Rattle.shares.proofs.Families.{helps-of, helps-ne, helper-below}
-use Rattle.shares.proofs.Levels.{array-helper}
-use Rattle.shares.proofs.Walks.{Passed, passed-none, passed-next, passed-helper, passed-all, walked-none}
+use Rattle.tree.specs.Down.{Descends}
+use Rattle.tree.proofs.Linking.{link-first, link-next}
+use Rattle.tree.proofs.Weighing.{shallow-some, shallow-helper}
+use Rattle.tree.proofs.Passing.{Passed, passed-none, passed-next, passed-helper, passed-all}
+use Rattle.shares.specs.Inner.{amountsIn, shareIn}
+use Rattle.shares.proofs.Noting.{noted-right, descended-after}
+use Rattle.shares.proofs.KeptShares.{shares-described}
 use Rattle.shares.proofs.divide_below.Reads as reads
 use Rattle.shares.proofs.divide_below.Kinds as kinds
-use Rattle.shares.proofs.family.divide_family.Reads as family
+use Rattle.shares.proofs.divide_family.Reads as family
+use Rattle.tree.proofs.links.first.Reads as first
+use Rattle.tree.proofs.links.next.Reads as next
 use Rattle.shares.proofs.+divide_below.Lts-divide_below as lts
 use Rattle.shares.proofs.+divide_below.{statement}
 use Rattle.shares.proofs.+divide_below.Tie.{close}
-use Rattle.arrays.proofs.Tabulate.{tabulate-at}
 
 abbrev μ-divide-below : Measures 6 kinds.ps ℕ
-μ-divide-below κs a = a .1 .1 .1 .1 .1 .1 .1 .0
+μ-divide-below κs a = a .0
 
 -- a call at depth t, and the calls that it makes
 abbrev Here : ℕ → In 6 kinds.ps
@@ -38,128 +40,132 @@ Here t = and 6 kinds.ps (is 6 kinds.ps μ-divide-below t) reads.Pre
 abbrev Deeper : ℕ → In 6 kinds.ps
 Deeper t = and 6 kinds.ps (falls 6 kinds.ps _<_ μ-divide-below t) reads.Pre
 
+abbrev claims : ℕ → lts.Claims
+claims t = (first.Asked, first.Learnt, family.Asked, family.Learnt, Deeper t, reads.Post, next.Asked, next.Learnt)
+
+-- k is the next helper of n, or the number of nodes
+record DividedSoFar (nodes : ℕ) (h share : ℕ → ℕ) (n : ℕ) (noted out : List ℕ) (k : ℕ) : Type 0 where
+  k-le : k ≤ nodes
+  helper : k < nodes → helps h n k ≡ true
+  long : length out ≡ 64
+  passed : Passed nodes h share n noted k out
+
 abbrev Inv : lts.InvT-loop
-Inv table totals leasts helpands links nodes limit depth n out₀ k₀ amounts out k =
-    (k ≤ nodes) × (k < nodes → helps (at helpands) n k ≡ true) × (length out ≡ 64)
-    × Passed nodes (at helpands) (at (sharesIn nodes limit helpands leasts totals table)) (depth - 1) n (at out₀) k (at out)
+Inv depth n table totals leasts helpands links nodes limit noted k₀ out k =
+    DividedSoFar nodes (at helpands) (shareIn nodes limit helpands leasts totals table) n noted out k
 
 abbrev μ : lts.MeasureT-loop
-μ table totals leasts helpands links nodes limit depth n out₀ k₀ amounts out k = nodes - k
+μ depth n table totals leasts helpands links nodes limit noted k₀ out k = nodes - k
 
 module _ (t : ℕ) where
-  -- node k of a turn is a helper
-  helper : (c : lts.In-loop (family.Asked, family.Learnt, Deeper t, reads.Post) (Here t) reads.Post Inv μ) →
-      let l = c .before in
-      let a = l .before .before .before .before .before .before .args in
-      helps (at (now (a .helpands))) (a .n) (l .loop .k) ≡ true
-  helper c = c .before .loop .inv .1 (c .loop-test .taken)
+  -- the depth is not used up
+  returns : lts.Need-returns (claims t) (Here t) reads.Post Inv μ
+  returns c = absurd (shallow-some _ _ _ _ (c .before .pre .1 .2) (c .if1 .taken))
 
-  -- and its amount is its share
-  noted : (c : lts.In-loop (family.Asked, family.Learnt, Deeper t, reads.Post) (Here t) reads.Post Inv μ) →
-      let l = c .before in
-      let a = l .before .before .before .before .before .before .args in
-      at (l .before .divide-family .result) (l .loop .k) ≡ at (sharesIn (a .nodes) (a .limit) (now (a .helpands)) (now (a .leasts)) (now (a .totals)) (now (a .table))) (l .loop .k)
-  noted c =
-      let l = c .before in
-      let b = l .before .before .before .before .before .before in
-      let a = b .args in
-      let h = at (now (a .helpands)) in
-      let k = l .loop .k in
-      let r = at (now (a .shares)) (a .n) in
-      let f = amount (a .nodes) h (a .limit) (at (now (a .leasts))) (at (now (a .totals))) (held (now (a .table))) r (a .n) in
-      let w = b .pre .1 .0 .rooted in
-      ap (λ (xs : List ℕ). at xs k) (l .before .divide-family .ensures)
-      ∙ tabulate-at (a .nodes) f k (omega arith)
-      ∙ array-helper (a .nodes) h (a .limit) (at (now (a .leasts))) (at (now (a .totals))) (held (now (a .table))) (w .0) (w .1)
-      (a .n) k r (omega arith) (helps-ne h (a .n) k (helper c)) (helps-of h (a .n) k (helper c)) (b .pre .1 .4)
-
-  -- the next helper behind it
-  onward : (c : lts.In-loop (family.Asked, family.Learnt, Deeper t, reads.Post) (Here t) reads.Post Inv μ) →
-      let l = c .before in
-      let a = l .before .before .before .before .before .before .args in
-      FirstFrom (a .nodes) (helps (at (now (a .helpands))) (a .n)) (l .loop .k + 1) (at (now (a .links)) (64 + l .loop .k))
-  onward c =
-      let l = c .before in
-      let b = l .before .before .before .before .before .before in
-      let a = b .args in
-      let h = at (now (a .helpands)) in
-      let k = l .loop .k in
-      rw (helps-of h (a .n) k (helper c)) at (b .pre .1 .1 .next k (c .loop-test .taken) (helper-below h (a .n) k (helper c)))
-
-  returns : lts.Need-returns (family.Asked, family.Learnt, Deeper t, reads.Post) (Here t) reads.Post Inv μ
-  returns c = (c .before .pre .1 .3, rw (c .if1 .taken) (walked-none (c .before .pre .1 .4)))
-
-  returns-2 : lts.Need-returns-2 (family.Asked, family.Learnt, Deeper t, reads.Post) (Here t) reads.Post Inv μ
+  -- n has no helpers
+  returns-2 : lts.Need-returns-2 (claims t) (Here t) reads.Post Inv μ
   returns-2 c =
-      let b = c .before .before .before in
-      let a = b .args in
-      let d : suc (a .depth - 1) ≡ a .depth = omega arith in
-      let right = at (sharesIn (a .nodes) (a .limit) (now (a .helpands)) (now (a .leasts)) (now (a .totals)) (now (a .table))) in
-      let x = rw (c .if2 .taken) at (b .pre .1 .1 .first (a .n) (b .pre .1 .2)) in (
-        b .pre .1 .3,
-        rw d at (passed-all {right = right} {depth = a .depth - 1} {before = at (now (a .shares))} (b .pre .1 .0 .rooted .1 .inside) (passed-next passed-none x) (b .pre .1 .4)),
+      let f = c .before in
+      let p = f .before .before .pre .1 in
+      let x = rw (c .if2 .taken) at (link-first (p .0 .linked) _ (p .1) (f .first .ensures)) in
+      (p .4, passed-all (p .0 .rooted .1) (passed-next passed-none x) (p .5))
+
+  -- the family of n is divided
+  module _ (c : lts.After-divide-family (claims t) (Here t) reads.Post Inv μ) where
+    abbrev begun : lts.After-first (claims t) (Here t) reads.Post Inv μ
+    begun = c .before .before .before
+
+    abbrev start : lts.Start (claims t) (Here t) reads.Post Inv μ
+    start = begun .before .before
+
+    abbrev right : ℕ → ℕ
+    right =
+        let a = start .args in
+        shareIn (a .nodes) (a .limit) (now (a .helpands)) (now (a .leasts)) (now (a .totals)) (now (a .table))
+
+    described :
+        let a = start .args in
+        let amounts = amountsIn (a .nodes) (a .limit) (now (a .helpands)) (now (a .leasts)) (now (a .totals)) (now (a .table)) in
+        Descends (a .nodes) (at (now (a .helpands))) amounts right
+    described =
+        let w = start .pre .1 .0 .rooted in
+        shares-described _ _ _ _ _ (held (now (start .args .table))) (w .0) (w .1)
+
+  holds : lts.Need-loop-holds (claims t) (Here t) reads.Post Inv μ
+  holds c =
+      let p = start c .pre .1 in
+      let x = link-first (p .0 .linked) (start c .args .n) (p .1) (begun c .first .ensures) in
+      record { k-le = x .to-le; helper = x .passes; long = c .divide-family .ensures .0; passed = passed-next passed-none x }
+
+  -- a turn begins
+  module _ (c : lts.In-loop (claims t) (Here t) reads.Post Inv μ) where
+    abbrev divided : lts.After-divide-family (claims t) (Here t) reads.Post Inv μ
+    divided = c .before .before
+
+    helps-n : helps (at (now (start divided .args .helpands))) (start divided .args .n) (c .before .loop .k) ≡ true
+    helps-n = c .before .loop .inv .helper (c .loop-test .taken)
+
+    onward : {to : ℕ} →
+        let a = start divided .args in
+        let k = c .before .loop .k in
+        to ≡ at (now (a .links)) (64 + k) → FirstFrom (a .nodes) (helps (at (now (a .helpands))) (a .n)) (k + 1) to
+    onward e = link-next (start divided .pre .1 .0 .linked) (start divided .args .n) (c .loop-test .taken) helps-n e
+
+  requires : lts.Need-divide-below-requires (claims t) (Here t) reads.Post Inv μ
+  requires c κs =
+      let i = c .before in
+      let d = divided i in
+      let p = start d .pre .1 in
+      let k = i .before .loop .k in
+      let b = i .loop-test .taken in
+      let v = i .before .loop .inv in
+      let n = noted-right (described d) (p .5) (d .divide-family .ensures .1) in (
+        omega (arith, start d .pre .0, shallow-some _ _ _ _ (p .2)),
+        (p .0, b, shallow-helper _ _ _ _ (p .2) k b (helps-n i), p .3, v .long, v .passed .kept k b (n .0 k b (helps-n i))),
       )
 
-  divide-family-requires : lts.Need-divide-family-requires (family.Asked, family.Learnt, Deeper t, reads.Post) (Here t) reads.Post Inv μ
-  divide-family-requires c κs = (c .before .before .before .before .pre .1 .0, c .before .before .before .before .pre .1 .2)
-
-  divide-below-requires : lts.Need-divide-below-requires (family.Asked, family.Learnt, Deeper t, reads.Post) (Here t) reads.Post Inv μ
-  divide-below-requires c κs =
-      let l = c .before .before in
-      let p = l .before .before .before .before .before .before .pre .1 in
-      let k = l .loop .k in
-      let v = at (l .before .divide-family .result) k in
-      (search needs, (p .0, p .1, omega arith, simp length-set (l .loop .inv .2), getD-set-same (l .loop .shares) k v 0 (omega arith) ∙ noted (c .before)))
-
-  loop-holds : lts.Need-loop-holds (family.Asked, family.Learnt, Deeper t, reads.Post) (Here t) reads.Post Inv μ
-  loop-holds c =
-      let p = c .before .before .before .before .before .pre .1 in
-      let x = p .1 .first (c .before .before .before .before .before .args .n) (p .2) in
-      (x .to-le, x .passes, p .3, passed-next passed-none x)
-
-  loop-again : lts.Need-loop-again (family.Asked, family.Learnt, Deeper t, reads.Post) (Here t) reads.Post Inv μ
-  loop-again c =
+  less : lts.Need-loop-less (claims t) (Here t) reads.Post Inv μ
+  less c =
       let i = c .before .before .before in
-      let l = i .before in
-      let p = l .before .before .before .before .before .before .pre .1 in
-      let k = l .loop .k in
-      let v = at (l .before .divide-family .result) k in
-      let x = onward i in
-      let d = c .before .divide-below .ensures in
-      (x .to-le, x .passes, d .0, passed-next (passed-helper v (l .loop .shares) (l .loop .inv .3) (omega (arith, p .0 .few)) (noted i) (d .1)) x)
+      omega (arith, onward i (c .next .ensures) .from-le)
 
-  returns-3 : lts.Need-returns-3 (family.Asked, family.Learnt, Deeper t, reads.Post) (Here t) reads.Post Inv μ
+  again : lts.Need-loop-again (claims t) (Here t) reads.Post Inv μ
+  again c =
+      let b = c .before in
+      let i = b .before .before in
+      let x = onward i (c .next .ensures) in
+      record {
+        k-le = x .to-le;
+        helper = x .passes;
+        long = b .divide-below .ensures .0;
+        passed = passed-next (passed-helper (i .before .loop .inv .passed) (b .divide-below .ensures .1)) x;
+      }
+
+  returns-3 : lts.Need-returns-3 (claims t) (Here t) reads.Post Inv μ
   returns-3 c =
-      let l = c .before in
-      let b = l .before .before .before .before .before .before in
-      let a = b .args in
-      let e : l .loop .k ≡ a .nodes = omega arith in
-      let d : suc (a .depth - 1) ≡ a .depth = omega arith in
-      (l .loop .inv .2, rw d at (passed-all (b .pre .1 .0 .rooted .1 .inside) (rw e at (l .loop .inv .3)) (b .pre .1 .4)))
+      let d = c .before .before in
+      let p = start d .pre .1 in
+      let v = c .before .loop .inv in
+      let e : c .before .loop .k ≡ start d .args .nodes = omega (arith, v .k-le) in
+      let n = noted-right (described d) (p .5) (d .divide-family .ensures .1) in
+      let own = v .passed .kept (start d .args .n) (p .1) (n .1 .kept (start d .args .n) (p .1) (p .5)) in
+      (v .long, descended-after (n .1) (passed-all (p .0 .rooted .1) (rw e at (v .passed)) own))
 
 pub +divide-below-spec : {M : Type 1} → statement M
-+divide-below-spec = close μ-divide-below λ t. lts.spec (family.Asked, family.Learnt, Deeper t, reads.Post)
++divide-below-spec = close μ-divide-below λ t. lts.spec
+    (claims t)
     (Here t)
     reads.Post
     Inv
     μ
     (returns t)
-    (λ c. search needs)  -- mul-k
-    (λ c. search needs)  -- element-copy-out-k
+    (λ c κs. search needs)  -- first-requires
     (returns-2 t)
-    (λ c. search needs)  -- mul-divide-family
-    (λ c. search needs)  -- element-copy-out-divide-family
-    (divide-family-requires t)
-    (loop-holds t)
-    (λ c. search needs)  -- mul-shares
-    (λ c. search needs)  -- array-read-shares
-    (λ c. search needs)  -- mul-shares-2
-    (λ c. search needs)  -- element-write-shares
+    (λ c κs. search needs)  -- divide-family-requires
+    (holds t)
     (λ c. search needs)  -- sub-divide-below
-    (divide-below-requires t)
-    (λ c. search needs)  -- add-k
-    (λ c. search needs)  -- mul-k-2
-    (λ c. search needs)  -- element-copy-out-k-2
-    (λ c. omega (arith, onward t (c .before .before .before) .from-le))  -- loop-less
-    (loop-again t)
+    (requires t)
+    (λ c κs. search needs)  -- next-requires
+    (less t)
+    (again t)
     (returns-3 t)

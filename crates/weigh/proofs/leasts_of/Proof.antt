@@ -1,57 +1,73 @@
--- `weigh::leasts_of` meets its contract: the sheet's table, its totals, the plan's tree and its leasts, one after the other.
+-- `weigh::leasts_of` meets its contract: the sheet's table, its totals, the plan's tree, its links and its leasts, one after the other.
 -- Assumes nothing.
 use borrow.Author.Needs.{needs}
-use mathlib.Core.Path.{_∙_}
+use mathlib.Core.List.{List}
+use Prim.Native.Nat.{ℕ}
 use native.Mathlib.Omega.{arith}
 use denote.Ref.{now}
-use Rattle.plan.specs.Plan.{helpandsOf}
+use Rattle.sheet.specs.Sheet.{accepted}
+use Rattle.sheet.proofs.Accepted.{Accepted, sheet-unpackable}
 use Rattle.plan.proofs.Accepted.{plan-accepted}
-use Rattle.arrays.proofs.Padded.{padded-same}
-use Rattle.sheet.proofs.Accepted.{sheet-unpackable}
-use Rattle.weigh.proofs.Weighed.{facts, sum-within, array-tree}
+use Rattle.weigh.proofs.Weighed.{facts, sum-within, array-tree, leasts-read}
 use Rattle.weigh.proofs.leasts_of.Statement.{statement}
 use Rattle.weigh.proofs.leasts_of.Tie as tie
 
+module _ (c : tie.After-struct-known2) where
+  abbrev start : tie.Start
+  start = c .before .before .before .before
+
+  abbrev sheet : List ℕ
+  sheet = now (start .args .sheet)
+
+  abbrev plan : List ℕ
+  plan = now (start .args .plan)
+
+  read : let s = start .args .s in Accepted sheet (accepted (s .n) (s .t) (s .e) (s .p) (s .limit))
+  read = facts sheet plan (start .args .s) (start .pre)
+
+-- the points on the way
+abbrev before-words : tie.After-words-64 → tie.After-struct-known2
+before-words c = c .before .before .before .before
+
+abbrev before-links : tie.After-helpands → tie.After-struct-known2
+before-links c = before-words (c .before .before)
+
 unpack-requires : tie.Need-unpack-requires
-unpack-requires c κs =
-    let start = c .before .before .before .before in
-    let f = facts (now (start .args .sheet)) (now (start .args .plan)) (start .args .s) (start .pre) in
-    (_, sheet-unpackable _ _ f)
+unpack-requires c κs = (_, sheet-unpackable _ _ (read c))
 
 totals-requires : tie.Need-totals-requires
 totals-requires c κs =
-    let start = c .before .before .before .before .before .before in
-    let s = now (start .args .sheet) in
-    let p = now (start .args .plan) in
-    (facts s p (start .args .s) (start .pre) .n-high, rw (c .before .unpack .ensures) (sum-within s p (start .args .s) (start .pre)))
+    let s = c .before .before in
+    (read s .n-high, rw (c .before .unpack .ensures) (sum-within (sheet s) (plan s) (start s .args .s) (start s .pre)))
 
 words-64-requires : tie.Need-words-64-requires
 words-64-requires c κs =
-    let start = c .before .before .before .before .before .before .before in
-    let w = start .pre in
-    let f = facts (now (start .args .sheet)) (now (start .args .plan)) (start .args .s) w in
-    (omega (arith, plan-accepted (now (start .args .plan)) (w .plan) .size, w .nodes), f .n-high)
+    let s = c .before .before .before in
+    let w = start s .pre in
+    (omega (arith, plan-accepted (plan s) (w .plan) .size, w .nodes), read s .n-high)
 
 find-root-requires : tie.Need-find-root-requires
 find-root-requires c κs =
-    let start = c .before .before .before .before .before .before .before .before in
-    let s = now (start .args .sheet) in
-    let p = now (start .args .plan) in
-    (facts s p (start .args .s) (start .pre) .n-high, rw (c .words-64 .ensures) (array-tree s p (start .args .s) (start .pre)))
+    let s = before-words c in
+    (read s .n-high, rw (c .words-64 .ensures) (array-tree (sheet s) (plan s) (start s .args .s) (start s .pre)))
+
+helper-links-requires : tie.Need-helper-links-requires
+helper-links-requires c κs = (read (before-links c) .n-high, c .before .find-root .ensures .inside)
 
 leasts-requires : tie.Need-leasts-requires
 leasts-requires c κs =
-    let start = c .before .before .before .before .before .before .before .before .before in
-    (facts (now (start .args .sheet)) (now (start .args .plan)) (start .args .s) (start .pre) .n-high, c .find-root .ensures)
+    let h = c .before .before in
+    (read (before-links h) .n-high, h .before .find-root .ensures, c .before .helper-links .ensures)
 
 returns : tie.Need-returns
 returns c =
-    let w = c .before .before in
+    let h = c .before .before .before in
+    let w = h .before .before in
     let t = w .before in
+    let s = before-links h in
     let u = t .before .before in
-    let start = u .before .before .before .before .before in
-    rw (← start .pre .sheet)
-    (c .leasts .ensures ∙ rw (w .words-64 .ensures, padded-same (helpandsOf (now (start .args .plan)) (start .args .s .n)), t .totals .ensures, u .unpack .ensures))
+    leasts-read (sheet s) (plan s) (start s .args .s) (start s .pre) (u .unpack .result) (t .totals .result) (w .words-64 .result)
+    (c .leasts .result) (u .unpack .ensures) (t .totals .ensures) (w .words-64 .ensures) (c .leasts .ensures)
 
 pub leasts-of-spec : {M : Type 1} → statement M
 leasts-of-spec =
@@ -63,5 +79,6 @@ leasts-of-spec =
     totals-requires
     words-64-requires
     find-root-requires
+    helper-links-requires
     leasts-requires
     returns)

@@ -2,156 +2,164 @@
 -- `spare`. At the loop's head the helpers passed are weighed. Assumes nothing.
 use borrow.Author.Needs.{needs}
 use Prim.Native.Nat.{ℕ, _<_, _≤_, _+_, _-_}
-use mathlib.Core.Path.{_≡_, sym, ap, _∙_}
-use mathlib.Core.Logic.{⊎-elim}
+use mathlib.Core.Path.{_≡_, refl, sym, ap, _∙_}
 use mathlib.Core.Bool.{true}
+use mathlib.Core.List.{List}
 use native.Mathlib.Omega.{arith}
-use lib.ListN.{length, length-set}
+use lib.ListN.{length, set, length-set}
 use borrow.Fn.Kinds.{In}
 use borrow.Fn.PlainCycle.{Measures, is, falls, and}
+use denote.Ref.{now}
+use Rattle.fold.specs.First.{FirstFrom}
 use Rattle.arrays.specs.Arrays.{at}
 use Rattle.tree.specs.Family.{helps}
-use Rattle.tree.proofs.Families.{helps-yes, helps-other, helps-self}
+use Rattle.tree.specs.Weigh.{least as leastOf}
+use Rattle.tree.specs.Inner.{LinkedTree, Descended}
+use Rattle.tree.proofs.Linking.{link-first, link-next, Left, left-first, left-next, left-all}
 use Rattle.tree.proofs.Weighing.{shallow-some, shallow-helper, least-is}
-use Rattle.tree.proofs.Passing.{Passed, passed-none, passed-skip, passed-more, passed-all}
+use Rattle.tree.proofs.Passing.{Passed, passed-none, passed-next, passed-helper, passed-store}
 use Rattle.tree.proofs.weigh.least.Reads as least
 use Rattle.tree.proofs.weigh.least.Kinds as least-kinds
 use Rattle.tree.proofs.weigh.+least+spare.Lts-least as least-lts
 use Rattle.tree.proofs.weigh.spare.Reads as spare
 use Rattle.tree.proofs.weigh.spare.Kinds as spare-kinds
 use Rattle.tree.proofs.weigh.+least+spare.Lts-spare as spare-lts
-use Rattle.fold.proofs.numbers.less.Reads as less-reads
+use Rattle.fold.proofs.numbers.less.Reads as less
+use Rattle.tree.proofs.links.first.Reads as first
+use Rattle.tree.proofs.links.next.Reads as next
 use Rattle.tree.proofs.weigh.+least+spare.{statement}
 use Rattle.tree.proofs.weigh.+least+spare.Tie.{close}
 
-abbrev μ-least : Measures 3 least-kinds.ps ℕ
-μ-least κs a = a .1 .1 .1 .1 .0 + a .1 .1 .1 .1 .0
+abbrev μ-least : Measures 4 least-kinds.ps ℕ
+μ-least κs a = a .0 + a .0
 
-abbrev μ-spare : Measures 3 spare-kinds.ps ℕ
-μ-spare κs a = a .1 .1 .1 .1 .0 + a .1 .1 .1 .1 .0 + 1
+abbrev μ-spare : Measures 4 spare-kinds.ps ℕ
+μ-spare κs a = a .0 + a .0 + 1
 
-abbrev least-at : ℕ → In 3 least-kinds.ps
-least-at t = and 3 least-kinds.ps (is 3 least-kinds.ps μ-least t) least.Pre
+abbrev least-at : ℕ → In 4 least-kinds.ps
+least-at t = and 4 least-kinds.ps (is 4 least-kinds.ps μ-least t) least.Pre
 
-abbrev least-below : ℕ → In 3 least-kinds.ps
-least-below t = and 3 least-kinds.ps (falls 3 least-kinds.ps _<_ μ-least t) least.Pre
+abbrev least-below : ℕ → In 4 least-kinds.ps
+least-below t = and 4 least-kinds.ps (falls 4 least-kinds.ps _<_ μ-least t) least.Pre
 
-abbrev spare-at : ℕ → In 3 spare-kinds.ps
-spare-at t = and 3 spare-kinds.ps (is 3 spare-kinds.ps μ-spare t) spare.Pre
+abbrev spare-at : ℕ → In 4 spare-kinds.ps
+spare-at t = and 4 spare-kinds.ps (is 4 spare-kinds.ps μ-spare t) spare.Pre
 
-abbrev spare-below : ℕ → In 3 spare-kinds.ps
-spare-below t = and 3 spare-kinds.ps (falls 3 spare-kinds.ps _<_ μ-spare t) spare.Pre
+abbrev spare-below : ℕ → In 4 spare-kinds.ps
+spare-below t = and 4 spare-kinds.ps (falls 4 spare-kinds.ps _<_ μ-spare t) spare.Pre
+
+-- what is known of the functions that `least` calls
+abbrev claims : ℕ → least-lts.Claims
+claims t = (first.Asked, first.Learnt, spare-below t, spare.Post, less.Asked, less.Learnt, next.Asked, next.Learnt)
+
+-- ---- the loop over the helpers of n: those below k are weighed
+
+record WeighedSoFar (nodes : ℕ) (h total : ℕ → ℕ) (limit n : ℕ) (before out : List ℕ) (left k : ℕ) : Type 0 where
+  long : length out ≡ 64
+  spared : Left nodes h n (λ i. limit - leastOf nodes h total limit i) (total n) left k
+  passed : Passed nodes h (leastOf nodes h total limit) n before k out
+
+-- what is left is the least of n, which is stored
+ends : {nodes : ℕ} {h total : ℕ → ℕ} {limit n : ℕ} {before out links : List ℕ} {left k : ℕ} → LinkedTree nodes h links → n < nodes
+    → WeighedSoFar nodes h total limit n before out left k → nodes ≤ k
+    → (left ≡ leastOf nodes h total limit n) × (length (set out n left) ≡ 64)
+    × Descended nodes h (leastOf nodes h total limit) n before (set out n left)
+ends {nodes} {h} {total} {limit} {n} {left = left} w l v b =
+    let e = left-all (v .spared) b in
+    let q = e .1 ∙ sym (least-is nodes h total limit (w .rooted .0) (w .rooted .1) n) in
+    (q, simp length-set (v .long), passed-store (w .rooted .1) l (omega (arith, v .long, w .few)) (rw (e .0) at (v .passed)) left q)
 
 abbrev Inv : least-lts.InvT-loop
-Inv totals helpands nodes limit depth n out₀ owner left₀ k₀ out left k =
-    (k ≤ nodes) × (length out ≡ 64) × Passed nodes (at helpands) (at totals) limit n out₀ k left out
+Inv depth n totals helpands links nodes limit out₀ left₀ k₀ out left k =
+    WeighedSoFar nodes (at helpands) (at totals) limit n out₀ out left k
 
 abbrev μ : least-lts.MeasureT-loop
-μ totals helpands nodes limit depth n out₀ owner left₀ k₀ out left k = nodes - k
+μ depth n totals helpands links nodes limit out₀ left₀ k₀ out left k = nodes - k
 
 module _ (t : ℕ) where
   -- the depth is not used up
-  none-left : least-lts.Need-returns (spare-below t, spare.Post, less-reads.Asked, less-reads.Learnt) (least-at t) least.Post Inv μ
-  none-left c =
-      let p = c .before .pre .1 .0 in
-      absurd (shallow-some _ _ _ _ (p .shallow) (c .if1 .taken))
+  none-left : least-lts.Need-returns (claims t) (least-at t) least.Post Inv μ
+  none-left c = absurd (shallow-some _ _ _ _ (c .before .pre .1 .2) (c .if1 .taken))
 
-  holds : least-lts.Need-loop-holds (spare-below t, spare.Post, less-reads.Asked, less-reads.Learnt) (least-at t) least.Post Inv μ
-  holds c = (omega arith, c .before .before .pre .1 .1, passed-none _ _ _ _ _ _)
+  holds : least-lts.Need-loop-holds (claims t) (least-at t) least.Post Inv μ
+  holds c =
+      let p = c .before .before .before .pre .1 in
+      let x = link-first (p .0 .linked) _ (p .1) (c .first .ensures) in
+      record { long = p .3; spared = left-first refl x; passed = passed-next passed-none x }
 
-  -- k helps n
-  helper : (c : least-lts.Then3 (spare-below t, spare.Post, less-reads.Asked, less-reads.Learnt) (least-at t) least.Post Inv μ) →
-      let l = c .before .before .before .before in
-      let a = l .before .before .before .args in
-      helps (at (a .helpands .now)) (a .n) (l .loop .k) ≡ true
-  helper c =
-      let l = c .before .before .before .before in
-      let a = l .before .before .before .args in
-      helps-yes (at (a .helpands .now)) (a .n) (l .loop .k) (c .before .if2 .taken) (c .if3 .taken)
+  -- a turn begins
+  module _ (c : least-lts.In-loop (claims t) (least-at t) least.Post Inv μ) where
+    abbrev start : least-lts.Start (claims t) (least-at t) least.Post Inv μ
+    start = c .before .before .before .before .before
 
-  down : least-lts.Need-spare-requires (spare-below t, spare.Post, less-reads.Asked, less-reads.Learnt) (least-at t) least.Post Inv μ
+    abbrev k : ℕ
+    k = c .before .loop .k
+
+    helps-n : helps (at (now (start .args .helpands))) (start .args .n) k ≡ true
+    helps-n = c .before .loop .inv .spared .helper (c .loop-test .taken)
+
+    onward : {to : ℕ} →
+        let a = start .args in
+        to ≡ at (now (a .links)) (64 + k) → FirstFrom (a .nodes) (helps (at (now (a .helpands))) (a .n)) (k + 1) to
+    onward e = link-next (start .pre .1 .0 .linked) (start .args .n) (c .loop-test .taken) helps-n e
+
+  down : least-lts.Need-spare-requires (claims t) (least-at t) least.Post Inv μ
   down c κs =
-      let l = c .before .before .before .before .before in
-      let start = l .before .before .before in
-      let p = start .pre .1 .0 in (
-        omega (arith, start .pre .0, shallow-some _ _ _ _ (p .shallow)),
-        (
-          record {
-            few = p .few;
-            node = omega arith;
-            tree = p .tree;
-            shallow = shallow-helper _ _ _ _ (p .shallow) (l .loop .k) (omega arith) (helper (c .before));
-          },
-          l .loop .inv .1,
-        ),
+      let i = c .before in
+      let p = start i .pre .1 in
+      let b = i .loop-test .taken in (
+        omega (arith, start i .pre .0, shallow-some _ _ _ _ (p .2)),
+        (p .0, b, shallow-helper _ _ _ _ (p .2) (k i) b (helps-n i), i .before .loop .inv .long),
       )
 
-  again : least-lts.Need-loop-again (spare-below t, spare.Post, less-reads.Asked, less-reads.Learnt) (least-at t) least.Post Inv μ
+  again : least-lts.Need-loop-again (claims t) (least-at t) least.Post Inv μ
   again c =
-      let l = c .before .before .before in
-      let a = l .before .before .before .args in
-      let h = at (a .helpands .now) in
-      let k = l .loop .k in
-      let p = l .loop .inv .2 in
-      ⊎-elim
-      (λ w. (
-        omega arith,
-        ap length (w .5) ∙ w .3 .ensures .1,
-        rw (w .5, w .6 ∙ w .4 .ensures) (passed-more _ _ _ _ _ _ _ _ _ p (w .3 .result) (w .3 .last .1 .1 .1 .1 .1 .1 .0) (helps-yes h (a .n) k (w .0 .taken) (w .1 .taken)) (w .3 .ensures .0) (w .3 .ensures .2)),
-      ))
-      (⊎-elim
-      (λ w. (omega arith, ap length (w .2) ∙ l .loop .inv .1, rw (w .2, w .3) (passed-skip _ _ _ _ _ _ _ _ _ p (helps-self h (a .n) k (w .1 .left)))))
-      (λ w. (omega arith, ap length (w .1) ∙ l .loop .inv .1, rw (w .1, w .2) (passed-skip _ _ _ _ _ _ _ _ _ p (helps-other h (a .n) k (w .0 .left))))))
-      (c .if2 .came)
+      let m = c .before in
+      let d = m .before in
+      let i = d .before .before in
+      let v = i .before .loop .inv in
+      let s = d .spare .ensures in
+      let x = onward i (c .next .ensures) in
+      record {
+        long = s .1;
+        spared = left-next (v .spared) (i .loop-test .taken) (m .less .ensures ∙ ap (λ (y : ℕ). i .before .loop .left - y) (s .0)) x;
+        passed = passed-next (passed-helper (v .passed) (s .2)) x;
+      }
 
-  done : least-lts.Need-returns-2 (spare-below t, spare.Post, less-reads.Asked, less-reads.Learnt) (least-at t) least.Post Inv μ
+  done : least-lts.Need-returns-2 (claims t) (least-at t) least.Post Inv μ
   done c =
-      let l = c .before in
-      let start = l .before .before .before in
-      let a = start .args in
-      let p = start .pre .1 .0 in
-      let e : l .loop .k ≡ a .nodes = omega arith in
-      let q : Passed (a .nodes) (at (a .helpands .now)) (at (a .totals .now)) (a .limit) (a .n) (a .leasts .now) (a .nodes) (l .loop .left) (l .loop .leasts) = rw e at (l .loop .inv .2) in (
-        q .left-is ∙ sym (least-is _ _ _ _ (p .tree .0) (p .tree .1) (a .n)),
-        simp length-set (l .loop .inv .1),
-        passed-all _ _ _ _ _ _ (p .tree .0) (p .tree .1) (p .node) (l .loop .left) (l .loop .leasts) (omega arith) q,
-      )
+      let p = c .before .before .before .before .before .pre .1 in
+      ends (p .0) (p .1) (c .before .loop .inv) (c .loop-test .left)
 
-  spared : spare-lts.Need-returns (least-below t, least.Post, less-reads.Asked, less-reads.Learnt) (spare-at t) spare.Post
+  spared : spare-lts.Need-returns (least-below t, least.Post, less.Asked, less.Learnt) (spare-at t) spare.Post
   spared c =
       let m = c .before in
       let a = m .before .before .args in
       (c .less .ensures ∙ ap (λ (x : ℕ). a .limit - x) (m .least .ensures .0), m .least .ensures .1, m .least .ensures .2)
 
 pub +least+spare-spec : {M : Type 1} → statement M
-+least+spare-spec = close μ-least μ-spare (λ t. least-lts.spec (
-  spare-below t,
-  spare.Post,
-  less-reads.Asked,
-  less-reads.Learnt,
-)
++least+spare-spec = close μ-least μ-spare (λ t. least-lts.spec
+    (claims t)
     (least-at t)
     least.Post
     Inv
     μ
     (none-left t)
-    (λ c. search needs)  -- least-cast-owner
     (λ c. search needs)  -- least-mul-left
     (λ c. search needs)  -- least-element-copy-out-left
+    (λ c κs. search needs)  -- least-first-requires
     (holds t)
-    (λ c. search needs)  -- least-mul-if2
-    (λ c. search needs)  -- least-element-copy-out-if2
     (λ c. search needs)  -- least-sub-spare
     (down t)
     (λ c κs. search needs)  -- least-less-requires
-    (λ c. search needs)  -- least-add-k
-    (λ c. search needs)  -- least-loop-less
+    (λ c κs. search needs)  -- least-next-requires
+    (λ c. omega (arith, onward t (c .before .before .before .before) (c .next .ensures) .from-le))  -- least-loop-less
     (again t)
     (λ c. search needs)  -- least-mul-leasts
     (λ c. search needs)  -- least-element-write-leasts
     (done t))
     λ t. spare-lts.spec
-    (least-below t, least.Post, less-reads.Asked, less-reads.Learnt)
+    (least-below t, least.Post, less.Asked, less.Learnt)
     (spare-at t)
     spare.Post
     (λ c κs. search needs)  -- spare-least-requires

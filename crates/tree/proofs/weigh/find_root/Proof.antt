@@ -15,15 +15,20 @@ Inv-loop nodes helpands node₀ node = (node < nodes) × ((r : ℕ) → Tree nod
 abbrev μ-loop : tie.MeasureT-loop
 μ-loop nodes helpands node₀ node = nodes - node
 
+-- the node that was tried is no root either
+ahead : (c : tie.In-loop Inv-loop μ-loop) →
+    let l = c .before in
+    (r : ℕ) → Tree (l .before .args .nodes) (at (l .before .args .t1)) r → l .loop .node + 1 ≤ r
+ahead c r t = elim (ℕ-discrete (c .before .loop .node) r) [
+  | yes e ↦ absurd (c .loop-test .taken (rw e (t .own)))
+  | no d ↦ omega (arith, c .before .loop .inv .1 r t, d)
+]
+
 loop-again : tie.Need-loop-again Inv-loop μ-loop
 loop-again c =
     let l = c .before in
-    let ahead : (r : ℕ) → Tree (l .before .args .nodes) (at (l .before .args .t1)) r → l .loop .node + 1 ≤ r = λ r t. elim (ℕ-discrete (l .loop .node) r) [
-      | yes e ↦ absurd (c .loop-test .taken (rw e (t .own)))
-      | no d ↦ omega (arith, l .loop .inv .1 r t, d)
-    ] in
     let w = l .before .pre .1 in
-    (omega (arith, ahead (w .0) (w .1), w .1 .root), ahead)
+    (omega (arith, ahead c (w .0) (w .1), w .1 .root), ahead c)
 
 returns : tie.Need-returns Inv-loop μ-loop
 returns c =

@@ -1,14 +1,11 @@
--- `tree::weigh::leasts` meets its contract: every chain comes to the root, so the walk down from there leaves every least.
+-- `tree::weigh::leasts` meets its contract: every chain comes to the root, so the pass down from there leaves every least.
 -- Assumes nothing.
 use borrow.Author.Needs.{needs}
-use mathlib.Core.Path.{refl, _∙_}
-use native.Mathlib.Numerals.{add-one}
+use mathlib.Core.Path.{refl}
 use Rattle.arrays.specs.Arrays.{at}
-use Rattle.tree.specs.Weigh.{least}
-use Rattle.tree.proofs.Weighing.{tree-shallow}
+use Rattle.tree.proofs.Weighing.{root-shallow}
+use Rattle.tree.proofs.Passing.{descended-root}
 use Rattle.tree.proofs.weigh.leasts.Statement.{statement}
-use Rattle.arrays.proofs.Padded.{zeros-at}
-use Rattle.arrays.proofs.Tabulate.{tabulate-is}
 use Rattle.tree.proofs.weigh.leasts.Tie as tie
 
 least-requires : tie.Need-least-requires
@@ -16,24 +13,16 @@ least-requires c κs =
     let start = c .before .before .before in
     let a = start .args in
     let t = start .pre .1 in (
-      record {
-        few = start .pre .0;
-        node = t .root;
-        tree = (a .root, t);
-        shallow = rw (add-one (a .nodes)) (tree-shallow (a .nodes) (at (a .t2)) (a .root) t (a .root));
-      },
+      record { few = start .pre .0; rooted = (a .root, t); linked = start .pre .2 },
+      t .root,
+      root-shallow (a .nodes) (at (a .t2)) t,
       refl,
     )
 
 returns : tie.Need-returns
 returns c =
     let start = c .before .before .before .before in
-    let a = start .args in
-    let t = start .pre .1 in
-    let w = c .least .ensures .2 in
-    tabulate-is (a .nodes) (least (a .nodes) (at (a .t2)) (at (a .t1)) (a .limit)) (start .pre .0) (c .least .last .1 .1 .1 .1 .1 .1 .0) (c .least .ensures .1)
-    (λ k l. w .below k (a .nodes) l (t .reach k l))
-    (λ k l. w .behind k l ∙ zeros-at 64 k)
+    descended-root (start .pre .1) (start .pre .0) (c .least .ensures .1) (c .least .ensures .2)
 
 pub leasts-spec : {M : Type 1} → statement M
 leasts-spec =
