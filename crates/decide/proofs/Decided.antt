@@ -27,7 +27,7 @@ use Rattle.shares.proofs.KeptShares.{table-shares}
 use Rattle.shares.proofs.KeptShares as shares
 use Rattle.rebuild.specs.Target.{targetOf}
 use Rattle.rebuild.proofs.TargetSums.{targets-within-limit, WithinTargets}
-use Rattle.rebuild.proofs.Rebuilding.{Balanced, rebuilt-on-target}
+use Rattle.rebuild.proofs.Rebuilding.{NewTree, rebuilt-on-target}
 use Rattle.decide.specs.declared.Decision.{Decision}
 use Rattle.decide.specs.Decide.{primaryPlan, leastsOf, keptPlan, rebuiltPlan, decided}
 use Rattle.arrays.proofs.Padded.{zeros-at}
@@ -138,7 +138,7 @@ module _ (nodes p t : ℕ) (table totals : List ℕ) (tree : Bool) (old : List �
 
   -- ---- rebuilt
 
-  rebuilt : (r : ℕ) × Balanced nodes p totals (record { helpands = rebuiltPlan nodes p totals old .helpands; shares = rebuiltPlan nodes p totals old .shares }) r
+  rebuilt : (r : ℕ) × NewTree nodes p totals (record { helpands = rebuiltPlan nodes p totals old .helpands; shares = rebuiltPlan nodes p totals old .shares }) r
   rebuilt =
       let b = rebuilt-on-target nodes p totals old (g .some) (g .few) (g .below) totals-long (g .adds) in (b .0, b .2)
 

@@ -9,7 +9,7 @@ use Rattle.fold.specs.Collect.{collect}
 use Rattle.arrays.specs.Arrays.{at}
 use Rattle.transfer.specs.Due.{dueWith, dueOf}
 use Rattle.transfer.specs.Matching.{matched, allRoutes, allCounts}
-use Rattle.transfer.specs.Carry.{moved, withinFrom, sendsWithin, carriedFrom, carried}
+use Rattle.transfer.specs.Apply.{moved, withinFrom, sendsWithin, carriedFrom, carried}
 
 -- three nodes' rows of a table: what each holds of subdomains 0, 1 and 2
 abbrev row : ℕ → ℕ → ℕ → List ℕ

@@ -6,7 +6,8 @@ ghost use Prim.Native.Nat.{_+_, _*_, _≤_};
 ghost use lib.ListN.{length};
 ghost use Rattle.arrays.specs.Arrays.{at};
 ghost use Rattle.plan.specs.Plan.{helpandsOf};
-ghost use Rattle.force.specs.Force.{inForce, Points, partOf, whereOf, sameHelpands};
+ghost use Rattle.in_force.specs.InForce.{inForce, Points, partOf, sameHelpands};
+ghost use Rattle.in_force.specs.Inner.{whereOf};
 
 // Whose helpands are in force, and how many they are.
 enum Chosen {

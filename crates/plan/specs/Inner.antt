@@ -1,4 +1,4 @@
--- What a check of a plan's shape answers.
+-- What the inner functions of this crate ask of each other. No promise to a caller rests on these definitions.
 use mathlib.Core.Bool.{Bool, true, false}
 use Rattle.plan.specs.declared.Checked.{Checked}
 use Rattle.plan.specs.declared.Checked.the-variants.{Passed, Refused}

@@ -1,4 +1,4 @@
--- `transfer::carry::apply_moves` meets its contract: at the loop's head the present table has what the moves left send, and the table
+-- `transfer::apply::apply_moves` meets its contract: at the loop's head the present table has what the moves left send, and the table
 -- that follows is that of the moves left, applied to the present one. Assumes nothing.
 use borrow.Author.Needs.{needs}
 use mathlib.Core.Path.{_≡_, refl, sym, subst₂, _∙_}
@@ -13,10 +13,10 @@ use Rattle.limit.specs.Limit.{maxTotal, tableSize}
 use Rattle.words.proofs.Words.{part-end}
 use Rattle.arrays.specs.Arrays.{at}
 use Rattle.moves.specs.Moves.{routesOf, countsOf}
-use Rattle.transfer.specs.Carry.{fromCell, intoCell, sends, carried}
+use Rattle.transfer.specs.Apply.{fromCell, intoCell, sends, carried}
 use Rattle.transfer.proofs.Applied.{into-below, Entry, entry-read, within-at, taken, applied-length, taken-sum, applied-sum, applied-enough, applied-within, carried-none, carried-more}
-use Rattle.transfer.proofs.carry.apply_moves.Statement.{statement}
-use Rattle.transfer.proofs.carry.apply_moves.Tie as tie
+use Rattle.transfer.proofs.apply.apply_moves.Statement.{statement}
+use Rattle.transfer.proofs.apply.apply_moves.Tie as tie
 
 record Applying (old moves : List ℕ) (e : ℕ) (table : List ℕ) (i : ℕ) : Type 0 where
   i-le : i ≤ e

@@ -1,4 +1,4 @@
--- `force::tree_in_force` meets its contract: each case is a part of one of the two slices, where it lies. Assumes nothing.
+-- `in_force::tree_in_force` meets its contract: each case is a part of one of the two slices, where it lies. Assumes nothing.
 use borrow.Author.Needs.{needs}
 use borrow.Rule.Slice.PartAt.{slPart}
 use native.Mathlib.Omega.{arith}
@@ -6,12 +6,13 @@ use mathlib.Core.Path.{_≡_, refl, sym, ap, _∙_}
 use mathlib.Core.List.{List}
 use Prim.Native.Nat.{ℕ, _+_, _-_}
 use denote.Ref.{RefT, now}
-use Rattle.force.specs.declared.Chosen.{Chosen}
-use Rattle.force.specs.declared.Chosen.the-variants.{Old, New}
-use Rattle.force.specs.Force.{inForce, PartOf, whereOf}
-use Rattle.force.proofs.InForce.{Within, in-force-within}
-use Rattle.force.proofs.tree_in_force.Statement.{statement}
-use Rattle.force.proofs.tree_in_force.Tie as tie
+use Rattle.in_force.specs.declared.Chosen.{Chosen}
+use Rattle.in_force.specs.declared.Chosen.the-variants.{Old, New}
+use Rattle.in_force.specs.InForce.{inForce, PartOf}
+use Rattle.in_force.specs.Inner.{whereOf}
+use Rattle.in_force.proofs.InForce.{Within, in-force-within}
+use Rattle.in_force.proofs.tree_in_force.Statement.{statement}
+use Rattle.in_force.proofs.tree_in_force.Tie as tie
 
 -- `&s[a..a + m]` is the m bytes of s from a on, where they lie; g is its ghost name
 part : (s : RefT (List ℕ)) (a m g : ℕ) → PartOf (slPart s (a + s .ptr .1) a (a + m) g) s a m

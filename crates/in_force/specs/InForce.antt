@@ -12,9 +12,7 @@ use Rattle.fold.specs.All.{all}
 use Rattle.plan.specs.declared.PlanAnswer.{PlanAnswer}
 use Rattle.arrays.specs.Arrays.{at}
 use Rattle.plan.specs.Plan.{helpandsOf, readPlan}
-use Rattle.force.specs.declared.PartAnswer.{PartAnswer}
-use Rattle.force.specs.declared.Chosen.{Chosen}
-use Rattle.force.specs.declared.Chosen.the-variants.{Old, New, Empty}
+use Rattle.in_force.specs.declared.PartAnswer.{PartAnswer}
 
 -- so many bytes from a start on, of the old plan or of the new: `ofOld start length`
 pub data Where : Type 0 where
@@ -69,9 +67,3 @@ Points (ofNew a n) r old new = PartOf r new a n
 abbrev pub partOf : Where → PartAnswer
 partOf (ofOld a n) = record { source = 1; start = a; length = n }
 partOf (ofNew a n) = record { source = 2; start = a; length = n }
-
--- the stretch that each case of the enum stands for
-abbrev pub whereOf : Chosen → Where
-whereOf (Old n) = ofOld 12 (4 * n)
-whereOf (New n) = ofNew 12 (4 * n)
-whereOf Empty = emptyStretch

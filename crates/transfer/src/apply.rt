@@ -6,7 +6,8 @@ ghost use mathlib.Core.Path.{_≡_};
 ghost use mathlib.Core.Bool.{true};
 ghost use Rattle.sheet.specs.Sheet.{cell};
 ghost use Rattle.moves.specs.Moves.{routesOf, countsOf};
-ghost use Rattle.transfer.specs.Carry.{fromCell, intoCell, sendsWithin, carried, Ready};
+ghost use Rattle.transfer.specs.Apply.{fromCell, intoCell, sendsWithin, carried};
+ghost use Rattle.transfer.specs.Inner.{Ready};
 
 // The cell that a route leads from.
 fn from_cell(route: u32) -> usize

@@ -1,14 +1,15 @@
--- `force::part_in_force` meets its contract: the numbers of each case are those of its stretch. Assumes nothing.
+-- `in_force::part_in_force` meets its contract: the numbers of each case are those of its stretch. Assumes nothing.
 use borrow.Author.Needs.{needs}
 use native.Mathlib.Omega.{arith}
 use mathlib.Core.Path.{_≡_, sym, ap, _∙_}
 use denote.Ref.{now}
-use Rattle.force.specs.declared.Chosen.{Chosen}
-use Rattle.force.specs.declared.Chosen.the-variants.{Old, New}
-use Rattle.force.specs.Force.{inForce, partOf, whereOf}
-use Rattle.force.proofs.InForce.{Within, in-force-within}
-use Rattle.force.proofs.part_in_force.Statement.{statement}
-use Rattle.force.proofs.part_in_force.Tie as tie
+use Rattle.in_force.specs.declared.Chosen.{Chosen}
+use Rattle.in_force.specs.declared.Chosen.the-variants.{Old, New}
+use Rattle.in_force.specs.InForce.{inForce, partOf}
+use Rattle.in_force.specs.Inner.{whereOf}
+use Rattle.in_force.proofs.InForce.{Within, in-force-within}
+use Rattle.in_force.proofs.part_in_force.Statement.{statement}
+use Rattle.in_force.proofs.part_in_force.Tie as tie
 
 -- the case found is the stretch in force, so it lies inside its plan
 module _ (c : tie.After-choose) (k : Chosen) (e : c .choose .result ≡ k) where

@@ -22,9 +22,9 @@ use Rattle.plan.specs.Plan.{helpandsOf, readPlan}
 use Rattle.plan.proofs.Trees.{tree-alone}
 use Rattle.plan.proofs.Accepted.{Accepted, plan-accepted, helpands-are}
 use Rattle.plan.proofs.AcceptedTree.{accepted-tree}
-use Rattle.force.specs.declared.PartAnswer.{PartAnswer}
-use Rattle.force.specs.Force.{Where, ofOld, ofNew, emptyStretch, isRefused, sameHelpands, noTree, inForce, Points, partOf}
-use Rattle.force.proofs.Stretch.{words-part}
+use Rattle.in_force.specs.declared.PartAnswer.{PartAnswer}
+use Rattle.in_force.specs.InForce.{Where, ofOld, ofNew, emptyStretch, isRefused, sameHelpands, noTree, inForce, Points, partOf}
+use Rattle.in_force.proofs.Stretch.{words-part}
 use Rattle.arrays.specs.Arrays.{at}
 
 -- ---- no test passed

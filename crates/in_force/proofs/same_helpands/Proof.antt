@@ -1,4 +1,4 @@
--- `force::same_helpands` meets its contract: the helpands passed are the same. Assumes nothing.
+-- `in_force::same_helpands` meets its contract: the helpands passed are the same. Assumes nothing.
 use borrow.Author.Needs.{needs}
 use borrow.Author.Tests.{eq-eqb, ne-eqb}
 use mathlib.Core.Path.{_≡_, sym, ap₂, _∙_}
@@ -12,9 +12,9 @@ use Rattle.words.specs.Words.{words}
 use Rattle.words.proofs.Words.{part-at}
 use Rattle.arrays.specs.Arrays.{at}
 use Rattle.plan.specs.Plan.{helpandsOf}
-use Rattle.force.specs.Force.{sameHelpands}
-use Rattle.force.proofs.same_helpands.Statement.{statement}
-use Rattle.force.proofs.same_helpands.Tie as tie
+use Rattle.in_force.specs.InForce.{sameHelpands}
+use Rattle.in_force.proofs.same_helpands.Statement.{statement}
+use Rattle.in_force.proofs.same_helpands.Tie as tie
 
 abbrev Inv-loop : tie.InvT-loop
 Inv-loop old new nodes k₀ k = (k ≤ nodes) × (sameHelpands k (at (helpandsOf old nodes)) (at (helpandsOf new nodes)) ≡ true)

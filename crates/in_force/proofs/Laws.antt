@@ -10,7 +10,7 @@ use Rattle.plan.specs.declared.PlanRefusal.{PlanRefusal}
 use Rattle.arrays.specs.Arrays.{at}
 use Rattle.plan.specs.Plan.{accepted, refused, refusalNumber, helpandsOf, readPlan}
 use Rattle.plan.proofs.Answers.{number-more}
-use Rattle.force.specs.Force.{ofOld, ofNew, emptyStretch, sameHelpands, inForce}
+use Rattle.in_force.specs.InForce.{ofOld, ofNew, emptyStretch, sameHelpands, inForce}
 
 module _ (old new : List ℕ) where
   -- either is refused

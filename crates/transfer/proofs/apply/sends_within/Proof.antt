@@ -1,4 +1,4 @@
--- `transfer::carry::sends_within` meets its contract: at the loop's head what was sent and what is left make up the table, and the test
+-- `transfer::apply::sends_within` meets its contract: at the loop's head what was sent and what is left make up the table, and the test
 -- of all moves is that of the moves left against what is left. Assumes nothing.
 use borrow.Author.Needs.{needs}
 use mathlib.Core.Path.{_≡_, refl, sym, _∙_}
@@ -13,10 +13,10 @@ use Rattle.limit.specs.Limit.{maxTotal, tableSize}
 use Rattle.words.proofs.Words.{part-end}
 use Rattle.arrays.specs.Arrays.{at}
 use Rattle.moves.specs.Moves.{routesOf, countsOf}
-use Rattle.transfer.specs.Carry.{fromCell, sendsWithin}
+use Rattle.transfer.specs.Apply.{fromCell, sendsWithin}
 use Rattle.transfer.proofs.Applied.{from-below, Entry, entry-read, within-none, within-more, within-fails, less-at, plus-at, taken}
-use Rattle.transfer.proofs.carry.sends_within.Statement.{statement}
-use Rattle.transfer.proofs.carry.sends_within.Tie as tie
+use Rattle.transfer.proofs.apply.sends_within.Statement.{statement}
+use Rattle.transfer.proofs.apply.sends_within.Tie as tie
 
 record Sending (table moves : List ℕ) (e : ℕ) (sent : List ℕ) (i : ℕ) : Type 0 where
   i-le : i ≤ e

@@ -1,15 +1,10 @@
 -- Document 01, *Carry out*: refusal 42 and the table that follows.
-use mathlib.Core.Path.{_≡_}
-use Prim.Native.Nat.{ℕ, _+_, _-_, _*_, _≤_, _<_}
+use Prim.Native.Nat.{ℕ, _+_, _-_}
 use mathlib.Core.List.{List, [], _∷_}
 use mathlib.Core.Bool.{Bool, true, _&&_}
 use lib.Dec.{leb, eqb}
-use lib.ListN.{length, getD}
 use Rattle.sheet.specs.Sheet.{cell}
-use Rattle.fold.specs.Sum.{only, sum}
-use Rattle.limit.specs.Limit.{maxTotal, tableSize}
-use Rattle.words.specs.Words.{words}
-use Rattle.arrays.specs.Arrays.{at}
+use Rattle.fold.specs.Sum.{only}
 use Rattle.moves.specs.Moves.{subdomain, sender, receiver}
 
 -- the cell that a route leads from, and the cell that it leads to
@@ -49,11 +44,3 @@ carriedFrom routes counts c (x ∷ table) = (x - sends routes counts c + receive
 
 abbrev pub carried : List ℕ → List ℕ → List ℕ → List ℕ
 carried table routes counts = carriedFrom routes counts 0 table
-
--- what testing and applying moves ask: a table whose sum is in range, and the bytes of moves with e entries, each route one of
--- 64 × 4,096
-pub record Ready (table moves : List ℕ) (e : ℕ) : Type 0 where
-  pub size : length table ≡ tableSize
-  pub small : sum tableSize (at table) ≤ maxTotal
-  pub long : 4 * (2 + 2 * e) ≤ length moves
-  pub below : (i : ℕ) → i < e → getD (words moves) (2 + i) 0 < 64 * tableSize

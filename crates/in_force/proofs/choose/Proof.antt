@@ -1,4 +1,4 @@
--- `force::choose` meets its contract, each way out by the law of its way. Assumes nothing.
+-- `in_force::choose` meets its contract, each way out by the law of its way. Assumes nothing.
 use borrow.Author.Needs.{needs}
 use mathlib.Core.Path.{_≡_, sym, ap, _∙_}
 use native.Mathlib.Omega.{arith}
@@ -6,9 +6,9 @@ use denote.Ref.{now}
 use Rattle.plan.specs.declared.PlanReading.the-variants.{Accepted}
 use Rattle.plan.specs.Plan.{answerOf, readPlan}
 use Rattle.plan.proofs.Accepted.{reading-accepted}
-use Rattle.force.proofs.Laws.{force-old-refused, force-new-refused, force-nodes, force-new, force-primary, force-kept, force-other}
-use Rattle.force.proofs.choose.Statement.{statement}
-use Rattle.force.proofs.choose.Tie as tie
+use Rattle.in_force.proofs.Laws.{force-old-refused, force-new-refused, force-nodes, force-new, force-primary, force-kept, force-other}
+use Rattle.in_force.proofs.choose.Statement.{statement}
+use Rattle.in_force.proofs.choose.Tie as tie
 
 -- what was read of the old plan, and of the new
 old-read : (c : tie.After-a) → answerOf (Accepted (c .a .given .0 .0)) ≡ readPlan (now (c .before .before .before .before .before .args .old))

@@ -1,4 +1,4 @@
--- A text written into a lent buffer from an index on.
+-- What the inner functions of this crate ask of each other. No promise to a caller rests on these definitions.
 use Prim.Native.Nat.{ℕ, _+_}
 use mathlib.Core.Path.{_≡_}
 use mathlib.Core.List.{List}
