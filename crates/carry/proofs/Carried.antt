@@ -23,7 +23,8 @@ use Rattle.moves.specs.declared.Moves.{Moves}
 use Rattle.moves.specs.declared.MovesAnswer.{MovesAnswer}
 use Rattle.moves.specs.Moves.{readMoves, routesOf, countsOf, accepted as movesAccepted}
 use Rattle.moves.proofs.Accepted.{Accepted as AcceptedMoves, reading-accepted as moves-reading, routes-are, counts-are, route-at}
-use Rattle.transfer.specs.Carry.{sendsWithin, carried, Ready}
+use Rattle.transfer.specs.Apply.{sendsWithin, carried}
+use Rattle.transfer.specs.Inner.{Ready}
 use Rattle.transfer.proofs.Acceptable.{Acceptable}
 use Rattle.carry.specs.declared.CarryAnswer.{CarryAnswer}
 use Rattle.carry.specs.Carry.{refused, accepted, withinIn, nextTable, nextSheet, pairAnswer, carryAnswer, bytesAfter, pairNext, Read}

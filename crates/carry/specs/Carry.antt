@@ -14,7 +14,7 @@ use Rattle.sheet.specs.Table.{tableIn}
 use Rattle.sheet.specs.Write.{sheetBytes}
 use Rattle.moves.specs.declared.Moves.{Moves}
 use Rattle.moves.specs.Moves.{readMoves, routesOf, countsOf, refusalNumber as movesNumber, accepted as movesAccepted}
-use Rattle.transfer.specs.Carry.{sendsWithin, carried}
+use Rattle.transfer.specs.Apply.{sendsWithin, carried}
 use Rattle.carry.specs.declared.CarryRefusal.{CarryRefusal}
 use Rattle.carry.specs.declared.CarryRefusal.the-variants.{Sheet as OfSheet, Moves as OfMoves, NodesDiffer, Sends, Buffer}
 use Rattle.carry.specs.declared.Carrying.{Carrying}

@@ -26,7 +26,7 @@ use Rattle.moves.specs.Moves.{readMoves, routesOf, countsOf, accepted as movesA
 use Rattle.tree.specs.Primary.{primary}
 use Rattle.tree.specs.Weigh.{holds}
 use Rattle.tree.proofs.Keeping.{division-iff-holds}
-use Rattle.transfer.specs.Carry.{carried as carriedTable}
+use Rattle.transfer.specs.Apply.{carried as carriedTable}
 use Rattle.rebuild.specs.Target.{targetOf}
 use Rattle.decide.specs.declared.Decision.{Decision}
 use Rattle.decide.proofs.Decided.{KeptFine, RebuiltFine, decided-kept, decided-rebuilt}

@@ -27,7 +27,7 @@ use Rattle.shares.specs.Shares.{keptShare}
 use Rattle.shares.proofs.KeptShares.{KeptWithin, table-shares}
 use Rattle.rebuild.specs.Target.{targetOf}
 use Rattle.rebuild.proofs.TargetSums.{targets-within-limit, WithinTargets}
-use Rattle.rebuild.proofs.Rebuilding.{Balanced, rebuilt-on-target}
+use Rattle.rebuild.proofs.Rebuilding.{NewTree, rebuilt-on-target}
 use Rattle.decide.specs.declared.Decision.{Decision}
 use Rattle.decide.specs.Decide.{primaryPlan, leastsOf, keptPlan, rebuiltPlan, decided}
 use Rattle.arrays.proofs.Padded.{zeros-at}
@@ -155,7 +155,7 @@ module _ (nodes p t : ℕ) (table totals : List ℕ) (tree : Bool) (old : List �
 
   rebuilt :
       let d = rebuiltPlan nodes p totals old in
-      (r : ℕ) × Balanced nodes p totals (record { helpands = d .helpands; shares = d .shares }) r
+      (r : ℕ) × NewTree nodes p totals (record { helpands = d .helpands; shares = d .shares }) r
   rebuilt =
       let b = rebuilt-on-target nodes p totals old (g .some) (g .few) (g .below) totals-long (g .adds) in (b .0, b .2)
 

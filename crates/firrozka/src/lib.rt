@@ -1,7 +1,7 @@
 // The C boundary: the archive libfirrozka.a, whose functions include/firrozka.h declares. Nothing checks what a foreign caller passes,
 // so no function here requires anything. A slice crosses as a pointer and a length.
 use carry::CarryAnswer;
-use force::PartAnswer;
+use in_force::PartAnswer;
 use moves::MovesAnswer;
 use plan::PlanAnswer;
 use planner::StepAnswer;
@@ -15,7 +15,7 @@ ghost use Rattle.moves.specs.Moves.{readMoves};
 ghost use Rattle.weigh.specs.Weigh.{weighAnswer, weighBytes};
 ghost use Rattle.planner.specs.Step.{stepAnswer, planAfter, movesAfter};
 ghost use Rattle.carry.specs.Carry.{carryAnswer, nextAfter};
-ghost use Rattle.force.specs.Force.{inForce, partOf};
+ghost use Rattle.in_force.specs.InForce.{inForce, partOf};
 ghost use Rattle.firrozka.specs.Version.{version};
 
 // The version, so that a caller can hold the header that it was compiled with to the archive that it was linked with.
@@ -91,5 +91,5 @@ pub extern "C" fn firrozka_carry_out(sheet: &[u8], moves: &[u8], next: &mut [u8]
 pub extern "C" fn firrozka_tree_in_force(old: &[u8], new: &[u8]) -> PartAnswer
     ensures { λ r. ⌜ r ≡ partOf (inForce (now (old .entry)) (now (new .entry))) ⌝ }
 {
-    force::part_in_force(old, new)
+    in_force::part_in_force(old, new)
 }

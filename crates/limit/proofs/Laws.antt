@@ -1,8 +1,24 @@
--- Laws of the limit. Assumes nothing.
-use Prim.Native.Nat.{ℕ, _+_, _-_, _*_, _/_, _≤_, max}
+-- Laws of ranges and of the limit. Assumes nothing.
+use mathlib.Core.Path.{_≡_}
+use mathlib.Core.Bool.{true}
+use Prim.Native.Nat.{ℕ, _+_, _-_, _*_, _/_, _≤_}
 use native.Mathlib.Nat.{le-refl, mul-comm, mul-le-mul, div-le-of-le-mul, lt-div-mul-add}
 use native.Mathlib.Omega.{arith}
-use Rattle.limit.specs.Limit.{maxTolerance, toleranceScale, maxTotal, maxLimit, limitOf}
+use borrow.Author.Tests.{leb-true, le-leb}
+use lib.Dec.{leb}
+use Rattle.fold.proofs.Tests.{and-left, and-right, and-both}
+use Rattle.limit.specs.Limit.{maxTolerance, toleranceScale, maxTotal, maxLimit, oneTo, limitOf}
+
+-- ---- ranges
+
+module _ (most x : ℕ) where
+  pub one-to-is : oneTo most x ≡ true → (1 ≤ x) × (x ≤ most)
+  one-to-is e = (leb-true 1 x (and-left (leb 1 x) (leb x most) e), leb-true x most (and-right (leb 1 x) (leb x most) e))
+
+  pub one-to-of : 1 ≤ x → x ≤ most → oneTo most x ≡ true
+  one-to-of l h = and-both (leb 1 x) (leb x most) (le-leb 1 x l) (le-leb x most h)
+
+-- ---- the limit
 
 -- the product fits 64 bits with much to spare
 pub product : (p t : ℕ) → p ≤ maxTotal → t ≤ maxTolerance → p * (toleranceScale + t) ≤ maxTotal * (toleranceScale + maxTolerance)
@@ -22,9 +38,12 @@ limit-max p n t hp hn ht =
     let e : (p + n - 1) / n ≤ maxTotal = div-le-of-le-mul n (omega arith) in
     omega (arith, loose-max p n t hp hn ht)
 
+-- P/N rounded up is at most the limit
+pub limit-even : (p n t : ℕ) → (p + n - 1) / n ≤ limitOf p n t
+unfolding limitOf
+limit-even p n t = omega arith
+
 -- N nodes at the limit have room for all particles
 pub limit-enough : (p n t : ℕ) → 1 ≤ n → p ≤ n * limitOf p n t
-unfolding limitOf
 limit-enough p n t hn =
-    let q : (p + n - 1) / n ≤ max ((p + n - 1) / n) (p * (toleranceScale + t) / (toleranceScale * n)) = omega arith in
-    omega (arith, lt-div-mul-add {a = p + n - 1} {b = n} hn, mul-comm ((p + n - 1) / n) n, mul-le-mul (le-refl n) q)
+    omega (arith, lt-div-mul-add {a = p + n - 1} {b = n} hn, mul-comm ((p + n - 1) / n) n, mul-le-mul (le-refl n) (limit-even p n t))

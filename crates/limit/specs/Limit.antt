@@ -1,9 +1,15 @@
 -- The ranges of document 01's numbers, each in one definition, and the limit.
 use Prim.Native.Nat.{ℕ, _+_, _-_, _*_, _/_, max}
+use mathlib.Core.Bool.{Bool, _&&_}
+use lib.Dec.{leb}
 
 -- "N is 1 to 64, tolerance t is 1 to 99 percent, and the total P is at most 1,000,000,000."
 abbrev pub maxNodes : ℕ
 maxNodes = 64
+
+-- x is 1 to most
+abbrev pub oneTo : ℕ → ℕ → Bool
+oneTo most x = leb 1 x && leb x most
 
 -- a table of counts has a count for each of 64 holders and 64 subdomains
 abbrev pub tableSize : ℕ

@@ -1,7 +1,7 @@
 // The ranges of document 01's numbers, and the limit of a node's load.
 ghost use mathlib.Core.Path.{_≡_};
 ghost use Prim.Native.Nat.{_≤_};
-ghost use Rattle.limit.specs.Limit.{maxNodes, maxTolerance, maxTotal, limitOf};
+ghost use Rattle.limit.specs.Limit.{maxNodes, maxTolerance, maxTotal, oneTo, limitOf};
 
 pub const MAX_NODES: u32 = 64;
 
@@ -15,6 +15,13 @@ pub const TOLERANCE_SCALE: u32 = 100;
 pub const MAX_TOTAL: u32 = 1000000000;
 
 pub const MAX_LIMIT: u32 = 1990000000;
+
+// Whether x is 1 to `most`: asked of N and of t.
+pub fn one_to(most: u32, x: u32) -> bool
+    ensures { λ r. ⌜ r ≡ oneTo most x ⌝ }
+{
+    if 1 <= x { x <= most } else { false }
+}
 
 // The limit L of p particles on n nodes at tolerance t. The product takes more than 32 bits.
 pub fn limit(p: u32, n: u32, t: u32) -> u32

@@ -1,7 +1,7 @@
 -- What is known of moves that were accepted: every check passed, so each says its part; and moves of which all this is known are
 -- accepted. Assumes nothing.
 use mathlib.Core.Path.{_≡_, refl, sym, ap, _∙_}
-use mathlib.Core.Bool.{true, not, _||_}
+use mathlib.Core.Bool.{true, not}
 use mathlib.Core.List.{List}
 use Prim.Native.Nat.{ℕ, _+_, _-_, _*_, _≤_, _<_}
 use native.Mathlib.Omega.{arith}
@@ -10,9 +10,10 @@ use lib.ListN.{length, getD}
 use borrow.Author.Tests.{ltb-false, eqb-true, not-false, le-ltb, eq-eqb}
 use Rattle.fold.specs.All.{every}
 use Rattle.fold.specs.Rising.{rising}
-use Rattle.fold.proofs.Tests.{passed, or-left, or-right, every-at}
+use Rattle.fold.proofs.Tests.{passed, every-at}
 use Rattle.fold.proofs.Lists.{rising-at}
-use Rattle.limit.specs.Limit.{maxNodes}
+use Rattle.limit.specs.Limit.{maxNodes, oneTo}
+use Rattle.limit.proofs.Laws.{one-to-is, one-to-of}
 use Rattle.words.specs.Words.{words}
 use Rattle.words.proofs.Words.{length-words, length-part, part-at}
 use Rattle.moves.specs.declared.Moves.{Moves}
@@ -41,18 +42,19 @@ moves-accepted s q =
     let n = getD (words s) 0 0 in
     let e = getD (words s) 1 0 in
     let a₁ = passed refusal (ltb (length s) 8) (refused 31) (headAnswer s n e) (λ z. omega arith) q in
-    let a₂ = passed refusal (ltb n 1 || ltb maxNodes n) (refused 32) _ (λ z. omega arith) (a₁ .1) in
+    let a₂ = passed refusal (not (oneTo maxNodes n)) (refused 32) _ (λ z. omega arith) (a₁ .1) in
     let a₃ = passed refusal (ltb (n * (n - 1)) e) (refused 33) _ (λ z. omega arith) (a₂ .1) in
     let a₄ = passed refusal (not (eqb (length s) (4 * (2 + 2 * e)))) (refused 34) _ (λ z. omega arith) (a₃ .1) in
     let a₅ = passed refusal (not (rising (routeFine n) 0 (routesOf s e))) (refused 35) _ (λ z. omega arith) (a₄ .1) in
     let a₆ = passed refusal (not (every countFine (countsOf s e))) (refused 36) _ (λ z. omega arith) (a₅ .1) in
+    let nodes = one-to-is maxNodes n (not-false _ (a₂ .0)) in
     rw (a₁ .0, a₂ .0, a₃ .0, a₄ .0, a₅ .0, a₆ .0)
     (record {
       answer = refl;
       n-is = refl;
       e-is = refl;
-      n-low = ltb-false n 1 (or-left (ltb n 1) (ltb maxNodes n) (a₂ .0));
-      n-high = ltb-false maxNodes n (or-right (ltb n 1) (ltb maxNodes n) (a₂ .0));
+      n-low = nodes .0;
+      n-high = nodes .1;
       e-high = ltb-false (n * (n - 1)) e (a₃ .0);
       size = eqb-true (length s) (4 * (2 + 2 * e)) (not-false _ (a₄ .0));
       routes = not-false _ (a₅ .0);
@@ -71,8 +73,16 @@ module _ (s : List ℕ) (a : MovesAnswer) (k : Accepted s a) where
   unfolding readMoves
   accepted-is =
       let long : 8 ≤ length s = omega (arith, k .size) in
-      rw
-      (le-ltb (length s) 8 long, ← k .n-is, ← k .e-is, le-ltb (a .n) 1 (k .n-low), le-ltb maxNodes (a .n) (k .n-high), le-ltb (a .n * (a .n - 1)) (a .e) (k .e-high), eq-eqb (length s) (4 * (2 + 2 * a .e)) (k .size), k .routes, k .counts)
+      rw (
+        le-ltb (length s) 8 long,
+        ← k .n-is,
+        ← k .e-is,
+        one-to-of maxNodes (a .n) (k .n-low) (k .n-high),
+        le-ltb (a .n * (a .n - 1)) (a .e) (k .e-high),
+        eq-eqb (length s) (4 * (2 + 2 * a .e)) (k .size),
+        k .routes,
+        k .counts,
+      )
       (sym (k .answer))
 
   pub words-are : length (words s) ≡ 2 + 2 * a .e

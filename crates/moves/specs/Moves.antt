@@ -1,12 +1,12 @@
 -- Document 01, *Read moves*: "gives N, E", and its refusals 31 to 36, from the list of the moves' bytes.
 use Prim.Native.Nat.{ℕ, _+_, _-_, _*_, _/_, _%_}
 use mathlib.Core.List.{List}
-use mathlib.Core.Bool.{Bool, cond, _||_, _&&_, not}
+use mathlib.Core.Bool.{Bool, cond, _&&_, not}
 use lib.ListN.{length, getD}
 use lib.Dec.{ltb, leb, eqb}
 use Rattle.fold.specs.All.{every}
 use Rattle.fold.specs.Rising.{rising}
-use Rattle.limit.specs.Limit.{maxNodes, maxTotal}
+use Rattle.limit.specs.Limit.{maxNodes, maxTotal, oneTo}
 use Rattle.words.specs.Checks.{refuseIf}
 use Rattle.words.specs.Words.{words, part}
 use Rattle.moves.specs.declared.MovesRefusal.{MovesRefusal}
@@ -79,7 +79,7 @@ entriesAnswer s n e =
 -- 32 to 34, with the words N and E of moves of at least 8 bytes
 abbrev pub headAnswer : List ℕ → ℕ → ℕ → MovesAnswer
 headAnswer s n e =
-    refuseIf (ltb n 1 || ltb maxNodes n) (refused 32)
+    refuseIf (not (oneTo maxNodes n)) (refused 32)
     (refuseIf (ltb (n * (n - 1)) e) (refused 33)
     (refuseIf (not (eqb (length s) (4 * (2 + 2 * e)))) (refused 34)
     (entriesAnswer s n e)))

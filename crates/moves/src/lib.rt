@@ -113,10 +113,7 @@ pub fn read_moves(s: &[u8]) -> MovesReading
     }
     let n = words::word_number(s, 0);
     let e = words::word_number(s, 1);
-    if n < 1 {
-        return MovesReading::Refused(MovesRefusal::Nodes);
-    }
-    if limit::MAX_NODES < n {
+    if !limit::one_to(limit::MAX_NODES, n) {
         return MovesReading::Refused(MovesRefusal::Nodes);
     }
     if n * (n - 1) < e {

@@ -10,8 +10,9 @@ use native.Mathlib.Omega.{arith}
 use borrow.Author.Tests.{ltb-false, leb-true, eqb-true, eqb-false, not-true, not-false, le-leb, eq-eqb, ne-eqb}
 use lib.Dec.{ltb, leb, eqb}
 use lib.ListN.{length, getD}
-use Rattle.fold.proofs.Tests.{and-left, and-right, or-left, or-right, passed}
-use Rattle.limit.specs.Limit.{maxNodes, maxLimit}
+use Rattle.fold.proofs.Tests.{and-left, and-right, passed}
+use Rattle.limit.specs.Limit.{maxNodes, maxLimit, oneTo}
+use Rattle.limit.proofs.Laws.{one-to-is, one-to-of}
 use Rattle.words.specs.Words.{words}
 use Rattle.words.proofs.Words.{length-words, length-part}
 use Rattle.plan.specs.declared.Plan.{Plan}
@@ -71,15 +72,15 @@ plan-accepted s q =
     let h = at (helpandsOf s n) in
     let x = at (sharesOf s n) in
     let a₁ = went (ltb (length s) 12) 11 _ (omega arith) q in
-    let a₂ = went (ltb n 1 || ltb maxNodes n) 12 _ (omega arith) (a₁ .1) in
+    let a₂ = went (not (oneTo maxNodes n)) 12 _ (omega arith) (a₁ .1) in
     let a₃ = went (not (kindFine n kind)) 13 _ (omega arith) (a₂ .1) in
     let a₄ = went (ltb maxLimit limit) 14 _ (omega arith) (a₃ .1) in
     let a₅ = went (not (eqb (length s) (4 * (3 + 2 * n)))) 15 _ (omega arith) (a₄ .1) in
     let a₆ = went (not (helpandsBelow n h)) 16 _ (omega arith) (a₅ .1) in
     let a₇ = went (not (shapeFine n kind h)) 17 _ (omega arith) (a₆ .1) in
     let a₈ = went (not (sharesFine n limit h x)) 18 _ (omega arith) (a₇ .1) in
-    let low = ltb-false n 1 (or-left (ltb n 1) (ltb maxNodes n) (a₂ .0)) in
-    let high = ltb-false maxNodes n (or-right (ltb n 1) (ltb maxNodes n) (a₂ .0)) in
+    let nf = not-false (oneTo maxNodes n) (a₂ .0) in
+    let nodes = one-to-is maxNodes n nf in
     let kf = not-false (kindFine n kind) (a₃ .0) in
     let lim = ltb-false maxLimit limit (a₄ .0) in
     let size = eqb-true (length s) (4 * (3 + 2 * n)) (not-false (eqb (length s) (4 * (3 + 2 * n))) (a₅ .0)) in
@@ -88,7 +89,7 @@ plan-accepted s q =
     let shares = not-false (sharesFine n limit h x) (a₈ .0) in
     let e : readPlan s ≡ accepted n kind limit =
     read-head s (ltb-false (length s) 12 (a₁ .0)) refl refl refl
-    ∙ head-fine s n kind limit low high kf lim size
+    ∙ head-fine s n kind limit nf kf lim size
     ∙ arrays-fine s n kind limit below shape shares in
     subst (λ (a : PlanAnswer). Accepted s a) (sym e)
     (record {
@@ -96,8 +97,8 @@ plan-accepted s q =
       n-is = refl;
       kind-is = refl;
       limit-is = refl;
-      n-low = low;
-      n-high = high;
+      n-low = nodes .0;
+      n-high = nodes .1;
       kind-high = kind-two n kind kf;
       alone = kind-alone n kind kf;
       limit-high = lim;
@@ -116,7 +117,8 @@ reading-accepted s p e = rw e (plan-accepted s (ap (λ (a : PlanAnswer). a .refu
 pub accepted-read : (s : List ℕ) (a : PlanAnswer) → Accepted s a → readPlan s ≡ a
 accepted-read s a k =
     read-head s (omega (arith, k .size)) (k .n-is) (k .kind-is) (k .limit-is)
-    ∙ head-fine s (a .n) (a .kind) (a .limit) (k .n-low) (k .n-high) (kind-fine-of (a .n) (a .kind) (k .kind-high) (k .alone)) (k .limit-high) (k .size)
+    ∙ head-fine s (a .n) (a .kind) (a .limit) (one-to-of maxNodes (a .n) (k .n-low) (k .n-high))
+    (kind-fine-of (a .n) (a .kind) (k .kind-high) (k .alone)) (k .limit-high) (k .size)
     ∙ arrays-fine s (a .n) (a .kind) (a .limit) (k .below) (k .shape) (k .shares)
     ∙ sym (k .answer)
 

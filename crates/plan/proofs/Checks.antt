@@ -8,7 +8,7 @@ use Rattle.arrays.specs.Arrays.{padded, at}
 use Rattle.plan.specs.declared.Checked.{Checked}
 use Rattle.plan.specs.declared.Checked.the-variants.{Passed, Refused}
 use Rattle.plan.specs.declared.PlanRefusal.{PlanRefusal}
-use Rattle.plan.specs.Checks.{checkedOf}
+use Rattle.plan.specs.Inner.{checkedOf}
 use Rattle.arrays.proofs.Padded.{padded-at}
 
 pub checked-passed : (b : Bool) {x : Checked} → x ≡ checkedOf b → x ≡ Passed → b ≡ true

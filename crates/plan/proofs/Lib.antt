@@ -9,5 +9,4 @@ pub mod Trees
 pub mod Agree
 pub mod AcceptedTree
 pub mod RoundTrip
-pub mod Vectors
 pub mod Longer

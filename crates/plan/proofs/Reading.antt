@@ -1,12 +1,12 @@
 -- Laws of the definition `readPlan`, one for each way out of the checks, and one for the way through them. Assumes nothing.
 use mathlib.Core.Path.{_≡_, ap, _∙_}
-use mathlib.Core.Bool.{Bool, true, false, not, _||_}
+use mathlib.Core.Bool.{Bool, true, false, not}
 use mathlib.Core.List.{List}
 use Prim.Native.Nat.{ℕ, _+_, _*_, _≤_, _<_}
 use borrow.Author.Tests.{lt-ltb, le-ltb, eq-eqb, ne-eqb}
 use lib.Dec.{ltb}
 use lib.ListN.{length, getD}
-use Rattle.limit.specs.Limit.{maxNodes, maxLimit}
+use Rattle.limit.specs.Limit.{maxNodes, maxLimit, oneTo}
 use Rattle.words.specs.Words.{words}
 use Rattle.plan.specs.declared.PlanAnswer.{PlanAnswer}
 use Rattle.plan.specs.Tree.{helpandsBelow, shapeFine, sharesFine}
@@ -31,30 +31,23 @@ module _ (s : List ℕ) where
   read-head h e f g = rw (e, f, g) (passes (ltb (length s) 12) 11 _ (le-ltb (length s) 12 h))
 
 module _ (s : List ℕ) (n kind limit : ℕ) where
-  pub head-low : n < 1 → headAnswer s n kind limit ≡ refused 12
+  pub head-nodes : oneTo maxNodes n ≡ false → headAnswer s n kind limit ≡ refused 12
   unfolding headAnswer
-  head-low h = refuses _ 12 _ (ap (λ (b : Bool). b || ltb maxNodes n) (lt-ltb n 1 h))
+  head-nodes e = refuses _ 12 _ (ap not e)
 
-  pub head-high : 1 ≤ n → maxNodes < n → headAnswer s n kind limit ≡ refused 12
-  unfolding headAnswer
-  head-high l h = refuses _ 12 _ (ap (λ (b : Bool). b || ltb maxNodes n) (le-ltb n 1 l) ∙ lt-ltb maxNodes n h)
-
-module _ (s : List ℕ) (n kind limit : ℕ) (low : 1 ≤ n) (high : n ≤ maxNodes) where
-  nodes-fine : (ltb n 1 || ltb maxNodes n) ≡ false
-  nodes-fine = ap (λ (b : Bool). b || ltb maxNodes n) (le-ltb n 1 low) ∙ le-ltb maxNodes n high
-
+module _ (s : List ℕ) (n kind limit : ℕ) (nodes : oneTo maxNodes n ≡ true) where
   pub head-kind : kindFine n kind ≡ false → headAnswer s n kind limit ≡ refused 13
   unfolding headAnswer
-  head-kind k = passes _ 12 _ nodes-fine ∙ refuses _ 13 _ (ap not k)
+  head-kind k = passes _ 12 _ (ap not nodes) ∙ refuses _ 13 _ (ap not k)
 
   pub head-limit : kindFine n kind ≡ true → maxLimit < limit → headAnswer s n kind limit ≡ refused 14
   unfolding headAnswer
-  head-limit k h = passes _ 12 _ nodes-fine ∙ passes _ 13 _ (ap not k) ∙ refuses _ 14 _ (lt-ltb maxLimit limit h)
+  head-limit k h = passes _ 12 _ (ap not nodes) ∙ passes _ 13 _ (ap not k) ∙ refuses _ 14 _ (lt-ltb maxLimit limit h)
 
   pub head-length : kindFine n kind ≡ true → limit ≤ maxLimit → (length s ≡ 4 * (3 + 2 * n) → ⊥) → headAnswer s n kind limit ≡ refused 15
   unfolding headAnswer
   head-length k h d =
-      passes _ 12 _ nodes-fine
+      passes _ 12 _ (ap not nodes)
       ∙ passes _ 13 _ (ap not k)
       ∙ passes _ 14 _ (le-ltb maxLimit limit h)
       ∙ refuses _ 15 _ (ap not (ne-eqb (length s) (4 * (3 + 2 * n)) d))
@@ -62,7 +55,7 @@ module _ (s : List ℕ) (n kind limit : ℕ) (low : 1 ≤ n) (high : n ≤ maxNo
   pub head-fine : kindFine n kind ≡ true → limit ≤ maxLimit → length s ≡ 4 * (3 + 2 * n) → headAnswer s n kind limit ≡ arraysAnswer s n kind limit
   unfolding headAnswer
   head-fine k h e =
-      passes _ 12 _ nodes-fine
+      passes _ 12 _ (ap not nodes)
       ∙ passes _ 13 _ (ap not k)
       ∙ passes _ 14 _ (le-ltb maxLimit limit h)
       ∙ passes _ 15 _ (ap not (eq-eqb (length s) (4 * (3 + 2 * n)) e))

@@ -1,4 +1,4 @@
 pub mod Tree
-pub mod Checks
 pub mod Plan
 pub mod Write
+pub mod Inner

@@ -4,7 +4,7 @@ use mathlib.Core.List.{List}
 use mathlib.Core.Bool.{Bool, cond, _||_, _&&_, not}
 use lib.ListN.{length, getD}
 use lib.Dec.{ltb, leb, eqb}
-use Rattle.limit.specs.Limit.{maxNodes, maxLimit}
+use Rattle.limit.specs.Limit.{maxNodes, maxLimit, oneTo}
 use Rattle.words.specs.Checks.{refuseIf}
 use Rattle.words.specs.Words.{words, part}
 use Rattle.plan.specs.Tree.{helpandsBelow, shapeFine, sharesFine}
@@ -64,7 +64,7 @@ arraysAnswer s n kind limit =
 -- 12 to 15, with the words N, kind and limit of a plan of at least 12 bytes
 unfoldable pub headAnswer : List ℕ → ℕ → ℕ → ℕ → PlanAnswer
 headAnswer s n kind limit =
-    refuseIf (ltb n 1 || ltb maxNodes n) (refused 12)
+    refuseIf (not (oneTo maxNodes n)) (refused 12)
     (refuseIf (not (kindFine n kind)) (refused 13)
     (refuseIf (ltb maxLimit limit) (refused 14)
     (refuseIf (not (eqb (length s) (4 * (3 + 2 * n)))) (refused 15)

@@ -46,7 +46,7 @@ unfoldable pub walk : (ℕ → ℕ) → ℕ → ℕ → ℕ
 walk h zero k = k
 walk h (suc steps) k = walk h steps (h k)
 
--- the helpands h of n nodes are a tree with root r: "every chain of helpands reaches the root within N steps"
+-- the helpands h of n nodes are a tree with root r: each helpand is a node, and N steps along the helpands lead from any node to r
 pub record Tree (n : ℕ) (h : ℕ → ℕ) (r : ℕ) : Type 0 where
   pub root : r < n
   pub own : h r ≡ r

@@ -97,10 +97,7 @@ pub fn read_plan(s: &[u8]) -> PlanReading
     let n = words::word_number(s, 0);
     let kind = words::word_number(s, 1);
     let limit = words::word_number(s, 2);
-    if n < 1 {
-        return PlanReading::Refused(PlanRefusal::Nodes);
-    }
-    if limit::MAX_NODES < n {
+    if !limit::one_to(limit::MAX_NODES, n) {
         return PlanReading::Refused(PlanRefusal::Nodes);
     }
     if !kind_fine(n, kind) {

@@ -7,7 +7,7 @@ ghost use Prim.Native.Nat.{_≤_};
 ghost use Rattle.fold.specs.All.{all};
 ghost use Rattle.limit.specs.Limit.{maxNodes};
 ghost use Rattle.plan.specs.Tree.{helpandsBelow, isRoot, roots, reaches, shapeFine, sharesFine};
-ghost use Rattle.plan.specs.Checks.{checkedOf};
+ghost use Rattle.plan.specs.Inner.{checkedOf};
 ghost use Rattle.arrays.specs.Arrays.{at};
 
 // Whether each helpand of nodes below n is a node below n.

@@ -17,7 +17,7 @@ use Rattle.sheet.proofs.Tables.{length-table}
 use Rattle.plan.specs.Tree.{helpandsBelow, Tree}
 use Rattle.moves.specs.Write.{movesBytes}
 use Rattle.sheet.specs.Totals.{totalsOf}
-use Rattle.transfer.specs.Due.{Allotted}
+use Rattle.transfer.specs.Inner.{Allotted}
 use Rattle.transfer.specs.Matching.{allRoutes, allCounts}
 use Rattle.transfer.proofs.Carrying.{Carries, carries-totals}
 use Rattle.decide.specs.declared.Decision.{Decision}

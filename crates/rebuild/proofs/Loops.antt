@@ -32,7 +32,7 @@ changed : {A : Type 0} (xs : List A) (i : ℕ) (v d : A) → i < length xs → C
 changed xs i v d h = record { here = getD-set-same xs i v d h; other = λ k q. getD-set-other xs i k v d q }
 
 -- a state after t turns
-pub record Kept (nodes p : ℕ) (total : ℕ → ℕ) (s : Balance) (t : ℕ) : Type 0 where
+pub record Sound (nodes p : ℕ) (total : ℕ → ℕ) (s : Balance) (t : ℕ) : Type 0 where
   pub loads-long : length (s .loads) ≡ 64
   pub finished-long : length (s .finished) ≡ 64
   pub helpands-long : length (s .helpands) ≡ 64
@@ -51,7 +51,7 @@ pub record Served (nodes : ℕ) (s : Balance) (l g : ℕ) : Type 0 where
 -- a state that the loop reaches: what is left to run of it gives the whole
 pub record Reached (nodes p : ℕ) (total : ℕ → ℕ) (old : List ℕ) (whole s : Balance) : Type 0 where
   pub turns : ℕ
-  pub kept : Kept nodes p total s turns
+  pub sound : Sound nodes p total s turns
   pub rest : whole ≡ runOf nodes old (nodes - turns) s
 
 -- how many nodes are not finished: the loop's measure
@@ -60,8 +60,8 @@ unfinished nodes s = nodes - sum nodes (λ k. only (is (s .finished) k) 1)
 
 module _ (nodes p : ℕ) (few : nodes ≤ 64) (total : ℕ → ℕ) where
   -- a node is left
-  pub kept-few : (s : Balance) (t : ℕ) → Kept nodes p total s t → t < nodes
-  kept-few s t v = omega (arith, v .inv .count, sum-ones nodes (is (s .finished)) (v .inv .left .0) (v .inv .left .1) (v .inv .left .2))
+  pub sound-few : (s : Balance) (t : ℕ) → Sound nodes p total s t → t < nodes
+  sound-few s t v = omega (arith, v .inv .count, sum-ones nodes (is (s .finished)) (v .inv .left .0) (v .inv .left .1) (v .inv .left .2))
 
   -- l is a node under its target
   pub next-l : (s : Balance) (l : ℕ) → nextL nodes s ≡ At l → (l < nodes) × (is (s .finished) l ≡ false) × (at (s .loads) l < at (s .targets) l)
@@ -81,9 +81,9 @@ module _ (nodes p : ℕ) (few : nodes ≤ 64) (total : ℕ → ℕ) where
   ]
 
   -- a turn keeps the invariant
-  pub turn-kept : (s : Balance) (t : ℕ) → Kept nodes p total s t → (l g : ℕ) → nextL nodes s ≡ At l → Served nodes s l g → Kept nodes p total (turnOf s l g (needOf s l)) (suc t)
+  pub turn-sound : (s : Balance) (t : ℕ) → Sound nodes p total s t → (l g : ℕ) → nextL nodes s ≡ At l → Served nodes s l g → Sound nodes p total (turnOf s l g (needOf s l)) (suc t)
   unfolding turnOf
-  turn-kept s t v l g e q =
+  turn-sound s t v l g e q =
       let i = next-l s l e in
       let need = needOf s l in
       let apart : l ≢ g = λ z. omega (arith, ap (at (s .targets)) z, ap (at (s .loads)) z, i .2, q .full) in
@@ -108,7 +108,7 @@ module _ (nodes p : ℕ) (few : nodes ≤ 64) (total : ℕ → ℕ) where
 
   module _ (old : List ℕ) (inside : (k : ℕ) → k < nodes → at old k < nodes) where
     -- while A has a node, B has one, and whom l helps is in B and has the need
-    pub serve : (s : Balance) (t : ℕ) → Kept nodes p total s t → (l : ℕ) → nextL nodes s ≡ At l → (g : ℕ) × (nextG nodes old s l ≡ At g) × Served nodes s l g
+    pub serve : (s : Balance) (t : ℕ) → Sound nodes p total s t → (l : ℕ) → nextL nodes s ≡ At l → (g : ℕ) × (nextG nodes old s l ≡ At g) × Served nodes s l g
     serve s t v l e = pick (either (oldServes (s .loads) (s .targets) (s .finished) l (needOf s l) (at old l)))
       where
         i : (l < nodes) × (is (s .finished) l ≡ false) × (at (s .loads) l < at (s .targets) l)
@@ -155,7 +155,7 @@ module _ (nodes p : ℕ) (few : nodes ≤ 64) (total : ℕ → ℕ) where
         pick (inr q) = (by-largest .0, ap way q ∙ by-largest .1, by-largest .2)
 
     -- so the g that is found is such a node
-    pub served : (s : Balance) (t : ℕ) → Kept nodes p total s t → (l g : ℕ) → nextL nodes s ≡ At l → nextG nodes old s l ≡ At g → Served nodes s l g
+    pub served : (s : Balance) (t : ℕ) → Sound nodes p total s t → (l g : ℕ) → nextL nodes s ≡ At l → nextG nodes old s l ≡ At g → Served nodes s l g
     served s t v l g e f =
         let r = serve s t v l e in
         let w : At (r .0) ≡ At g = sym (r .1) ∙ f in
@@ -175,26 +175,26 @@ module _ (nodes p : ℕ) (few : nodes ≤ 64) (total : ℕ → ℕ) where
     run-stop (suc d) s e = rw (e, runOf)
 
     -- after so many turns the invariant holds, and where there were fewer of them, A has no node
-    pub run-kept : (d : ℕ) (s : Balance) (t : ℕ) → Kept nodes p total s t
-        → (u : ℕ) × Kept nodes p total (runOf nodes old d s) u × ((nextL nodes (runOf nodes old d s) ≡ Nothing) ⊎ (u ≡ t + d))
+    pub run-sound : (d : ℕ) (s : Balance) (t : ℕ) → Sound nodes p total s t
+        → (u : ℕ) × Sound nodes p total (runOf nodes old d s) u × ((nextL nodes (runOf nodes old d s) ≡ Nothing) ⊎ (u ≡ t + d))
     unfolding runOf
-    run-kept zero s t v = (t, v, inr (omega arith))
-    run-kept (suc d) s t v = way (nextL nodes s) refl (λ s′ w. run-kept d s′ (suc t) w)
+    run-sound zero s t v = (t, v, inr (omega arith))
+    run-sound (suc d) s t v = way (nextL nodes s) refl (λ s′ w. run-sound d s′ (suc t) w)
       where
         After : Balance → Type 0
-        After b = (u : ℕ) × Kept nodes p total b u × ((nextL nodes b ≡ Nothing) ⊎ (u ≡ t + suc d))
+        After b = (u : ℕ) × Sound nodes p total b u × ((nextL nodes b ≡ Nothing) ⊎ (u ≡ t + suc d))
 
-        later : (b : Balance) → (u : ℕ) × Kept nodes p total b u × ((nextL nodes b ≡ Nothing) ⊎ (u ≡ suc t + d)) → After b
+        later : (b : Balance) → (u : ℕ) × Sound nodes p total b u × ((nextL nodes b ≡ Nothing) ⊎ (u ≡ suc t + d)) → After b
         later b r = (r .0, r .1, ⊎-elim (λ e. inl e) (λ e. inr (omega arith)) (r .2))
 
         way : (f : Found) → nextL nodes s ≡ f
-            → ((s′ : Balance) → Kept nodes p total s′ (suc t) → (u : ℕ) × Kept nodes p total (runOf nodes old d s′) u × ((nextL nodes (runOf nodes old d s′) ≡ Nothing) ⊎ (u ≡ suc t + d)))
+            → ((s′ : Balance) → Sound nodes p total s′ (suc t) → (u : ℕ) × Sound nodes p total (runOf nodes old d s′) u × ((nextL nodes (runOf nodes old d s′) ≡ Nothing) ⊎ (u ≡ suc t + d)))
             → After (runOf nodes old (suc d) s)
         way Nothing e go = rw (run-stop (suc d) s e) (t, v, inl e)
         way (At l) e go =
             let q = serve s t v l e in
             let b = turnOf s l (q .0) (needOf s l) in
-            rw (run-turn d s l (q .0) e (q .1)) (later (runOf nodes old d b) (go b (turn-kept s t v l (q .0) e (q .2))))
+            rw (run-turn d s l (q .0) e (q .1)) (later (runOf nodes old d b) (go b (turn-sound s t v l (q .0) e (q .2))))
 
     -- ---- a turn of the loop
 
@@ -205,28 +205,28 @@ module _ (nodes p : ℕ) (few : nodes ≤ 64) (total : ℕ → ℕ) where
       -- g is always found
       pub reached-some : (l : ℕ) → nextL nodes s ≡ At l → nextG nodes old s l ≡ Nothing → ⊥
       reached-some l e f =
-          let q = serve s (r .turns) (r .kept) l e .1 in
+          let q = serve s (r .turns) (r .sound) l e .1 in
           let z : _≡_ {A = ℕ} 0 1 = cc in
           omega arith
 
       module _ (l g : ℕ) (e : nextL nodes s ≡ At l) (f : nextG nodes old s l ≡ At g) where
         pub reached-served : Served nodes s l g
-        reached-served = served s (r .turns) (r .kept) l g e f
+        reached-served = served s (r .turns) (r .sound) l g e f
 
-        reached-kept : Kept nodes p total (turnOf s l g (needOf s l)) (suc (r .turns))
-        reached-kept = turn-kept s (r .turns) (r .kept) l g e reached-served
+        reached-sound : Sound nodes p total (turnOf s l g (needOf s l)) (suc (r .turns))
+        reached-sound = turn-sound s (r .turns) (r .sound) l g e reached-served
 
         pub reached-turn : Reached nodes p total old whole (turnOf s l g (needOf s l))
         reached-turn =
-            let h : nodes - r .turns ≡ suc (nodes - suc (r .turns)) = omega (arith, kept-few s (r .turns) (r .kept)) in
+            let h : nodes - r .turns ≡ suc (nodes - suc (r .turns)) = omega (arith, sound-few s (r .turns) (r .sound)) in
             record {
               turns = suc (r .turns);
-              kept = reached-kept;
+              sound = reached-sound;
               rest = r .rest ∙ ap (λ (d : ℕ). runOf nodes old d s) h ∙ run-turn (nodes - suc (r .turns)) s l g e f;
             }
 
         pub reached-less : unfinished nodes (turnOf s l g (needOf s l)) < unfinished nodes s
-        reached-less = omega (arith, r .kept .inv .count, reached-kept .inv .count, kept-few s (r .turns) (r .kept))
+        reached-less = omega (arith, r .sound .inv .count, reached-sound .inv .count, sound-few s (r .turns) (r .sound))
 
 -- ---- the start
 
@@ -248,9 +248,9 @@ module _ (nodes p : ℕ) (totals : List ℕ)
   unfolding startOf
   start-target k b = tabulate-at nodes (targetOf nodes p) k b
 
-  pub start-kept : Kept nodes p (at totals) (startOf nodes p totals) 0
+  pub start-sound : Sound nodes p (at totals) (startOf nodes p totals) 0
   unfolding startOf
-  start-kept = record {
+  start-sound = record {
     loads-long = long;
     finished-long = length-replicate 64 false;
     helpands-long = length-replicate {A = ℕ} 64 0;

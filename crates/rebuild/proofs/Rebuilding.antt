@@ -29,7 +29,7 @@ use Rattle.rebuild.specs.Rebuild.{is, inB, needOf, nextL, nextG, startOf
 use Rattle.rebuild.proofs.TargetSums.{target-limit}
 use Rattle.rebuild.proofs.Choices.{in-b-is, in-b-of, in-b-done, first-lowest, finish-at, helpand-in, helpand-out, share-in, share-out}
 use Rattle.rebuild.proofs.Turns.{level}
-use Rattle.rebuild.proofs.Loops.{Kept, kept-few, next-none, serve, run-kept, start-kept}
+use Rattle.rebuild.proofs.Loops.{Sound, sound-few, next-none, serve, run-sound, start-sound}
 use Rattle.arrays.proofs.Tabulate.{tabulate-at, length-tabulate}
 
 -- a rank that falls along the helpands leads to the root
@@ -48,7 +48,7 @@ and-not true c h = ap not (h refl)
 and-not false c h = refl
 
 -- what is known of the new helpands and shares, with the root
-pub record Balanced (nodes p : ℕ) (totals : List ℕ) (r : Rebuilt) (root : ℕ) : Type 0 where
+pub record NewTree (nodes p : ℕ) (totals : List ℕ) (r : Rebuilt) (root : ℕ) : Type 0 where
   pub tree : Tree nodes (at (r .helpands)) root
   pub on-target : OnTarget nodes (at (r .helpands)) (at totals) (targetOf nodes p) (ownOf nodes (at (r .helpands)) (at totals) (at (r .shares))) (at (r .shares))
   pub root-share : at (r .shares) root ≡ 0
@@ -59,7 +59,7 @@ pub record Balanced (nodes p : ℕ) (totals : List ℕ) (r : Rebuilt) (root : �
 -- ---- from a state in which A has no node
 
 module _ (nodes p : ℕ) (few : nodes ≤ 64) (totals : List ℕ) (s : Balance) (t : ℕ)
-    (v : Kept nodes p (at totals) s t)
+    (v : Sound nodes p (at totals) s t)
     (end : (k : ℕ) → k < nodes → is (s .finished) k ≡ false → at (s .targets) k ≤ at (s .loads) k)
     (root : ℕ)
     (found : lowestInB nodes (s .loads) (s .targets) (s .finished) ≡ At root) where
@@ -142,7 +142,7 @@ module _ (nodes p : ℕ) (few : nodes ≤ 64) (totals : List ℕ) (s : Balance) 
   rank-max k = by (either (is (s .finished) k))
     where
       by : (is (s .finished) k ≡ true) ⊎ (is (s .finished) k ≡ false) → rank k ≤ nodes
-      by (inl e) = omega (arith, rank-done k e, kept-few nodes p few (at totals) s t v)
+      by (inl e) = omega (arith, rank-done k e, sound-few nodes p few (at totals) s t v)
       by (inr o) = omega (arith, rank-open k o, root-node)
 
   inside : (k : ℕ) → k < nodes → helpand k < nodes
@@ -213,9 +213,9 @@ module _ (nodes p : ℕ) (few : nodes ≤ 64) (totals : List ℕ) (s : Balance) 
       by (inl e) = omega (arith, share-is k b, v .inv .met k b e, v .aims k b)
       by (inr o) = omega (arith, share-is k b, v .inv .idle k b o)
 
-  pub balanced : Balanced nodes p totals (finishOf nodes s) root
+  pub finished-tree : NewTree nodes p totals (finishOf nodes s) root
   unfolding helpand share
-  balanced = rw (finish-at nodes s root found) (record {
+  finished-tree = rw (finish-at nodes s root found) (record {
     tree = new-tree;
     on-target = record { division = record { parts = λ n b. omega (arith, own-is n b, parts n b) }; on = on };
     root-share = share-is root root-node ∙ v .inv .idle root root-node root-open;
@@ -239,8 +239,8 @@ module _ (nodes p : ℕ) (totals old : List ℕ)
   abbrev after : ℕ → Balance
   after turns = runOf nodes old turns (startOf nodes p totals)
 
-  after-kept : (turns : ℕ) → (u : ℕ) × Kept nodes p (at totals) (after turns) u × ((nextL nodes (after turns) ≡ Nothing) ⊎ (u ≡ 0 + turns))
-  after-kept turns = run-kept nodes p few (at totals) old old-inside turns (startOf nodes p totals) 0 (start-kept nodes p totals some few long adds)
+  after-sound : (turns : ℕ) → (u : ℕ) × Sound nodes p (at totals) (after turns) u × ((nextL nodes (after turns) ≡ Nothing) ⊎ (u ≡ 0 + turns))
+  after-sound turns = run-sound nodes p few (at totals) old old-inside turns (startOf nodes p totals) 0 (start-sound nodes p totals some few long adds)
 
   -- THEOREM. After any number of turns: while A has a node l, B has the node g that l is to help, and g has what l needs.
   pub turn-possible : (turns l : ℕ) → nextL nodes (after turns) ≡ At l
@@ -249,7 +249,7 @@ module _ (nodes p : ℕ) (totals old : List ℕ)
       × (inB (after turns .loads) (after turns .targets) (after turns .finished) g ≡ true)
       × (needOf (after turns) l ≤ at (after turns .loads) g)
   turn-possible turns l e =
-      let v = after-kept turns in
+      let v = after-sound turns in
       let r = serve nodes p few (at totals) old old-inside (after turns) (v .0) (v .1) l e in (
         r .0,
         r .1,
@@ -260,24 +260,24 @@ module _ (nodes p : ℕ) (totals old : List ℕ)
   -- THEOREM. The loop ends: after as many turns as there are nodes, A has no node.
   pub turns-end : nextL nodes (after nodes) ≡ Nothing
   turns-end =
-      let v = after-kept nodes in
-      ⊎-elim (λ e. e) (λ u. absurd (omega (arith, u, kept-few nodes p few (at totals) (after nodes) (v .0) (v .1)))) (v .2)
+      let v = after-sound nodes in
+      ⊎-elim (λ e. e) (λ u. absurd (omega (arith, u, sound-few nodes p few (at totals) (after nodes) (v .0) (v .1)))) (v .2)
 
   -- THEOREM. Then B has a node, and the lowest of B is the root of a tree of the new helpands. Along it the new shares, with what is left
   -- to each owner, are a division with every load equal to the node's target.
   pub rebuilt-on-target : (root : ℕ)
       × (lowestInB nodes (after nodes .loads) (after nodes .targets) (after nodes .finished) ≡ At root)
-      × Balanced nodes p totals (rebuiltOf nodes p totals old) root
+      × NewTree nodes p totals (rebuiltOf nodes p totals old) root
   unfolding rebuiltOf
   rebuilt-on-target =
       let s = after nodes in
-      let v = after-kept nodes in
+      let v = after-sound nodes in
       let end = next-none nodes p few (at totals) s turns-end in
       let k = v .1 .inv .left in
       let r =
       best-some (inB (s .loads) (s .targets) (s .finished)) never nodes (k .0) (k .1)
       (in-b-of (at (s .loads) (k .0)) (at (s .targets) (k .0)) (is (s .finished) (k .0)) (k .2) (end (k .0) (k .1) (k .2))) in
-      (r .0, r .1, balanced nodes p few totals s (v .0) (v .1) end (r .0) (r .1))
+      (r .0, r .1, finished-tree nodes p few totals s (v .0) (v .1) end (r .0) (r .1))
 
   -- THEOREM. No node of B is lower than the root.
   pub root-lowest : (k : ℕ) → k < rebuilt-on-target .0 → inB (after nodes .loads) (after nodes .targets) (after nodes .finished) k ≡ false

@@ -10,7 +10,7 @@ use Rattle.fold.specs.Sum.{only, sum}
 use Rattle.fold.proofs.Tests.{only-is, only-not, only-max}
 use Rattle.fold.proofs.Sums.{sum-add, sum-const, sum-below}
 use Rattle.limit.specs.Limit.{maxTolerance, maxTotal, maxLimit, limitOf}
-use Rattle.limit.proofs.Laws.{limit-max, limit-enough}
+use Rattle.limit.proofs.Laws.{limit-even, limit-max, limit-enough}
 use Rattle.rebuild.specs.Target.{targetOf}
 
 -- ---- below the remainder, and from it on
@@ -51,8 +51,7 @@ target-up nodes p h k = le-div-iff-mul-le h .1 (elim (decLt k (p % nodes)) [
 
 -- so none is above the limit, which is the larger of that and another number
 pub target-limit : (nodes p t : ℕ) → 1 ≤ nodes → (k : ℕ) → targetOf nodes p k ≤ limitOf p nodes t
-unfolding limitOf
-target-limit nodes p t h k = omega (arith, target-up nodes p h k)
+target-limit nodes p t h k = omega (arith, target-up nodes p h k, limit-even p nodes t)
 
 pub record WithinTargets (nodes p t : ℕ) : Type 0 where
   pub room : p ≤ nodes * limitOf p nodes t

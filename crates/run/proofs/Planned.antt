@@ -26,7 +26,7 @@ use Rattle.moves.specs.Moves.{readMoves, accepted as movesAccepted}
 use Rattle.moves.proofs.Accepted.{moves-accepted}
 use Rattle.moves.proofs.RoundTrip.{read-written}
 use Rattle.tree.specs.Family.{helps, overHelpers}
-use Rattle.transfer.specs.Due.{Allotted}
+use Rattle.transfer.specs.Inner.{Allotted}
 use Rattle.transfer.specs.Matching.{allRoutes, allCounts}
 use Rattle.transfer.proofs.Acceptable.{Acceptable}
 use Rattle.sheet.specs.Totals.{totalsIn}

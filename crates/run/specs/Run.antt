@@ -14,7 +14,7 @@ use Rattle.arrays.specs.Arrays.{at, tabulate}
 use Rattle.plan.specs.Plan.{readPlan, helpandsOf, sharesOf}
 use Rattle.moves.specs.Moves.{readMoves, routesOf, countsOf}
 use Rattle.tree.specs.Division.{ownOf}
-use Rattle.transfer.specs.Due.{Allotted}
+use Rattle.transfer.specs.Inner.{Allotted}
 use Rattle.sheet.specs.Totals.{totalsIn}
 use Rattle.planner.specs.declared.StepAnswer.{StepAnswer}
 use Rattle.planner.specs.Step.{stepAnswer, planIn, movesIn}

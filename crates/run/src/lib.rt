@@ -9,7 +9,7 @@ ghost use Rattle.words.specs.Buffer.{placed};
 ghost use Rattle.sheet.specs.Sheet.{readSheet};
 ghost use Rattle.arrays.specs.Arrays.{at};
 ghost use Rattle.sheet.specs.Totals.{totalsIn};
-ghost use Rattle.transfer.specs.Due.{Allotted};
+ghost use Rattle.transfer.specs.Inner.{Allotted};
 ghost use Rattle.run.specs.Run.{ownIn, recordsText, textIn, runText, frontSize, textSize, Printable};
 
 // The longest input that can be accepted, and one byte: a longer one prints what its first bytes print (proofs/LongInput.antt).

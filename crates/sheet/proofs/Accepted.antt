@@ -2,15 +2,16 @@
 use mathlib.Core.Path.{_≡_, refl, sym, ap, _∙_}
 use mathlib.Core.Logic.{_≢_}
 use mathlib.Core.List.{List, _++_}
-use mathlib.Core.Bool.{true, not, _||_}
+use mathlib.Core.Bool.{true, not}
 use Prim.Native.Nat.{ℕ, _+_, _*_, _≤_, _<_}
 use native.Mathlib.Omega.{arith}
 use borrow.Author.Tests.{ltb-false, le-ltb, eqb-true, ne-eqb, not-false}
 use lib.Dec.{ltb, eqb}
 use lib.ListN.{length, getD, length-append}
 use Rattle.fold.specs.Rising.{rising}
-use Rattle.fold.proofs.Tests.{passed, handed, or-left, or-right}
-use Rattle.limit.specs.Limit.{maxNodes, maxTolerance, limitOf}
+use Rattle.fold.proofs.Tests.{passed, handed}
+use Rattle.limit.specs.Limit.{maxNodes, maxTolerance, oneTo, limitOf}
+use Rattle.limit.proofs.Laws.{one-to-is}
 use Rattle.words.specs.Words.{words}
 use Rattle.words.proofs.Words.{length-words, length-part, word-front}
 use Rattle.sheet.specs.declared.Sheet.{Sheet}
@@ -61,16 +62,18 @@ header-fine s q =
     let e = getD (words s) 2 0 in
     let f : HeaderAnswer → ℕ = λ a. a .refusal in
     let a₁ = passed f (ltb (length s) 12) (headerRefused 1) (rangesAnswer n t e) (λ z. omega arith) q in
-    let a₂ = passed f (ltb n 1 || ltb maxNodes n) (headerRefused 2) _ (λ z. omega arith) (a₁ .1) in
-    let a₃ = passed f (ltb t 1 || ltb maxTolerance t) (headerRefused 3) _ (λ z. omega arith) (a₂ .1) in
+    let a₂ = passed f (not (oneTo maxNodes n)) (headerRefused 2) _ (λ z. omega arith) (a₁ .1) in
+    let a₃ = passed f (not (oneTo maxTolerance t)) (headerRefused 3) _ (λ z. omega arith) (a₂ .1) in
     let a₄ = passed f (ltb (n * n) e) (headerRefused 4) _ (λ z. omega arith) (a₃ .1) in
+    let nodes = one-to-is maxNodes n (not-false _ (a₂ .0)) in
+    let tolerance = one-to-is maxTolerance t (not-false _ (a₃ .0)) in
     record {
       long = ltb-false (length s) 12 (a₁ .0);
       is = rw (a₁ .0, a₂ .0, a₃ .0, a₄ .0);
-      n-low = ltb-false n 1 (or-left (ltb n 1) (ltb maxNodes n) (a₂ .0));
-      n-high = ltb-false maxNodes n (or-right (ltb n 1) (ltb maxNodes n) (a₂ .0));
-      t-low = ltb-false t 1 (or-left (ltb t 1) (ltb maxTolerance t) (a₃ .0));
-      t-high = ltb-false maxTolerance t (or-right (ltb t 1) (ltb maxTolerance t) (a₃ .0));
+      n-low = nodes .0;
+      n-high = nodes .1;
+      t-low = tolerance .0;
+      t-high = tolerance .1;
       e-high = ltb-false (n * n) e (a₄ .0);
     }
 

@@ -19,6 +19,7 @@ use Rattle.fold.proofs.Tests.{either}
 use Rattle.fold.proofs.Sums.{sum-none, sum-suc, sum-eq, sum-split, sum-below, sum-term, sum-zeros, total-append}
 use Rattle.fold.proofs.Lists.{rises, rising-more, rising-none, rising-from, rising-at, collect-front, collect-eq, map-at}
 use Rattle.limit.specs.Limit.{maxNodes, maxTolerance, maxTotal, limitOf}
+use Rattle.limit.proofs.Laws.{one-to-of}
 use Rattle.words.specs.Words.{words, encode}
 use Rattle.words.proofs.Words.{Below, below-none, below-cons, below-append, words-encode, encode-words, part-first, part-second, take-three, record-split}
 use Rattle.sheet.specs.declared.CountSum.the-variants.{Sum}
@@ -219,7 +220,14 @@ module _ (n t : ℕ) (table : List ℕ) (w : Writable n t table) where
       let q : runningSum 0 (countsOf s e) ≡ Sum p =
       rw counts-written (sum-of 0 (filledCounts n table) (omega (arith, cells-total, w .within)) (λ i h. count-at i (omega (arith, length-map (filledCells n table) count)) .0) ∙ ap Sum (omega (arith, cells-total))) in
       rw (le-ltb (length s) 12 (omega arith), ap (λ (ws : List ℕ). getD ws 0 0) words-written, ap (λ (ws : List ℕ). getD ws 1 0) words-written, ap (λ (ws : List ℕ). getD ws 2 0) words-written)
-      (simp (le-ltb n 1 (w .n-low), le-ltb maxNodes n (w .n-high), le-ltb t 1 (w .t-low), le-ltb maxTolerance t (w .t-high), le-ltb (n * n) e cells-few, eq-eqb (length s) (4 * (3 + 2 * e)) l, c, q))
+      (simp (
+        one-to-of maxNodes n (w .n-low) (w .n-high),
+        one-to-of maxTolerance t (w .t-low) (w .t-high),
+        le-ltb (n * n) e cells-few,
+        eq-eqb (length s) (4 * (3 + 2 * e)) l,
+        c,
+        q,
+      ))
 
   -- THEOREM. And its table is the table that was written.
   pub table-written : tableOf (sheetBytes n t table) e ≡ table

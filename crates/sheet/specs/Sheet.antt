@@ -1,11 +1,11 @@
 -- Document 01, *Read sheet*: "gives N, t, E, P, L", and its refusals 1 to 7, from the list of a sheet's bytes.
 use Prim.Native.Nat.{ℕ, _+_, _*_, _/_, _%_}
 use mathlib.Core.List.{List, [], _∷_}
-use mathlib.Core.Bool.{Bool, cond, _||_, _&&_, not}
+use mathlib.Core.Bool.{Bool, cond, _&&_, not}
 use lib.ListN.{length, getD}
 use lib.Dec.{ltb, eqb}
 use Rattle.fold.specs.Rising.{rising}
-use Rattle.limit.specs.Limit.{maxNodes, maxTolerance, maxTotal, limitOf}
+use Rattle.limit.specs.Limit.{maxNodes, maxTolerance, maxTotal, oneTo, limitOf}
 use Rattle.words.specs.Checks.{refuseIf, refuseAs}
 use Rattle.words.specs.Words.{words, part}
 use Rattle.sheet.specs.declared.SheetRefusal.{SheetRefusal}
@@ -87,8 +87,8 @@ headerOf (HeaderUnread r) = headerRefused (refusalNumber r)
 -- 2 to 4, with the words N, t and E
 abbrev pub rangesAnswer : ℕ → ℕ → ℕ → HeaderAnswer
 rangesAnswer n t e =
-    refuseIf (ltb n 1 || ltb maxNodes n) (headerRefused 2)
-    (refuseIf (ltb t 1 || ltb maxTolerance t) (headerRefused 3)
+    refuseIf (not (oneTo maxNodes n)) (headerRefused 2)
+    (refuseIf (not (oneTo maxTolerance t)) (headerRefused 3)
     (refuseIf (ltb (n * n) e) (headerRefused 4)
     (headerAccepted n t e)))
 

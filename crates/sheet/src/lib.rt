@@ -149,16 +149,10 @@ pub fn read_header(s: &[u8]) -> HeaderReading
     let n = words::word_number(s, 0);
     let t = words::word_number(s, 1);
     let e = words::word_number(s, 2);
-    if n < 1 {
+    if !limit::one_to(limit::MAX_NODES, n) {
         return HeaderReading::Refused(SheetRefusal::Nodes);
     }
-    if limit::MAX_NODES < n {
-        return HeaderReading::Refused(SheetRefusal::Nodes);
-    }
-    if t < 1 {
-        return HeaderReading::Refused(SheetRefusal::Tolerance);
-    }
-    if limit::MAX_TOLERANCE < t {
+    if !limit::one_to(limit::MAX_TOLERANCE, t) {
         return HeaderReading::Refused(SheetRefusal::Tolerance);
     }
     if n * n < e {

@@ -1,13 +1,14 @@
 -- Laws of texts in a buffer: one text behind another is their join. Assumes nothing.
-use mathlib.Core.Path.{_≡_, refl, sym, _∙_}
+use mathlib.Core.Path.{_≡_, refl, sym, ap, _∙_}
 use mathlib.Core.List.{List, [], _∷_, _++_}
 use Prim.Native.Nat.{ℕ, _+_, _≤_}
 use native.Mathlib.Nat.{add-zero}
 use native.Mathlib.Omega.{arith}
 use lib.ListN.{length, set, length-append}
+use lib.Seq.{length-sets}
 use Rattle.words.specs.Buffer.{placed}
 use Rattle.words.proofs.Buffer.{sets-append, sets-placed}
-use Rattle.text.specs.Put.{Put}
+use Rattle.text.specs.Inner.{Put}
 
 pub put-none : (out : List ℕ) (at : ℕ) → Put out at [] out at
 put-none out at = record { index = sym (add-zero at); bytes = refl }
@@ -27,3 +28,7 @@ put-one b p e = put-then p (record { index = e; bytes = refl })
 pub put-front : {out after text : List ℕ} {next : ℕ} → Put out 0 text after next → length text ≤ length out
     → (next ≡ length text) × (after ≡ placed text out)
 put-front {out} {after} {text} {next} p h = (omega arith, p .bytes ∙ sets-placed text out h)
+
+-- the buffer stays as long as it was
+pub put-length : {out after text : List ℕ} {at next : ℕ} → Put out at text after next → length after ≡ length out
+put-length {out} {after} {text} {at} p = ap length (p .bytes) ∙ length-sets out at text

@@ -7,7 +7,7 @@ ghost use Prim.Native.Nat.{_+_, _*_, _≤_, _<_};
 ghost use lib.ListN.{length};
 ghost use Rattle.limit.specs.Limit.{maxNodes};
 ghost use Rattle.text.specs.Text.{headLine, nodeLine, nodesText, moveLine, movesText, refusedText};
-ghost use Rattle.text.specs.Put.{Put};
+ghost use Rattle.text.specs.Inner.{Put};
 
 // "Line 1: kind and L."
 pub fn put_head(out: &mut [u8], at: usize, kind: u32, limit: u32) -> usize

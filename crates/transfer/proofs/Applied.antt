@@ -20,7 +20,8 @@ use Rattle.words.specs.Words.{words}
 use Rattle.words.proofs.Words.{part-more}
 use Rattle.arrays.specs.Arrays.{at}
 use Rattle.moves.specs.Moves.{routesOf, countsOf}
-use Rattle.transfer.specs.Carry.{fromCell, intoCell, sends, receives, withinFrom, sendsWithin, carriedFrom, carried, Ready}
+use Rattle.transfer.specs.Apply.{fromCell, intoCell, sends, receives, withinFrom, sendsWithin, carriedFrom, carried}
+use Rattle.transfer.specs.Inner.{Ready}
 use Rattle.transfer.proofs.Ends.{moved-none, moved-one, moved-here}
 
 -- ---- cells

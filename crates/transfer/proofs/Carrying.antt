@@ -25,16 +25,17 @@ use Rattle.sheet.proofs.Laws.{cell-holder, cell-subdomain}
 use Rattle.arrays.specs.Arrays.{at}
 use Rattle.sheet.specs.Table.{held}
 use Rattle.moves.specs.Moves.{subdomain, routeFine, countFine}
-use Rattle.transfer.specs.Due.{dueOf, Allotted}
-use Rattle.transfer.specs.Matching.{surplusOf, shortageOf, movesIn, allRoutes, allCounts}
-use Rattle.transfer.specs.Carry.{fromCell, intoCell, moved, sends, receives, sendsWithin, carried}
+use Rattle.transfer.specs.Due.{dueOf}
+use Rattle.transfer.specs.Inner.{Allotted}
+use Rattle.transfer.specs.Matching.{surplusOf, shortageOf, subdomainMoves, allRoutes, allCounts}
+use Rattle.transfer.specs.Apply.{fromCell, intoCell, moved, sends, receives, sendsWithin, carried}
 use Rattle.transfer.proofs.Acceptable.{Acceptable}
 use Rattle.transfer.proofs.Dues.{due-sum}
 use Rattle.transfer.proofs.Ends.{moved-absent, moved-collect}
 use Rattle.transfer.proofs.Matched.{surplus-apart, moves-few, routes-rise, routes-in, counts-fine, sends-surplus, receives-shortage}
 use Rattle.transfer.proofs.Subdomains.{routesIn, countsIn, lengths-in, lengths, few-all}
 use Rattle.transfer.proofs.Applied.{carried-at, within-of}
-use Rattle.transfer.proofs.Kept.{Fine, acceptable-fine, sends-outside}
+use Rattle.transfer.proofs.Kept.{RoutesFine, acceptable-fine, sends-outside}
 use Rattle.arrays.proofs.Tabulate.{tabulate-at}
 use Rattle.sheet.specs.Totals.{totalOf, totalsOf}
 
@@ -154,7 +155,7 @@ module _ (nodes : ℕ) (table : List ℕ) (due : ℕ → ℕ → ℕ) (h64 : nod
         ∙ receives-shortage nodes (above n) (lacks n) (equal n hn) n k h64 (omega arith) hk
 
     module _ (size : length table ≡ tableSize) (small : sum tableSize (at table) ≤ maxTotal) where
-      fine : Fine nodes (allRoutes nodes table due)
+      fine : RoutesFine nodes (allRoutes nodes table due)
       fine = acceptable-fine nodes h64 (allRoutes nodes table due) (allCounts nodes table due) (acceptable small)
 
       abbrev sent : ℕ → ℕ
@@ -196,7 +197,7 @@ pub record Carries (nodes : ℕ) (table : List ℕ) (due : ℕ → ℕ → ℕ) 
   -- *read moves* accepts them: routes rise strictly and are fine, counts are 1 to 1,000,000,000, and there are at most N × (N-1)
   pub accepted : Acceptable nodes (allRoutes nodes table due) (allCounts nodes table due)
   -- there are at most N - 1 in one subdomain
-  pub few : (n : ℕ) → length (movesIn nodes table due n) ≤ nodes - 1
+  pub few : (n : ℕ) → length (subdomainMoves nodes table due n) ≤ nodes - 1
   -- nobody sends and receives the same subdomain
   pub apart : (c : ℕ) → min (sends (allRoutes nodes table due) (allCounts nodes table due) c) (receives (allRoutes nodes table due) (allCounts nodes table due) c) ≡ 0
   -- they are not refused with 42

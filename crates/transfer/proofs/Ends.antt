@@ -11,7 +11,7 @@ use lib.ListN.{length, getD, length-append}
 use Rattle.fold.specs.Sum.{only, sum}
 use Rattle.fold.specs.Collect.{collect}
 use Rattle.fold.proofs.Tests.{only-is, only-not}
-use Rattle.transfer.specs.Carry.{moved}
+use Rattle.transfer.specs.Apply.{moved}
 
 module _ (end : ℕ → ℕ) where
   pub moved-none : (counts : List ℕ) (c : ℕ) → moved end [] counts c ≡ 0

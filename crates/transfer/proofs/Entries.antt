@@ -9,7 +9,8 @@ use native.Mathlib.Omega.{arith}
 use lib.ListN.{length, length-append, length-map}
 use lib.Seq.{sets, length-sets}
 use Rattle.words.proofs.Buffer.{sets-append}
-use Rattle.transfer.specs.Matching.{Move, moveOf, matched, NextFrom, routeOf, countOf}
+use Rattle.transfer.specs.Matching.{Move, moveOf, matched, routeOf, countOf}
+use Rattle.transfer.specs.Inner.{NextFrom}
 use Rattle.transfer.proofs.Next.{next-none, next-some}
 use Rattle.transfer.proofs.Turns.{turn-stop, rest-sender, rest-receiver, rest, senders-passed, receivers-passed}
 

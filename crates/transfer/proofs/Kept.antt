@@ -22,15 +22,15 @@ use Rattle.arrays.specs.Arrays.{at}
 use Rattle.sheet.specs.Table.{held}
 use Rattle.moves.specs.Moves.{subdomain, sender, receiver, routeFine}
 use Rattle.moves.proofs.Laws.{route-is}
-use Rattle.transfer.specs.Carry.{fromCell, intoCell, sends, receives, sendsWithin, carried}
+use Rattle.transfer.specs.Apply.{fromCell, intoCell, sends, receives, sendsWithin, carried}
 use Rattle.transfer.proofs.Acceptable.{Acceptable}
 use Rattle.transfer.proofs.Ends.{moved-absent}
 use Rattle.transfer.proofs.Applied.{applied, applied-length, applied-at, applied-sum, applied-enough, applied-within, carried-at, length-carried, carried-none, carried-more, within-at}
 use Rattle.sheet.specs.Totals.{totalOf}
 
 -- each route is fine
-abbrev pub Fine : ℕ → List ℕ → Type 0
-Fine nodes routes = (i : ℕ) → i < length routes → routeFine nodes (getD routes i 0) ≡ true
+abbrev pub RoutesFine : ℕ → List ℕ → Type 0
+RoutesFine nodes routes = (i : ℕ) → i < length routes → routeFine nodes (getD routes i 0) ≡ true
 
 module _ (nodes : ℕ) (h64 : nodes ≤ maxNodes) where
   route-below : (route : ℕ) → routeFine nodes route ≡ true → route < 64 * tableSize
@@ -38,7 +38,7 @@ module _ (nodes : ℕ) (h64 : nodes ≤ maxNodes) where
 
   -- ---- no move leads from or to a cell that names no two nodes
 
-  module _ (routes counts : List ℕ) (fine : Fine nodes routes) (c : ℕ) (out : cellFine nodes c ≡ false) where
+  module _ (routes counts : List ℕ) (fine : RoutesFine nodes routes) (c : ℕ) (out : cellFine nodes c ≡ false) where
     pub sends-outside : sends routes counts c ≡ 0
     sends-outside =
         moved-absent fromCell routes counts c (λ i l e.
@@ -95,10 +95,10 @@ module _ (nodes : ℕ) (h64 : nodes ≤ maxNodes) where
 
   -- ---- all moves
 
-  fine-tail : (route : ℕ) (routes : List ℕ) → Fine nodes (route ∷ routes) → Fine nodes routes
+  fine-tail : (route : ℕ) (routes : List ℕ) → RoutesFine nodes (route ∷ routes) → RoutesFine nodes routes
   fine-tail route routes f i l = f (suc i) (omega arith)
 
-  pub totals-kept : (routes counts table : List ℕ) → length table ≡ tableSize → Fine nodes routes → length routes ≡ length counts
+  pub totals-kept : (routes counts table : List ℕ) → length table ≡ tableSize → RoutesFine nodes routes → length routes ≡ length counts
       → ((c : ℕ) → c < tableSize → sends routes counts c ≤ at table c) → (n : ℕ) → n < 64 → totalOf nodes (carried table routes counts) n ≡ totalOf nodes table n
   totals-kept [] [] table size fine same within n hn = ap (λ (l : List ℕ). totalOf nodes l n) (carried-none table)
   totals-kept [] (k ∷ ks) table size fine same within n hn = absurd (omega arith)
@@ -110,7 +110,7 @@ module _ (nodes : ℕ) (h64 : nodes ≤ maxNodes) where
       (totals-kept rs ks (applied table r k) (applied-length table r k size b) (fine-tail r rs fine) (omega arith) (applied-within table r k size b rs ks within) n hn
       ∙ total-applied table r k rs ks size f within n hn)
 
-  pub sum-kept : (routes counts table : List ℕ) → length table ≡ tableSize → Fine nodes routes → length routes ≡ length counts
+  pub sum-kept : (routes counts table : List ℕ) → length table ≡ tableSize → RoutesFine nodes routes → length routes ≡ length counts
       → ((c : ℕ) → c < tableSize → sends routes counts c ≤ at table c) → sum tableSize (at (carried table routes counts)) ≡ sum tableSize (at table)
   sum-kept [] [] table size fine same within = ap (λ (l : List ℕ). sum tableSize (at l)) (carried-none table)
   sum-kept [] (k ∷ ks) table size fine same within = absurd (omega arith)
@@ -124,7 +124,7 @@ module _ (nodes : ℕ) (h64 : nodes ≤ maxNodes) where
 -- ---- accepted moves
 
 module _ (nodes : ℕ) (h64 : nodes ≤ maxNodes) (routes counts : List ℕ) (a : Acceptable nodes routes counts) where
-  pub acceptable-fine : Fine nodes routes
+  pub acceptable-fine : RoutesFine nodes routes
   acceptable-fine = rising-at (routeFine nodes) 0 routes (a .routes-fine)
 
 -- THEOREM. Accepted moves that are not refused with 42 keep each subdomain's total.
@@ -152,7 +152,7 @@ writable-kept nodes t table routes counts v a w =
       within = rw (sum-kept nodes (v .n-high) routes counts table (v .size) fine (a .same) (λ c l. within-at table routes counts w c (omega (arith, v .size)))) (v .within);
     }
   where
-    fine : Fine nodes routes
+    fine : RoutesFine nodes routes
     fine = acceptable-fine nodes (v .n-high) routes counts a
 
     size : length (carried table routes counts) ≡ tableSize

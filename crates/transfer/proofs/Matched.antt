@@ -21,8 +21,8 @@ use Rattle.fold.proofs.Lists.{rising-none, rising-more, rising-from}
 use Rattle.limit.specs.Limit.{maxNodes, maxTotal, tableSize}
 use Rattle.moves.specs.Moves.{route, subdomain, sender, receiver, routeFine, countFine}
 use Rattle.moves.proofs.Laws.{route-subdomain, route-sender, route-receiver, route-of, count-of}
-use Rattle.transfer.specs.Matching.{Move, surplusOf, shortageOf, matched, movesOf, routeOf, countOf}
-use Rattle.transfer.specs.Carry.{fromCell, intoCell, sends, receives}
+use Rattle.transfer.specs.Matching.{Move, surplusOf, shortageOf, matched, movesBetween, routeOf, countOf}
+use Rattle.transfer.specs.Apply.{fromCell, intoCell, sends, receives}
 use Rattle.transfer.proofs.Turns.{Turn, walk}
 use Rattle.transfer.proofs.Ends.{moved-none, moved-here, moved-other}
 
@@ -228,6 +228,6 @@ module _ (nodes : ℕ) (surplus shortage : ℕ → ℕ) where
 pub surplus-apart : (holding due : ℕ) → min (surplusOf holding due) (shortageOf holding due) ≡ 0
 surplus-apart holding due = omega arith
 
-pub moves-few : (nodes : ℕ) (holding due : ℕ → ℕ) → length (movesOf nodes holding due) ≤ nodes - 1
+pub moves-few : (nodes : ℕ) (holding due : ℕ → ℕ) → length (movesBetween nodes holding due) ≤ nodes - 1
 moves-few nodes holding due =
     few nodes (λ k. surplusOf (holding k) (due k)) (λ k. shortageOf (holding k) (due k)) (λ k. surplus-apart (holding k) (due k))

@@ -7,7 +7,7 @@ use native.Mathlib.Decide.{ℕ-discrete}
 use native.Mathlib.Omega.{arith}
 use borrow.Author.Tests.{lt-ltb, le-ltb, ltb-true, ltb-false}
 use lib.Dec.{ltb}
-use Rattle.transfer.specs.Matching.{NextFrom}
+use Rattle.transfer.specs.Inner.{NextFrom}
 
 -- all nodes before k have none
 pub record Passing (nodes : ℕ) (amount : ℕ → ℕ) (from k : ℕ) : Type 0 where

@@ -11,26 +11,26 @@ use Rattle.fold.proofs.Lists.{collect-more, collect-eq}
 use Rattle.words.specs.Buffer.{placed}
 use Rattle.words.proofs.Buffer.{sets-append, sets-placed}
 use Rattle.sheet.specs.Table.{held}
-use Rattle.transfer.specs.Matching.{Move, surplusOf, shortageOf, movesOf, routeOf, countOf, movesIn, allRoutes, allCounts}
+use Rattle.transfer.specs.Matching.{Move, surplusOf, shortageOf, movesBetween, routeOf, countOf, subdomainMoves, allRoutes, allCounts}
 use Rattle.transfer.proofs.Turns.{matched-eq}
 use Rattle.transfer.proofs.Matched.{moves-few}
 
 -- only what nodes hold and are due is looked at
 pub moves-eq : (nodes : ℕ) (holding due holding′ due′ : ℕ → ℕ) → ((k : ℕ) → k < nodes → holding k ≡ holding′ k) → ((k : ℕ) → k < nodes → due k ≡ due′ k)
-    → movesOf nodes holding due ≡ movesOf nodes holding′ due′
+    → movesBetween nodes holding due ≡ movesBetween nodes holding′ due′
 moves-eq nodes holding due holding′ due′ h e =
     matched-eq nodes (λ k. surplusOf (holding k) (due k)) (λ k. shortageOf (holding k) (due k)) (λ k. surplusOf (holding′ k) (due′ k)) (λ k. shortageOf (holding′ k) (due′ k))
     (λ k l. ap₂ surplusOf (h k l) (e k l)) (λ k l. ap₂ shortageOf (h k l) (e k l)) (2 * nodes) 0 0 0 0
 
 module _ (nodes : ℕ) (table : List ℕ) (due : ℕ → ℕ → ℕ) where
   abbrev pub routesIn : ℕ → List ℕ
-  routesIn n = map (routeOf n) (movesIn nodes table due n)
+  routesIn n = map (routeOf n) (subdomainMoves nodes table due n)
 
   abbrev pub countsIn : ℕ → List ℕ
-  countsIn n = map countOf (movesIn nodes table due n)
+  countsIn n = map countOf (subdomainMoves nodes table due n)
 
   pub lengths-in : (n : ℕ) → length (routesIn n) ≡ length (countsIn n)
-  lengths-in n = length-map (movesIn nodes table due n) (routeOf n) ∙ sym (length-map (movesIn nodes table due n) countOf)
+  lengths-in n = length-map (subdomainMoves nodes table due n) (routeOf n) ∙ sym (length-map (subdomainMoves nodes table due n) countOf)
 
   pub lengths : (n : ℕ) → length (collect n routesIn) ≡ length (collect n countsIn)
   unfolding collect
@@ -42,8 +42,8 @@ module _ (nodes : ℕ) (table : List ℕ) (due : ℕ → ℕ → ℕ) where
   unfolding collect
   few-all zero = omega arith
   few-all (suc n) =
-      let f : length (movesIn nodes table due n) ≤ nodes - 1 = moves-few nodes (λ k. held table k n) (due n) in
-      simp length-append (omega (arith, few-all n, length-map (movesIn nodes table due n) (routeOf n), f))
+      let f : length (subdomainMoves nodes table due n) ≤ nodes - 1 = moves-few nodes (λ k. held table k n) (due n) in
+      simp length-append (omega (arith, few-all n, length-map (subdomainMoves nodes table due n) (routeOf n), f))
 
   -- the moves of the first n subdomains are written
   pub record Written (routes₀ counts₀ : List ℕ) (n : ℕ) (routes counts : List ℕ) (e : ℕ) : Type 0 where
@@ -63,11 +63,11 @@ module _ (nodes : ℕ) (table : List ℕ) (due : ℕ → ℕ → ℕ) where
       pub counts-long : length counts ≡ length counts₀
       counts-long = ap length (w .counts-are) ∙ length-sets counts₀ 0 (collect n countsIn)
 
-      pub written-more : (moves : List Move) (routes′ counts′ : List ℕ) (e′ : ℕ) → moves ≡ movesIn nodes table due n → e′ ≡ e + length moves
+      pub written-more : (moves : List Move) (routes′ counts′ : List ℕ) (e′ : ℕ) → moves ≡ subdomainMoves nodes table due n → e′ ≡ e + length moves
           → routes′ ≡ sets routes e (map (routeOf n) moves) → counts′ ≡ sets counts e (map countOf moves) → Written routes₀ counts₀ (n + 1) routes′ counts′ e′
       written-more moves routes′ counts′ e′ m ee er ec =
           record {
-            entries = ee ∙ rw (m, collect-more n routesIn) (omega (arith, w .entries, length-append (collect n routesIn) (routesIn n), length-map (movesIn nodes table due n) (routeOf n)));
+            entries = ee ∙ rw (m, collect-more n routesIn) (omega (arith, w .entries, length-append (collect n routesIn) (routesIn n), length-map (subdomainMoves nodes table due n) (routeOf n)));
             routes-are = er ∙ rw (m, w .routes-are, w .entries, collect-more n routesIn) (sym (sets-append routes₀ 0 (collect n routesIn) (routesIn n) ∙ rw zero-add));
             counts-are = ec ∙ rw (m, w .counts-are, w .entries ∙ lengths n, collect-more n countsIn) (sym (sets-append counts₀ 0 (collect n countsIn) (countsIn n) ∙ rw zero-add));
           }
@@ -87,8 +87,8 @@ module _ (nodes : ℕ) (table : List ℕ) (due : ℕ → ℕ → ℕ) where
 module _ (nodes : ℕ) (table : List ℕ) (due due′ : ℕ → ℕ → ℕ) (same : (n : ℕ) → n < nodes → due n ≡ due′ n) where
   pub all-routes-eq : allRoutes nodes table due ≡ allRoutes nodes table due′
   all-routes-eq =
-      collect-eq nodes (routesIn nodes table due) (routesIn nodes table due′) (λ n l. ap (λ (f : ℕ → ℕ). map (routeOf n) (movesOf nodes (λ k. held table k n) f)) (same n l))
+      collect-eq nodes (routesIn nodes table due) (routesIn nodes table due′) (λ n l. ap (λ (f : ℕ → ℕ). map (routeOf n) (movesBetween nodes (λ k. held table k n) f)) (same n l))
 
   pub all-counts-eq : allCounts nodes table due ≡ allCounts nodes table due′
   all-counts-eq =
-      collect-eq nodes (countsIn nodes table due) (countsIn nodes table due′) (λ n l. ap (λ (f : ℕ → ℕ). map countOf (movesOf nodes (λ k. held table k n) f)) (same n l))
+      collect-eq nodes (countsIn nodes table due) (countsIn nodes table due′) (λ n l. ap (λ (f : ℕ → ℕ). map countOf (movesBetween nodes (λ k. held table k n) f)) (same n l))

@@ -1,8 +1,8 @@
 -- Document 01, 'Moves': the due amounts.
-use Prim.Native.Nat.{ℕ, _≤_, _<_}
+use Prim.Native.Nat.{ℕ}
 use mathlib.Core.Bool.{cond}
 use lib.Dec.{eqb}
-use Rattle.tree.specs.Family.{helps, overHelpers}
+use Rattle.tree.specs.Family.{helps}
 use Rattle.tree.specs.Division.{ownOf}
 
 -- "The due amount of a subdomain is its share for a helper of the owner, Pn less those shares for the owner, and 0 for any other
@@ -13,8 +13,3 @@ dueWith h share own n k = cond (helps h n k) (share k) (cond (eqb k n) own 0)
 -- what node k is due of subdomain n
 abbrev pub dueOf : ℕ → (ℕ → ℕ) → (ℕ → ℕ) → (ℕ → ℕ) → ℕ → ℕ → ℕ
 dueOf nodes h total share n = dueWith h share (ownOf nodes h total share n) n
-
--- each helpand is a node, and no owner's helpers are given more than there is
-pub record Allotted (nodes : ℕ) (h total share : ℕ → ℕ) : Type 0 where
-  pub inside : (k : ℕ) → k < nodes → h k < nodes
-  pub enough : (n : ℕ) → n < nodes → overHelpers nodes h n share ≤ total n

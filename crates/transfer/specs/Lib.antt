@@ -1,3 +1,4 @@
 pub mod Due
 pub mod Matching
-pub mod Carry
+pub mod Apply
+pub mod Inner

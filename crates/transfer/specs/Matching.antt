@@ -1,10 +1,8 @@
 -- Document 01, 'Moves': who sends how many particles to whom, in one subdomain and then in all of them.
-use mathlib.Core.Path.{_≡_}
-use Prim.Native.Nat.{ℕ, zero, suc, _+_, _-_, _*_, _<_, min}
+use Prim.Native.Nat.{ℕ, zero, suc, _+_, _-_, _*_, min}
 use mathlib.Core.List.{List, [], _∷_, _++_, map}
 use mathlib.Core.Bool.{cond, _&&_}
 use lib.Dec.{ltb, leb, eqb}
-use Rattle.fold.specs.First.{FirstFrom}
 use Rattle.fold.specs.Collect.{collect}
 use Rattle.sheet.specs.Table.{held}
 use Rattle.moves.specs.Moves.{route}
@@ -42,14 +40,9 @@ matched nodes surplus shortage (suc turns) s sent r got =
     let moves = moveOf s r m ++ rest in
     cond (ltb s nodes && ltb r nodes) moves []
 
--- a step of going through nodes "by rising number": the first node from `from` on with an amount, and the amount
-pub record NextFrom (nodes : ℕ) (amount : ℕ → ℕ) (from node count : ℕ) : Type 0 where
-  pub first : FirstFrom nodes (λ k. ltb 0 (amount k)) from node
-  pub is : node < nodes → count ≡ amount node
-
 -- the moves of a subdomain, from what each node holds of it and what it is due
-abbrev pub movesOf : ℕ → (ℕ → ℕ) → (ℕ → ℕ) → List Move
-movesOf nodes holding due =
+abbrev pub movesBetween : ℕ → (ℕ → ℕ) → (ℕ → ℕ) → List Move
+movesBetween nodes holding due =
     matched nodes (λ k. surplusOf (holding k) (due k)) (λ k. shortageOf (holding k) (due k)) (2 * nodes) 0 0 0 0
 
 -- ---- all subdomains, from a table of counts and what is due of each subdomain to each node
@@ -61,12 +54,12 @@ routeOf n m = route n (m .sender) (m .receiver)
 abbrev pub countOf : Move → ℕ
 countOf m = m .count
 
-abbrev pub movesIn : ℕ → List ℕ → (ℕ → ℕ → ℕ) → ℕ → List Move
-movesIn nodes table due n = movesOf nodes (λ k. held table k n) (due n)
+abbrev pub subdomainMoves : ℕ → List ℕ → (ℕ → ℕ → ℕ) → ℕ → List Move
+subdomainMoves nodes table due n = movesBetween nodes (λ k. held table k n) (due n)
 
 -- the routes and the counts of all moves, "by rising subdomain"
 abbrev pub allRoutes : ℕ → List ℕ → (ℕ → ℕ → ℕ) → List ℕ
-allRoutes nodes table due = collect nodes (λ n. map (routeOf n) (movesIn nodes table due n))
+allRoutes nodes table due = collect nodes (λ n. map (routeOf n) (subdomainMoves nodes table due n))
 
 abbrev pub allCounts : ℕ → List ℕ → (ℕ → ℕ → ℕ) → List ℕ
-allCounts nodes table due = collect nodes (λ n. map countOf (movesIn nodes table due n))
+allCounts nodes table due = collect nodes (λ n. map countOf (subdomainMoves nodes table due n))

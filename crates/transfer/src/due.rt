@@ -5,7 +5,8 @@ ghost use Prim.Native.Nat.{ℕ, _≤_, _<_};
 ghost use Rattle.limit.specs.Limit.{maxNodes};
 ghost use Rattle.arrays.specs.Arrays.{at, tabulate};
 ghost use Rattle.tree.specs.Division.{ownOf};
-ghost use Rattle.transfer.specs.Due.{dueWith, Allotted};
+ghost use Rattle.transfer.specs.Due.{dueWith};
+ghost use Rattle.transfer.specs.Inner.{Allotted};
 
 // What is left of each subdomain for its owner: its total, from which each helper's share is taken off as the helper is met.
 pub fn own_amounts(

@@ -15,8 +15,9 @@ ghost use Rattle.limit.specs.Limit.{maxNodes};
 ghost use Rattle.arrays.specs.Arrays.{at, tabulate};
 ghost use Rattle.sheet.specs.Table.{held};
 ghost use Rattle.words.specs.Buffer.{placed};
-ghost use Rattle.transfer.specs.Due.{dueOf, Allotted};
-ghost use Rattle.transfer.specs.Matching.{moveOf, NextFrom, movesOf, routeOf, countOf, allRoutes, allCounts};
+ghost use Rattle.transfer.specs.Due.{dueOf};
+ghost use Rattle.transfer.specs.Inner.{Allotted, NextFrom};
+ghost use Rattle.transfer.specs.Matching.{moveOf, movesBetween, routeOf, countOf, allRoutes, allCounts};
 ghost use Rattle.sheet.specs.Totals.{totalsOf};
 
 // A node with a surplus or a shortage, and what remains of it; past the last such node, the number of nodes.
@@ -100,13 +101,13 @@ fn put_subdomain(
     e: usize,
 ) -> usize
     requires { ⌜ (nodes ≤ maxNodes) × (n < nodes) × (e + (nodes - 1) ≤ length (now routes)) × (e + (nodes - 1) ≤ length (now counts)) ⌝ }
-    ensures entries { λ k. ⌜ k ≡ e + length (movesOf nodes (at (now (holding .entry))) (at (now (due .entry)))) ⌝ }
+    ensures entries { λ k. ⌜ k ≡ e + length (movesBetween nodes (at (now (holding .entry))) (at (now (due .entry)))) ⌝ }
     ensures routes { λ _. ⌜
         now (routes .exit) ≡ sets (now (routes .entry)) e
-        (map (routeOf n) (movesOf nodes (at (now (holding .entry))) (at (now (due .entry))))) ⌝ }
+        (map (routeOf n) (movesBetween nodes (at (now (holding .entry))) (at (now (due .entry))))) ⌝ }
     ensures counts { λ _. ⌜
         now (counts .exit) ≡ sets (now (counts .entry)) e
-        (map countOf (movesOf nodes (at (now (holding .entry))) (at (now (due .entry))))) ⌝ }
+        (map countOf (movesBetween nodes (at (now (holding .entry))) (at (now (due .entry))))) ⌝ }
 {
     let mut entries = e;
     let mut s = next_above(holding, due, nodes, 0);

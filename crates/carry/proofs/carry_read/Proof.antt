@@ -12,7 +12,8 @@ use denote.Ref.{now}
 use Rattle.sheet.specs.Write.{sheetBytes}
 use Rattle.sheet.proofs.Accepted.{sheet-unpackable}
 use Rattle.moves.specs.Moves.{routesOf, countsOf}
-use Rattle.transfer.specs.Carry.{sendsWithin, Ready}
+use Rattle.transfer.specs.Apply.{sendsWithin}
+use Rattle.transfer.specs.Inner.{Ready}
 use Rattle.carry.specs.Carry.{withinIn, nextTable, nextSheet, pairAnswer}
 use Rattle.carry.proofs.Carried.{sheet-facts, ready, within-is, carried-is, pair-differ, pair-sends, wrote, pair-wrote, pair-unwritten, length-small, refused-both}
 use Rattle.carry.proofs.carry_read.Statement.{statement}

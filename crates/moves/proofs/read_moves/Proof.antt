@@ -1,16 +1,17 @@
 -- `moves::read_moves` meets its contract: each way out gives the answer of the first check that refuses. Assumes nothing.
 use borrow.Author.Needs.{needs}
 use mathlib.Core.Path.{_≡_, sym, _∙_}
-use mathlib.Core.Bool.{not}
+use mathlib.Core.Bool.{true, false, not}
 use mathlib.Core.List.{List}
 use Prim.Native.Nat.{ℕ, _+_, _-_, _*_, _≤_}
 use native.Mathlib.Nat.{mul-le-mul}
 use native.Mathlib.Omega.{arith}
 use lib.Dec.{ltb, eqb}
 use lib.ListN.{length}
-use borrow.Author.Tests.{lt-ltb, le-ltb, eq-eqb, ne-eqb}
+use borrow.Author.Tests.{lt-ltb, le-ltb, eq-eqb, ne-eqb, not-true, not-false}
 use denote.Ref.{now}
-use Rattle.limit.specs.Limit.{maxNodes}
+use Rattle.limit.specs.Limit.{maxNodes, oneTo}
+use Rattle.limit.proofs.Laws.{one-to-is}
 use Rattle.moves.specs.Moves.{refused, headAnswer, entriesAnswer, readMoves}
 use Rattle.moves.proofs.read_moves.Statement.{statement}
 use Rattle.words.specs.Checks.{refuseIf}
@@ -31,14 +32,17 @@ module _ (c : tie.After-word-number2) where
   unfolding readMoves
   head = simp (le-ltb (length s) 8 (omega arith), ← c .before .word-number .ensures, ← c .word-number2 .ensures)
 
--- past the tests of N
-ranges : (c : tie.Else3) →
+-- N is in its range
+nodes : (c : tie.Else2) → oneTo maxNodes (n (c .before .before)) ≡ true
+nodes c = sym (c .before .one-to .ensures) ∙ not-false _ (c .if2 .left)
+
+-- past the test of N
+ranges : (c : tie.Else2) →
     let w = c .before .before in
     readMoves (s w)
-    ≡ refuseIf (ltb (n w * (n w - 1)) (e w)) (refused 33) (refuseIf (not (eqb (length (s w)) (4 * (2 + 2 * e w)))) (refused 34) (entriesAnswer (s w) (n w) (e w)))
-ranges c =
-    let w = c .before .before in
-    head w ∙ simp (le-ltb (n w) 1 (omega arith), le-ltb maxNodes (n w) (omega arith))
+    ≡ refuseIf (ltb (n w * (n w - 1)) (e w)) (refused 33)
+    (refuseIf (not (eqb (length (s w)) (4 * (2 + 2 * e w)))) (refused 34) (entriesAnswer (s w) (n w) (e w)))
+ranges c = head (c .before .before) ∙ rw (nodes c)
 
 returns : tie.Need-returns
 unfolding readMoves
@@ -46,42 +50,45 @@ returns c = simp (lt-ltb (length (now (c .before .before .args .s))) 8 (omega ar
 
 returns-2 : tie.Need-returns-2
 returns-2 c =
-    let w = c .before in
-    sym (head w ∙ simp (lt-ltb (n w) 1 (omega arith)))
-
-returns-3 : tie.Need-returns-3
-returns-3 c =
     let w = c .before .before in
-    sym (head w ∙ simp (le-ltb (n w) 1 (omega arith), lt-ltb maxNodes (n w) (omega arith)))
+    let bad : oneTo maxNodes (n w) ≡ false = sym (c .before .one-to .ensures) ∙ not-true _ (c .if2 .taken) in
+    sym (head w ∙ rw bad)
+
+sub-if3 : tie.Need-sub-if3
+sub-if3 c = omega (arith, one-to-is maxNodes (n (c .before .before)) (nodes c) .0)
 
 -- of at most 64 nodes the product fits a word
-mul-if4 : tie.Need-mul-if4
-mul-if4 c =
+mul-if3 : tie.Need-mul-if3
+mul-if3 c =
     let w = c .before .before in
-    let high : n w ≤ maxNodes = omega arith in
+    let high : n w ≤ maxNodes = one-to-is maxNodes (n w) (nodes c) .1 in
     let less : n w - 1 ≤ maxNodes = omega arith in
     omega (arith, mul-le-mul high less)
 
-returns-4 : tie.Need-returns-4
-returns-4 c =
+returns-3 : tie.Need-returns-3
+returns-3 c =
     let w = c .before .before .before in
     sym (ranges (c .before) ∙ simp (lt-ltb (n w * (n w - 1)) (e w) (omega arith)))
 
+returns-4 : tie.Need-returns-4
+returns-4 c =
+    let two = c .before .before in
+    let w = two .before .before in
+    sym
+    (ranges two ∙ simp (le-ltb (n w * (n w - 1)) (e w) (omega arith), ne-eqb (length (s w)) (4 * (2 + 2 * e w)) (λ z. omega arith)))
+
+read-entries-requires : tie.Need-read-entries-requires
+read-entries-requires c κs =
+    let two = c .before .before in
+    omega (arith, one-to-is maxNodes (n (two .before .before)) (nodes two) .1)
+
 returns-5 : tie.Need-returns-5
 returns-5 c =
-    let w = c .before .before .before .before in
-    sym
-    (ranges (c .before .before)
-    ∙ simp (le-ltb (n w * (n w - 1)) (e w) (omega arith), ne-eqb (length (s w)) (4 * (2 + 2 * e w)) (λ z. omega arith)))
-
-returns-6 : tie.Need-returns-6
-returns-6 c =
-    let four = c .before .before in
-    let w = four .before .before .before in
+    let two = c .before .before .before in
+    let w = two .before .before in
     c .read-entries .ensures
     ∙ sym
-    (ranges (four .before)
-    ∙ simp (le-ltb (n w * (n w - 1)) (e w) (omega arith), eq-eqb (length (s w)) (4 * (2 + 2 * e w)) (omega arith)))
+    (ranges two ∙ simp (le-ltb (n w * (n w - 1)) (e w) (omega arith), eq-eqb (length (s w)) (4 * (2 + 2 * e w)) (omega arith)))
 
 pub read-moves-spec : {M : Type 1} → statement M
 read-moves-spec =
@@ -90,14 +97,15 @@ read-moves-spec =
     returns
     (λ c κs. search needs)  -- word-number-requires
     (λ c κs. search needs)  -- word-number-requires-2
+    (λ c κs. search needs)  -- one-to-requires
     returns-2
+    sub-if3
+    mul-if3
     returns-3
-    mul-if4
+    (λ c. search needs)  -- cast-if4
+    (λ c. search needs)  -- mul-if4
+    (λ c. search needs)  -- add-if4
+    (λ c. search needs)  -- mul-if4-2
     returns-4
-    (λ c. search needs)  -- cast-if5
-    (λ c. search needs)  -- mul-if5
-    (λ c. search needs)  -- add-if5
-    (λ c. search needs)  -- mul-if5-2
-    returns-5
-    (λ c κs. search needs)  -- read-entries-requires
-    returns-6)
+    read-entries-requires
+    returns-5)

@@ -6,7 +6,7 @@ use mathlib.Core.Bool.{true}
 use Prim.Native.Nat.{ℕ}
 use denote.Ref.{now}
 use Rattle.plan.specs.Tree.{helpandsBelow, shapeFine, sharesFine}
-use Rattle.plan.specs.Checks.{checkedOf}
+use Rattle.plan.specs.Inner.{checkedOf}
 use Rattle.plan.specs.Plan.{helpandsOf, sharesOf}
 use Rattle.plan.proofs.Checks.{checked-passed, checked-refused}
 use Rattle.plan.proofs.Reading.{arrays-helpand, arrays-shape, arrays-share, arrays-fine}

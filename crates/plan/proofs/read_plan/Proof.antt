@@ -3,9 +3,12 @@ use borrow.Author.Needs.{needs}
 use borrow.Author.Tests.{not-true, not-false}
 use mathlib.Core.Path.{_≡_, sym, _∙_}
 use mathlib.Core.Bool.{true}
+use native.Mathlib.Omega.{arith}
 use denote.Ref.{now}
+use Rattle.limit.specs.Limit.{maxNodes, oneTo}
+use Rattle.limit.proofs.Laws.{one-to-is}
 use Rattle.plan.specs.Plan.{kindFine, headAnswer, readPlan}
-use Rattle.plan.proofs.Reading.{read-short, read-head, head-low, head-high, head-kind, head-limit, head-length, head-fine}
+use Rattle.plan.proofs.Reading.{read-short, read-head, head-nodes, head-kind, head-limit, head-length, head-fine}
 use Rattle.plan.proofs.read_plan.Statement.{statement}
 use Rattle.plan.proofs.read_plan.Tie as tie
 
@@ -17,51 +20,49 @@ head c =
     let w = c .before .before in
     read-head _ (w .before .if1 .left) (w .word-number .ensures) (c .before .word-number2 .ensures) (c .word-number3 .ensures)
 
--- past the test of the kind
-kind : (c : tie.Else4) →
+-- past the tests of N and of the kind
+nodes : (c : tie.Else2) → oneTo maxNodes (c .before .before .before .before .word-number .result) ≡ true
+nodes c = sym (c .before .one-to .ensures) ∙ not-false _ (c .if2 .left)
+
+kind : (c : tie.Else3) →
     let w = c .before .before .before .before in
     kindFine (w .before .before .word-number .result) (w .before .word-number2 .result) ≡ true
-kind c = sym (c .before .kind-fine .ensures) ∙ not-false _ (c .if4 .left)
+kind c = sym (c .before .kind-fine .ensures) ∙ not-false _ (c .if3 .left)
 
 returns-2 : tie.Need-returns-2
-returns-2 c = sym (head (c .before) ∙ head-low _ _ _ _ (c .if2 .taken))
+returns-2 c = sym (head (c .before .before) ∙ head-nodes _ _ _ _ (sym (c .before .one-to .ensures) ∙ not-true _ (c .if2 .taken)))
 
 returns-3 : tie.Need-returns-3
 returns-3 c =
-    let c2 = c .before in
-    sym (head (c2 .before) ∙ head-high _ _ _ _ (c2 .if2 .left) (c .if3 .taken))
+    let c2 = c .before .before in
+    sym (head (c2 .before .before) ∙ head-kind _ _ _ _ (nodes c2) (sym (c .before .kind-fine .ensures) ∙ not-true _ (c .if3 .taken)))
 
 returns-4 : tie.Need-returns-4
 returns-4 c =
-    let k = c .before in
-    let c3 = k .before in
-    let c2 = c3 .before in
-    sym (head (c2 .before) ∙ head-kind _ _ _ _ (c2 .if2 .left) (c3 .if3 .left) (sym (k .kind-fine .ensures) ∙ not-true _ (c .if4 .taken)))
+    let c3 = c .before in
+    let c2 = c3 .before .before in
+    sym (head (c2 .before .before) ∙ head-limit _ _ _ _ (nodes c2) (kind c3) (c .if4 .taken))
 
 returns-5 : tie.Need-returns-5
 returns-5 c =
     let c4 = c .before in
-    let c3 = c4 .before .before in
-    let c2 = c3 .before in
-    sym (head (c2 .before) ∙ head-limit _ _ _ _ (c2 .if2 .left) (c3 .if3 .left) (kind c4) (c .if5 .taken))
+    let c3 = c4 .before in
+    let c2 = c3 .before .before in
+    sym (head (c2 .before .before) ∙ head-length _ _ _ _ (nodes c2) (kind c3) (c4 .if4 .left) (c .if5 .taken))
+
+read-arrays-requires : tie.Need-read-arrays-requires
+read-arrays-requires c κs =
+    let c2 = c .before .before .before .before in
+    omega (arith, one-to-is maxNodes (c2 .before .before .before .before .word-number .result) (nodes c2))
 
 returns-6 : tie.Need-returns-6
 returns-6 c =
     let c5 = c .before in
     let c4 = c5 .before in
-    let c3 = c4 .before .before in
-    let c2 = c3 .before in
-    sym (head (c2 .before) ∙ head-length _ _ _ _ (c2 .if2 .left) (c3 .if3 .left) (kind c4) (c5 .if5 .left) (c .if6 .taken))
-
-returns-7 : tie.Need-returns-7
-returns-7 c =
-    let c6 = c .before in
-    let c5 = c6 .before in
-    let c4 = c5 .before in
-    let c3 = c4 .before .before in
-    let c2 = c3 .before in
+    let c3 = c4 .before in
+    let c2 = c3 .before .before in
     c .read-arrays .ensures
-    ∙ sym (head (c2 .before) ∙ head-fine _ _ _ _ (c2 .if2 .left) (c3 .if3 .left) (kind c4) (c5 .if5 .left) (c6 .if6 .left))
+    ∙ sym (head (c2 .before .before) ∙ head-fine _ _ _ _ (nodes c2) (kind c3) (c4 .if4 .left) (c5 .if5 .left))
 
 pub read-plan-spec : {M : Type 1} → statement M
 read-plan-spec =
@@ -71,15 +72,15 @@ read-plan-spec =
     (λ c κs. search needs)  -- word-number-requires
     (λ c κs. search needs)  -- word-number-requires-2
     (λ c κs. search needs)  -- word-number-requires-3
+    (λ c κs. search needs)  -- one-to-requires
     returns-2
-    returns-3
     (λ c κs. search needs)  -- kind-fine-requires
+    returns-3
     returns-4
+    (λ c. search needs)  -- cast-if5
+    (λ c. search needs)  -- mul-if5
+    (λ c. search needs)  -- add-if5
+    (λ c. search needs)  -- mul-if5-2
     returns-5
-    (λ c. search needs)  -- cast-if6
-    (λ c. search needs)  -- mul-if6
-    (λ c. search needs)  -- add-if6
-    (λ c. search needs)  -- mul-if6-2
-    returns-6
-    (λ c κs. search needs)  -- read-arrays-requires
-    returns-7)
+    read-arrays-requires
+    returns-6)

@@ -16,7 +16,7 @@ use Rattle.arrays.specs.Arrays.{at}
 use Rattle.rebuild.specs.declared.Balance.{Balance}
 use Rattle.rebuild.specs.Target.{targetsOf}
 use Rattle.rebuild.specs.Rebuild.{is, startOf, runOf, finishOf, rebuiltOf, nextL, nextG}
-use Rattle.rebuild.proofs.Loops.{Reached, Served, unfinished, next-l, reached-end, reached-some, reached-served, reached-turn, reached-less, start-kept}
+use Rattle.rebuild.proofs.Loops.{Reached, Served, unfinished, next-l, reached-end, reached-some, reached-served, reached-turn, reached-less, start-sound}
 use Rattle.rebuild.proofs.rebuild.Statement.{statement}
 use Rattle.rebuild.proofs.rebuild.Tie as tie
 
@@ -46,7 +46,7 @@ loop-holds c =
     let e = begun (a .nodes) (a .p) (a .totals) (c .targets .result) (c .targets .ensures) in
     record {
       turns = 0;
-      kept = rw e (start-kept (a .nodes) (a .p) (a .totals) (c .before .pre .0) (c .before .pre .1) long (c .before .pre .3));
+      sound = rw e (start-sound (a .nodes) (a .p) (a .totals) (c .before .pre .0) (c .before .pre .1) long (c .before .pre .3));
       rest = rw (z, e);
     }
 

@@ -15,7 +15,7 @@ use Rattle.plan.specs.Plan.{readPlan, helpandsOf, sharesOf}
 use Rattle.plan.proofs.Accepted as plan
 use Rattle.moves.specs.Moves.{readMoves}
 use Rattle.moves.proofs.Accepted as moves
-use Rattle.transfer.specs.Due.{Allotted}
+use Rattle.transfer.specs.Inner.{Allotted}
 use Rattle.sheet.specs.Totals.{totalsIn}
 use Rattle.run.proofs.Lines.{moves-few, text-same}
 use Rattle.run.proofs.write_records.Statement.{statement}

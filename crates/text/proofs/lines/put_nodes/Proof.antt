@@ -7,7 +7,7 @@ use lib.ListN.{length}
 use denote.Ref.{now}
 use Rattle.fold.proofs.Lists.{collect-none, collect-more}
 use Rattle.text.specs.Text.{nodesText}
-use Rattle.text.specs.Put.{Put}
+use Rattle.text.specs.Inner.{Put}
 use Rattle.text.proofs.Lengths.{nodes-le}
 use Rattle.text.proofs.Writing.{put-none, put-then}
 use Rattle.text.proofs.lines.put_nodes.Statement.{statement}

@@ -11,7 +11,7 @@ use Rattle.arrays.specs.Arrays.{at}
 use Rattle.sheet.specs.Table.{held}
 use Rattle.tree.specs.Division.{ownOf}
 use Rattle.transfer.specs.Due.{dueWith, dueOf}
-use Rattle.transfer.specs.Matching.{movesOf, movesIn}
+use Rattle.transfer.specs.Matching.{movesBetween, subdomainMoves}
 use Rattle.transfer.proofs.Subdomains.{moves-eq, few-all, Written, written-none, routes-long, counts-long, written-more, written-all, all-routes-eq, all-counts-eq}
 use Rattle.transfer.proofs.matching.all_moves.Statement.{statement}
 use Rattle.arrays.proofs.Tabulate.{tabulate-at, tabulate-behind}
@@ -63,8 +63,8 @@ loop-again c =
     let d = dues (a .t3) (a .t4) (head .before .own-amounts .result) in
     let r = put .put-subdomain in
     let holding : ℕ → ℕ = λ k. held (now (a .table)) k (l .n) in
-    let moves = movesOf (a .nodes) (at (held-by .holdings .result)) (at (due .due-amounts .result)) in
-    let same : moves ≡ movesIn (a .nodes) (now (a .table)) d (l .n) =
+    let moves = movesBetween (a .nodes) (at (held-by .holdings .result)) (at (due .due-amounts .result)) in
+    let same : moves ≡ subdomainMoves (a .nodes) (now (a .table)) d (l .n) =
     moves-eq (a .nodes) (at (held-by .holdings .result)) (at (due .due-amounts .result)) holding (d (l .n))
     (λ k b. ap (λ (xs : List ℕ). at xs k) (held-by .holdings .ensures) ∙ tabulate-at (a .nodes) holding k b)
     (λ k b. ap (λ (xs : List ℕ). at xs k) (due .due-amounts .ensures) ∙ tabulate-at (a .nodes) (d (l .n)) k b) in (

@@ -10,7 +10,8 @@ use borrow.Author.Tests.{ltb-true, ltb-false}
 use lib.ListN.{length}
 use denote.Ref.{now}
 use Rattle.arrays.specs.Arrays.{at}
-use Rattle.transfer.specs.Matching.{Move, surplusOf, shortageOf, moveOf, NextFrom, movesOf}
+use Rattle.transfer.specs.Matching.{Move, surplusOf, shortageOf, moveOf, movesBetween}
+use Rattle.transfer.specs.Inner.{NextFrom}
 use Rattle.transfer.proofs.Entries.{Pending, begin, finish, room, sender-next, receiver-next}
 use Rattle.transfer.proofs.Next.{next-eq}
 use Rattle.transfer.proofs.Matched.{moves-few}
@@ -25,7 +26,7 @@ abbrev lacks : List ℕ → List ℕ → ℕ → ℕ
 lacks holding due k = shortageOf (at holding k) (at due k)
 
 abbrev whole : ℕ → List ℕ → List ℕ → List Move
-whole nodes holding due = movesOf nodes (at holding) (at due)
+whole nodes holding due = movesBetween nodes (at holding) (at due)
 
 -- both are what the one amount is above the other
 sender : {nodes : ℕ} (holding due : List ℕ) {from node count : ℕ} → NextFrom nodes (λ k. at holding k - at due k) from node count → NextFrom nodes (above holding due) from node count

@@ -1,0 +1,11 @@
+-- What the inner functions of this crate ask of each other. No promise to a caller rests on these definitions.
+use Prim.Native.Nat.{ℕ, _+_}
+use mathlib.Core.Path.{_≡_}
+use mathlib.Core.List.{List}
+use lib.ListN.{length}
+use lib.Seq.{sets}
+
+-- the buffer `before` with the text from index `at` on is `after`, and `next` is the index behind the text
+pub record Put (before : List ℕ) (at : ℕ) (text after : List ℕ) (next : ℕ) : Type 0 where
+  pub index : next ≡ at + length text
+  pub bytes : after ≡ sets before at text
