@@ -1,5 +1,7 @@
 // One family: the spaces of its members, what they keep, and the rest.
 use fold::numbers;
+use limit::TABLE_SIZE;
+use sheet::table;
 use tree::links;
 ghost use mathlib.Core.Path.{_≡_};
 ghost use Prim.Native.Nat.{_-_, _<_, min};
@@ -17,30 +19,30 @@ pub struct Member {
 }
 
 // The owner n itself, which has this share of its own helpand's subdomain.
-pub fn owner(table: &[u32; 4096], limit: u32, share: u32, n: usize) -> Member
+pub fn owner(table: &[u32; TABLE_SIZE], limit: u32, share: u32, n: usize) -> Member
     requires { ⌜ n < maxNodes ⌝ }
     ensures { λ m. ⌜ (m .space ≡ limit - share) × (m .keeps ≡ min (limit - share) (held (now (table .entry)) n n)) ⌝ }
 {
     let space = numbers::less(limit, share);
-    let keeps = numbers::smaller(space, table[64 * n + n]);
+    let keeps = numbers::smaller(space, table::held(table, n, n));
     Member { space, keeps }
 }
 
 // Helper k of n.
-pub fn helper(table: &[u32; 4096], leasts: &[u32; 64], limit: u32, n: usize, k: usize) -> Member
+pub fn helper(table: &[u32; TABLE_SIZE], leasts: &[u32; 64], limit: u32, n: usize, k: usize) -> Member
     requires { ⌜ (n < maxNodes) × (k < maxNodes) ⌝ }
     ensures { λ m. ⌜
         (m .space ≡ limit - at (now (leasts .entry)) k)
         × (m .keeps ≡ min (limit - at (now (leasts .entry)) k) (held (now (table .entry)) k n)) ⌝ }
 {
     let space = numbers::less(limit, leasts[k]);
-    let keeps = numbers::smaller(space, table[64 * k + n]);
+    let keeps = numbers::smaller(space, table::held(table, k, n));
     Member { space, keeps }
 }
 
 // "The rest": what the members of the family of n do not keep of subdomain n.
 pub fn rest(
-    table: &[u32; 4096],
+    table: &[u32; TABLE_SIZE],
     totals: &[u32; 64],
     leasts: &[u32; 64],
     helpands: &[u32; 64],

@@ -1,6 +1,7 @@
 // How the rest of a family is filled: "The rest goes to the owner, then to helpers by rising number, each up to its space."
-use super::family;
 use fold::numbers;
+use limit::TABLE_SIZE;
+use super::family;
 use tree::links;
 ghost use mathlib.Core.Path.{_≡_};
 ghost use Prim.Native.Nat.{_+_, _-_, _<_, min};
@@ -19,7 +20,7 @@ fn topped(keeps: u32, space: u32, left: u32) -> u32
 
 // Fills the rest of subdomain n into the spaces of the family of n, whose owner has this share, and notes what its helpers have.
 pub fn fill(
-    table: &[u32; 4096],
+    table: &[u32; TABLE_SIZE],
     leasts: &[u32; 64],
     helpands: &[u32; 64],
     links: &[usize; 128],

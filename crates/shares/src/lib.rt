@@ -3,6 +3,7 @@
 mod family;
 mod fill;
 
+use limit::TABLE_SIZE;
 use tree::links;
 ghost use mathlib.Core.Path.{_≡_};
 ghost use Prim.Native.Nat.{_≤_, _<_};
@@ -19,7 +20,7 @@ ghost use Rattle.sheet.specs.Totals.{totalsOf};
 
 // Divides the family of n, whose share stands already, and notes the shares of its helpers.
 fn divide_family(
-    table: &[u32; 4096],
+    table: &[u32; TABLE_SIZE],
     totals: &[u32; 64],
     leasts: &[u32; 64],
     helpands: &[u32; 64],
@@ -69,7 +70,7 @@ fn divide_family(
 fn divide_below(
     depth: usize,
     n: usize,
-    table: &[u32; 4096],
+    table: &[u32; TABLE_SIZE],
     totals: &[u32; 64],
     leasts: &[u32; 64],
     helpands: &[u32; 64],
@@ -125,7 +126,7 @@ fn divide_below(
 
 // The shares of all nodes in a tree that is kept, with these totals and leasts, whose helpers are linked.
 pub fn shares(
-    table: &[u32; 4096],
+    table: &[u32; TABLE_SIZE],
     totals: [u32; 64],
     leasts: [u32; 64],
     helpands: [u32; 64],
