@@ -29,7 +29,13 @@ pub fn owner(table: &[u32; TABLE_SIZE], limit: u32, share: u32, n: usize) -> Mem
 }
 
 // Helper k of n.
-pub fn helper(table: &[u32; TABLE_SIZE], leasts: &[u32; 64], limit: u32, n: usize, k: usize) -> Member
+pub fn helper(
+    table: &[u32; TABLE_SIZE],
+    leasts: &[u32; 64],
+    limit: u32,
+    n: usize,
+    k: usize,
+) -> Member
     requires { ⌜ (n < maxNodes) × (k < maxNodes) ⌝ }
     ensures { λ m. ⌜
         (m .space ≡ limit - at (now (leasts .entry)) k)

@@ -1,7 +1,7 @@
 // How the rest of a family is filled: "The rest goes to the owner, then to helpers by rising number, each up to its space."
+use super::family;
 use fold::numbers;
 use limit::TABLE_SIZE;
-use super::family;
 use tree::links;
 ghost use mathlib.Core.Path.{_≡_};
 ghost use Prim.Native.Nat.{_+_, _-_, _<_, min};
