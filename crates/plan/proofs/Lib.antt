@@ -11,3 +11,4 @@ pub mod AcceptedTree
 pub mod RoundTrip
 pub mod Vectors
 pub mod Longer
+pub mod Refusals
