@@ -1,3 +1,4 @@
 pub mod Carried
 pub mod ReadBack
+pub mod Sizes
 pub mod Answers

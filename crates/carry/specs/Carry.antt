@@ -3,17 +3,15 @@
 use mathlib.Core.Path.{_≡_}
 use Prim.Native.Nat.{ℕ}
 use mathlib.Core.List.{List}
-use mathlib.Core.Bool.{Bool, cond, not}
+use mathlib.Core.Bool.{Bool, not}
 use lib.Dec.{eqb, ltb}
 use lib.ListN.{length}
 use Rattle.words.specs.Checks.{refuseIf, refuseAs}
-use Rattle.words.specs.Buffer.{placed}
-use Rattle.sheet.specs.declared.Sheet.{Sheet}
+use Rattle.words.specs.Buffer.{afterCall}
 use Rattle.sheet.specs.Sheet.{readSheet, refusalNumber as sheetNumber, accepted as sheetAccepted}
 use Rattle.sheet.specs.Table.{tableIn}
-use Rattle.sheet.specs.Write.{sheetBytes}
-use Rattle.moves.specs.declared.Moves.{Moves}
-use Rattle.moves.specs.Moves.{readMoves, routesOf, countsOf, refusalNumber as movesNumber, accepted as movesAccepted}
+use Rattle.sheet.specs.Write.{filledCells, sheetBytes}
+use Rattle.moves.specs.Moves.{readMoves, routesOf, countsOf, refusalNumber as movesNumber}
 use Rattle.transfer.specs.Apply.{sendsWithin, carried}
 use Rattle.carry.specs.declared.CarryRefusal.{CarryRefusal}
 use Rattle.carry.specs.declared.CarryRefusal.the-variants.{Sheet as OfSheet, Moves as OfMoves, NodesDiffer, Sends, Buffer}
@@ -64,35 +62,25 @@ nextTable s m = carried (tableIn s) (routesIn m) (countsIn m)
 unfoldable pub nextSheet : List ℕ → List ℕ → List ℕ
 nextSheet s m = sheetBytes (readSheet s .n) (readSheet s .t) (nextTable s m)
 
--- ---- the checks, in the order written
-
--- 41, 42 and 43, with a buffer of so many bytes
-unfoldable pub pairAnswer : List ℕ → List ℕ → ℕ → CarryAnswer
-pairAnswer s m size =
-    refuseIf (not (eqb (readSheet s .n) (readMoves m .n))) (refused 41)
-    (refuseIf (not (withinIn s m)) (refused 42)
-    (refuseIf (ltb size (length (nextSheet s m))) (refused 43)
-    (accepted (length (nextSheet s m)))))
+-- ---- the checks, in the order written, with a buffer of so many bytes
 
 unfoldable pub carryAnswer : List ℕ → List ℕ → ℕ → CarryAnswer
 carryAnswer s m size =
     refuseAs refused (readSheet s .refusal)
     (refuseAs refused (readMoves m .refusal)
-    (pairAnswer s m size))
+    (refuseIf (not (eqb (readSheet s .n) (readMoves m .n))) (refused 41)
+    (refuseIf (not (withinIn s m)) (refused 42)
+    (refuseIf (ltb size (length (nextSheet s m))) (refused 43)
+    (accepted (length (nextSheet s m)))))))
 
--- the buffer afterwards: it begins with the sheet that follows, or is as it was
-abbrev pub bytesAfter : List ℕ → CarryAnswer → List ℕ → List ℕ
-bytesAfter next a out = cond (eqb (a .refusal) 0) (placed next out) out
-
-abbrev pub pairNext : List ℕ → List ℕ → List ℕ → List ℕ
-pairNext s m out = bytesAfter (nextSheet s m) (pairAnswer s m (length out)) out
-
+-- the buffer afterwards
 abbrev pub nextAfter : List ℕ → List ℕ → List ℕ → List ℕ
-nextAfter s m out = bytesAfter (nextSheet s m) (carryAnswer s m (length out)) out
+nextAfter s m out = afterCall (carryAnswer s m (length out) .refusal) (nextSheet s m) out
 
--- ---- what the inner functions ask
+-- ---- demand 2, of an accepted call: what is written is read back as what was decided
 
--- the sheet and the moves were read as these
-pub record Read (s m : List ℕ) (h : Sheet) (q : Moves) : Type 0 where
-  pub sheet : sheetAccepted (h .n) (h .t) (h .e) (h .p) (h .limit) ≡ readSheet s
-  pub moves : movesAccepted (q .n) (q .e) ≡ readMoves m
+-- it is accepted, with the N, t, P and limit of s and as many entries as the table that follows has counts, and with this table
+pub record SheetReadBack (s m next : List ℕ) : Type 0 where
+  pub read : readSheet next
+      ≡ sheetAccepted (readSheet s .n) (readSheet s .t) (length (filledCells (readSheet s .n) (nextTable s m))) (readSheet s .p) (readSheet s .limit)
+  pub table : tableIn next ≡ nextTable s m

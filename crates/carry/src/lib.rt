@@ -8,7 +8,8 @@ use sheet::SheetRefusal;
 use words::Written;
 ghost use mathlib.Core.Path.{_≡_};
 ghost use lib.ListN.{length};
-ghost use Rattle.carry.specs.Carry.{Read, pairAnswer, pairNext, carryAnswer, nextAfter, numberOf, answerOf};
+ghost use Rattle.carry.specs.Carry.{carryAnswer, nextAfter, numberOf, answerOf};
+ghost use Rattle.carry.specs.Inner.{CarryRead};
 
 // Why carrying out is refused, in the order of the checks.
 pub enum CarryRefusal {
@@ -34,9 +35,9 @@ pub struct CarryAnswer {
 
 // Carries out moves on a sheet, both read.
 fn carry_read(sheet: &[u8], moves: &[u8], s: Sheet, m: Moves, next: &mut [u8]) -> Carrying
-    requires { ⌜ Read (now sheet) (now moves) s m ⌝ }
-    ensures answer { λ r. ⌜ answerOf r ≡ pairAnswer (now (sheet .entry)) (now (moves .entry)) (length (now (next .entry))) ⌝ }
-    ensures bytes { λ _. ⌜ now (next .exit) ≡ pairNext (now (sheet .entry)) (now (moves .entry)) (now (next .entry)) ⌝ }
+    requires { ⌜ CarryRead (now sheet) (now moves) s m ⌝ }
+    ensures answer { λ r. ⌜ answerOf r ≡ carryAnswer (now (sheet .entry)) (now (moves .entry)) (length (now (next .entry))) ⌝ }
+    ensures bytes { λ _. ⌜ now (next .exit) ≡ nextAfter (now (sheet .entry)) (now (moves .entry)) (now (next .entry)) ⌝ }
 {
     if s.n != m.n {
         return Carrying::Refused(CarryRefusal::NodesDiffer);

@@ -10,7 +10,8 @@ use Rattle.fold.proofs.Sums.{sum-eq}
 use Rattle.plan.specs.Tree.{walk, Tree}
 use Rattle.tree.specs.Family.{helps, overHelpers}
 use Rattle.tree.specs.Division.{Division, WithinLimit, OnTarget, load, ownOf}
-use Rattle.transfer.specs.Due.{dueWith, dueOf}
+use Rattle.transfer.specs.Due.{dueOf}
+use Rattle.transfer.proofs.Dues.{due-parts}
 
 module _ (nodes : ℕ) (h h′ : ℕ → ℕ) (same : (k : ℕ) → k < nodes → h k ≡ h′ k) where
   -- ---- trees
@@ -58,5 +59,6 @@ module _ (nodes : ℕ) (h h′ : ℕ → ℕ) (same : (k : ℕ) → k < nodes �
     -- ---- due amounts
 
     pub due-agree : (n k : ℕ) → k < nodes → dueOf nodes h total share n k ≡ dueOf nodes h′ total share′ n k
-    unfolding dueWith
-    due-agree n k l = rw (same k l, shares k l, own-agree n)
+    due-agree n k l =
+        due-parts h share (ownOf nodes h total share n) n k
+        ∙ rw (same k l, shares k l, own-agree n) (sym (due-parts h′ share′ (ownOf nodes h′ total share′ n) n k))

@@ -1,3 +1,5 @@
 pub mod Agree
+pub mod Exact
 pub mod Demand
-pub mod Outcomes
+pub mod Premises
+pub mod WrongPlanners

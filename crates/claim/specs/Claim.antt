@@ -1,29 +1,25 @@
 -- Demand 3, as document 01 says it in 'Divisions and the rival', about bytes: a sheet, an old plan, and what *plan a step* and then
--- *carry out* leave in three lent buffers. Nothing here speaks of how a tree is weighed or a division found.
+-- *carry out* leave in three lent buffers. Nothing here speaks of how a tree is weighed or a division found, nor of how a plan, moves or
+-- a sheet is written.
 use mathlib.Core.Path.{_≡_}
 use mathlib.Core.Logic.{_≢_, _⊎_, _↔_}
-use mathlib.Core.Bool.{cond}
 use mathlib.Core.List.{List}
 use Prim.Native.Nat.{ℕ, _≤_, _<_}
-use lib.Dec.{eqb}
 use lib.ListN.{length, take}
+use Rattle.arrays.specs.Arrays.{at}
 use Rattle.sheet.specs.Sheet.{readSheet}
 use Rattle.sheet.specs.Table.{tableIn, held}
+use Rattle.sheet.specs.Totals.{totalsIn}
+use Rattle.sheet.specs.Write.{longestSheet}
 use Rattle.plan.specs.Tree.{Tree}
 use Rattle.plan.specs.Plan.{readPlan, helpandsOf, sharesOf, accepted as planAccepted}
-use Rattle.sheet.specs.Totals.{totalsIn}
+use Rattle.plan.specs.Write.{planLength}
+use Rattle.moves.specs.Write.{longestMoves}
 use Rattle.tree.specs.Division.{WithinLimit, OnTarget, ownOf}
 use Rattle.rebuild.specs.Target.{targetOf}
 use Rattle.transfer.specs.Due.{dueOf}
 use Rattle.planner.specs.declared.StepAnswer.{StepAnswer}
-use Rattle.planner.specs.Step.{planIn, movesIn, planned, numberOf}
-use Rattle.planner.specs.Step as step
 use Rattle.carry.specs.declared.CarryAnswer.{CarryAnswer}
-use Rattle.carry.specs.Carry.{nextSheet, carryAnswer, nextAfter}
-use Rattle.carry.specs.Carry as carry
-use Rattle.claim.specs.declared.Outcome.{Outcome}
-use Rattle.claim.specs.declared.Outcome.the-variants.{Planned, Refused}
-use Rattle.arrays.specs.Arrays.{at}
 
 -- ---- what the demand is about
 
@@ -48,9 +44,12 @@ pub record PrimaryPlan (s o : List ℕ) : Type 0 where
 abbrev pub NoTree : List ℕ → List ℕ → Type 0
 NoTree s o = (length o ≡ 0) ⊎ PrimaryPlan s o
 
--- a buffer long enough for a record
-abbrev pub Fits : List ℕ → List ℕ → Type 0
-Fits rec out = length rec ≤ length out
+-- "a buffer long enough": for the plan of N nodes 4 × (3+2N) bytes, for the most moves 4 × (2+2N(N−1)), and for the longest sheet
+-- 4 × (3+2N²)
+pub record LongEnough (s p m x : List ℕ) : Type 0 where
+  pub plan : planLength (readSheet s .n) ≤ length p
+  pub moves : longestMoves (readSheet s .n) ≤ length m
+  pub next : longestSheet (readSheet s .n) ≤ length x
 
 -- ---- divisions
 
@@ -96,38 +95,13 @@ pub record Balanced (s o plan next : List ℕ) (kind : ℕ) : Type 0 where
   pub next-read : (readSheet next .refusal ≡ 0) × (readSheet next .n ≡ readSheet s .n)
   pub amounts : (k n : ℕ) → k < readSheet s .n → n < readSheet s .n → held (tableIn next) k n ≡ due s plan n k
 
--- the answers a and c of the two operations, with the three buffers as they are then; `size` is the length of the third
-pub record Claim (s o : List ℕ) (a : StepAnswer) (c : CarryAnswer) (plan moves next : List ℕ) (size : ℕ) : Type 0 where
+-- the answers a and c of the two operations, with the buffers of the plan and of the sheet that follows as they are then
+pub record Claim (s o : List ℕ) (a : StepAnswer) (c : CarryAnswer) (plan next : List ℕ) : Type 0 where
   pub planned : a .refusal ≡ 0
-  -- "*Carry out* is handed the same sheet, the moves just written and a buffer long enough", and is accepted
-  pub handed : c ≡ carryAnswer s (take (a .moves) moves) size
   pub carried : c .refusal ≡ 0
   pub balanced : Balanced s o (take (a .plan) plan) (take (c .bytes) next) (a .kind)
 
 -- DEMAND 3. For every accepted sheet with a subdomain above the limit and every accepted tree of as many nodes, or none, and buffers
 -- p, m and x long enough
-abbrev pub Demand3 : List ℕ → List ℕ → List ℕ → List ℕ → List ℕ → StepAnswer → CarryAnswer → List ℕ → List ℕ → List ℕ → Type 0
-Demand3 s o p m x a c plan moves next =
-    Overloaded s → AcceptedTree s o ⊎ NoTree s o
-    → Fits (planIn s o) p → Fits (movesIn s o) m → Fits (nextSheet s (movesIn s o)) x
-    → Claim s o a c plan moves next (length x)
-
--- ---- planning a step and then carrying it out, for any inputs
-
--- the answer of *plan a step*
-abbrev pub stepOf : Outcome → StepAnswer
-stepOf (Planned p c) = planned (p .kind) (p .limit) (p .plan) (p .moves)
-stepOf (Refused r) = step.refused (numberOf r)
-
--- the answer of *carry out*; a step that is refused is refused here with the same number
-abbrev pub carryOf : Outcome → CarryAnswer
-carryOf (Planned p c) = carry.answerOf c
-carryOf (Refused r) = carry.refused (numberOf r)
-
--- what *carry out* answers after a step with answer a
-abbrev pub carriedAnswer : List ℕ → List ℕ → StepAnswer → ℕ → CarryAnswer
-carriedAnswer s o a size = cond (eqb (a .refusal) 0) (carryAnswer s (movesIn s o) size) (carry.refused (a .refusal))
-
--- and leaves in its buffer
-abbrev pub carriedNext : List ℕ → List ℕ → StepAnswer → List ℕ → List ℕ
-carriedNext s o a x = cond (eqb (a .refusal) 0) (nextAfter s (movesIn s o) x) x
+abbrev pub Demand3 : List ℕ → List ℕ → List ℕ → List ℕ → List ℕ → StepAnswer → CarryAnswer → List ℕ → List ℕ → Type 0
+Demand3 s o p m x a c plan next = Overloaded s → AcceptedTree s o ⊎ NoTree s o → LongEnough s p m x → Claim s o a c plan next

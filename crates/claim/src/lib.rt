@@ -1,44 +1,45 @@
-// A step planned and carried out, by the two operations one after the other. Its contract is demand 3: nothing stands between what is
-// claimed and what the functions do.
-use carry::Carrying;
-use planner::PlannedStep;
-use planner::Step;
-use planner::StepRefusal;
+// A step planned and carried out, by the two exported functions one after the other. Its contract is demand 3: nothing stands between
+// what is claimed and what the functions of the archive do.
+use carry::CarryAnswer;
+use planner::StepAnswer;
 ghost use mathlib.Core.Path.{_≡_};
-ghost use lib.ListN.{length};
-ghost use Rattle.planner.specs.Step.{planIn, movesIn, stepAnswer, after};
-ghost use Rattle.claim.specs.Claim.{Demand3, stepOf, carryOf, carriedAnswer, carriedNext};
+ghost use lib.ListN.{length, take};
+ghost use Rattle.planner.specs.Step.{stepAnswer, planAfter, movesAfter};
+ghost use Rattle.carry.specs.Carry.{carryAnswer, nextAfter};
+ghost use Rattle.claim.specs.Claim.{Demand3};
 
-// The step that was planned and what carrying it out answered, or why it was not planned.
-pub enum Outcome {
-    Planned(PlannedStep, Carrying),
-    Refused(StepRefusal),
+// What the two operations answered.
+pub struct Answers {
+    pub step: StepAnswer,
+    pub carry: CarryAnswer,
 }
 
-// Plans a step, and carries out the moves just written on the same sheet.
+// Plans a step, and carries out the moves just written on the same sheet. A refused step hands on no moves, which are refused too.
 pub fn plan_and_carry_out(
     sheet: &[u8],
     old: &[u8],
     plan: &mut [u8],
     moves: &mut [u8],
     next: &mut [u8],
-) -> Outcome
+) -> Answers
     ensures step { λ r. ⌜
-        stepOf r ≡ stepAnswer (now (sheet .entry)) (now (old .entry)) (length (now (plan .entry))) (length (now (moves .entry))) ⌝ }
-    ensures carry { λ r. ⌜ carryOf r ≡ carriedAnswer (now (sheet .entry)) (now (old .entry)) (stepOf r) (length (now (next .entry))) ⌝ }
-    ensures plan { λ r. ⌜ now (plan .exit) ≡ after (stepOf r) (planIn (now (sheet .entry)) (now (old .entry))) (now (plan .entry)) ⌝ }
-    ensures moves { λ r. ⌜ now (moves .exit) ≡ after (stepOf r) (movesIn (now (sheet .entry)) (now (old .entry))) (now (moves .entry)) ⌝ }
-    ensures next { λ r. ⌜ now (next .exit) ≡ carriedNext (now (sheet .entry)) (now (old .entry)) (stepOf r) (now (next .entry)) ⌝ }
+        r .step ≡ stepAnswer (now (sheet .entry)) (now (old .entry)) (length (now (plan .entry))) (length (now (moves .entry))) ⌝ }
+    ensures plan { λ _. ⌜
+        now (plan .exit) ≡ planAfter (now (sheet .entry)) (now (old .entry)) (now (plan .entry)) (length (now (moves .entry))) ⌝ }
+    ensures moves { λ _. ⌜
+        now (moves .exit) ≡ movesAfter (now (sheet .entry)) (now (old .entry)) (now (moves .entry)) (length (now (plan .entry))) ⌝ }
+    ensures carry { λ r. ⌜
+        r .carry ≡ carryAnswer (now (sheet .entry)) (take (r .step .moves) (now (moves .exit))) (length (now (next .entry))) ⌝ }
+    ensures next { λ r. ⌜ now (next .exit) ≡ nextAfter (now (sheet .entry)) (take (r .step .moves) (now (moves .exit))) (now (next .entry)) ⌝ }
     ensures demand { λ r. ⌜
-        Demand3 (now (sheet .entry)) (now (old .entry)) (now (plan .entry)) (now (moves .entry)) (now (next .entry)) (stepOf r) (carryOf r)
-        (now (plan .exit)) (now (moves .exit)) (now (next .exit)) ⌝ }
+        Demand3 (now (sheet .entry)) (now (old .entry)) (now (plan .entry)) (now (moves .entry)) (now (next .entry)) (r .step) (r .carry)
+        (now (plan .exit)) (now (next .exit)) ⌝ }
 {
-    match planner::plan_step(sheet, old, plan, moves) {
-        Step::Refused(r) => Outcome::Refused(r),
-        Step::Planned(p) => {
-            let size = p.moves as usize;
-            let carrying = carry::carry_out(sheet, &moves[0..size], next);
-            Outcome::Planned(p, carrying)
-        }
+    let step = firrozka::firrozka_plan_step(sheet, old, plan, moves);
+    let size = step.moves as usize;
+    let carry = firrozka::firrozka_carry_out(sheet, &moves[..size], next);
+    Answers {
+        step: step,
+        carry: carry,
     }
 }

@@ -10,3 +10,4 @@ pub mod Agree
 pub mod AcceptedTree
 pub mod RoundTrip
 pub mod Longer
+pub mod Refusals

@@ -27,7 +27,8 @@ use Rattle.plan.proofs.Trees.{tree-below}
 use Rattle.sheet.specs.Totals.{totalOf, totalsOf}
 use Rattle.decide.specs.Decide.{ownNumbers, decided}
 use Rattle.decide.proofs.Decided.{Given, Fine, decided-fine}
-use Rattle.planner.specs.Step.{OldAnswer, oldRefused, oldRead, readOld, oldHelpands, decisionIn, Read}
+use Rattle.planner.specs.Step.{OldAnswer, oldRefused, oldRead, readOld, oldHelpands, decisionIn}
+use Rattle.planner.specs.Inner.{StepRead}
 use Rattle.arrays.proofs.Padded.{padded-same}
 use Rattle.arrays.proofs.Tabulate.{tabulate-at, length-tabulate}
 use Rattle.sheet.proofs.Totalled.{totals-sum}
@@ -35,14 +36,14 @@ use Rattle.sheet.proofs.Totalled.{totals-sum}
 -- ---- an old plan with a tree
 
 -- which checks were passed
-pub record Passed (o : List ℕ) (n : ℕ) : Type 0 where
+pub record OldTree (o : List ℕ) (n : ℕ) : Type 0 where
   pub accepted : readPlan o .refusal ≡ 0
   pub nodes : readPlan o .n ≡ n
   pub kind : readPlan o .kind ≢ 0
 
-pub old-passed : (o : List ℕ) (n : ℕ) → readOld o n ≡ oldRead true → Passed o n
+pub old-tree-read : (o : List ℕ) (n : ℕ) → readOld o n ≡ oldRead true → OldTree o n
 unfolding readOld
-old-passed o n e =
+old-tree-read o n e =
     let b = checks (eqb (length o) 0) (eqb (readPlan o .refusal) 0) (eqb (readPlan o .n) n) (eqb (readPlan o .kind) 0) (readPlan o .refusal) (ap (λ (a : OldAnswer). a .tree) e) in
     record { accepted = eqb-true (readPlan o .refusal) 0 (b .0); nodes = eqb-true (readPlan o .n) n (b .1); kind = eqb-false (readPlan o .kind) 0 (b .2) }
   where
@@ -57,7 +58,7 @@ old-passed o n e =
 
 -- ---- the sheet and the old plan together
 
-module _ (s o : List ℕ) (h : Sheet) (tree : Bool) (r : Read s o h tree) where
+module _ (s o : List ℕ) (h : Sheet) (tree : Bool) (r : StepRead s o h tree) where
   abbrev pub table : List ℕ
   table = tableOf s (h .e)
 
@@ -95,12 +96,12 @@ module _ (s o : List ℕ) (h : Sheet) (tree : Bool) (r : Read s o h tree) where
 
   pub old-size : tree ≡ true → 4 * (3 + h .n) ≤ length o
   old-size e =
-      let p = old-passed o (h .n) (r .old ∙ ap oldRead e) in
+      let p = old-tree-read o (h .n) (r .old ∙ ap oldRead e) in
       omega (arith, plan-accepted o (p .accepted) .size, p .nodes)
 
   rooted : tree ≡ true → (root : ℕ) × Tree (h .n) (at old) root
   rooted e =
-      let p = old-passed o (h .n) (r .old ∙ ap oldRead e) in
+      let p = old-tree-read o (h .n) (r .old ∙ ap oldRead e) in
       rw (e, padded-same (helpandsOf o (h .n))) (rw (p .nodes) at (accepted-tree o (p .accepted) (p .kind)))
 
   old-below : helpandsBelow (h .n) (at old) ≡ true
@@ -118,7 +119,7 @@ module _ (s o : List ℕ) (h : Sheet) (tree : Bool) (r : Read s o h tree) where
     where
       split : (tree ≡ true) ⊎ (tree ≡ false) → length old ≡ 64
       split (inl e) =
-          let p = old-passed o (h .n) (r .old ∙ ap oldRead e) in
+          let p = old-tree-read o (h .n) (r .old ∙ ap oldRead e) in
           let k = plan-accepted o (p .accepted) in
           let l : length (helpandsOf o (h .n)) ≡ h .n = ap (λ (m : ℕ). length (helpandsOf o m)) (sym (p .nodes)) ∙ helpands-are o (readPlan o) k ∙ p .nodes in
           rw e

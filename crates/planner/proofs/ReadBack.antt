@@ -7,91 +7,82 @@ use Prim.Native.Nat.{ℕ, _≤_}
 use native.Mathlib.Omega.{arith}
 use borrow.Author.Tests.{ltb-false, le-ltb, eq-eqb}
 use lib.Dec.{eqb, ltb}
-use lib.ListN.{length, take, drop}
-use lib.Seq.{take-at, take-all, take-length}
+use lib.ListN.{length, take}
+use lib.Seq.{take-all, take-length}
 use Rattle.fold.proofs.Tests.{passed, handed}
+use Rattle.words.proofs.Buffer.{after-front}
 use Rattle.sheet.specs.declared.Sheet.{Sheet}
 use Rattle.sheet.specs.Sheet.{readSheet}
 use Rattle.sheet.specs.Table.{tableIn}
-use Rattle.sheet.proofs.Accepted.{sheet-accepted}
-use Rattle.plan.specs.Plan.{readPlan, helpandsOf, sharesOf, accepted as planAccepted}
-use Rattle.moves.specs.Moves.{readMoves, routesOf, countsOf, accepted as movesAccepted}
-use Rattle.moves.proofs.RoundTrip.{Writable, read-written, routes-written, counts-written}
-use Rattle.transfer.specs.Matching.{allRoutes, allCounts}
-use Rattle.transfer.proofs.Carrying.{Carries}
 use Rattle.sheet.specs.Totals.{totalsIn}
-use Rattle.decide.proofs.Decided.{Fine}
+use Rattle.sheet.proofs.Accepted.{sheet-accepted}
+use Rattle.moves.proofs.RoundTrip.{Writable, read-written, routes-written, counts-written}
+use Rattle.transfer.proofs.Carrying.{Carries}
 use Rattle.planner.specs.declared.StepAnswer.{StepAnswer}
-use Rattle.planner.specs.Step.{refused, planned, readOld, decisionIn, planIn, dueIn, movesOf, movesIn, writtenAnswer, stepAnswer, after, Read}
+use Rattle.planner.specs.Step.{refused, planned, readOld, decisionIn, planIn, dueIn, decidedRoutes, decidedCounts, movesIn, writtenAnswer, stepAnswer, planAfter, movesAfter, StepReadBack}
+use Rattle.planner.specs.Inner.{StepRead}
 use Rattle.planner.proofs.Facts.{decision-fine}
 use Rattle.planner.proofs.Records.{carries-due}
 
 -- ---- accepted: every check passed, so each says its part
 
-pub record Done (s o : List ℕ) (planSize movesSize : ℕ) : Type 0 where
+-- the checks before 22 and 23
+pub record Plannable (s o : List ℕ) : Type 0 where
   pub sheet : readSheet s .refusal ≡ 0
   pub old : readOld o (readSheet s .n) .refusal ≡ 0
-  pub plan-fits : length (planIn s o) ≤ planSize
-  pub moves-fits : length (movesIn s o) ≤ movesSize
 
 module _ (s o : List ℕ) (planSize movesSize : ℕ) where
-  pub step-done : stepAnswer s o planSize movesSize .refusal ≡ 0 → Done s o planSize movesSize
+  pub step-done : stepAnswer s o planSize movesSize .refusal ≡ 0
+      → Plannable s o × (length (planIn s o) ≤ planSize) × (length (movesIn s o) ≤ movesSize)
   unfolding stepAnswer writtenAnswer
   step-done q =
       let f : StepAnswer → ℕ = λ a. a .refusal in
       let a₁ = handed f refused (λ k. refl) (readSheet s .refusal) _ q in
       let a₂ = handed f refused (λ k. refl) (readOld o (readSheet s .n) .refusal) _ (a₁ .1) in
       let a₃ = passed f (ltb planSize (length (planIn s o))) (refused 22) _ (λ z. omega arith) (a₂ .1) in
-      let a₄ = passed f (ltb movesSize (length (movesIn s o))) (refused 23) _ (λ z. omega arith) (a₃ .1) in
-      record {
-        sheet = a₁ .0;
-        old = a₂ .0;
-        plan-fits = ltb-false planSize (length (planIn s o)) (a₃ .0);
-        moves-fits = ltb-false movesSize (length (movesIn s o)) (a₄ .0);
-      }
+      let a₄ = passed f (ltb movesSize (length (movesIn s o))) (refused 23) _ (λ z. omega arith) (a₃ .1) in (
+        record { sheet = a₁ .0; old = a₂ .0 },
+        ltb-false planSize (length (planIn s o)) (a₃ .0),
+        ltb-false movesSize (length (movesIn s o)) (a₄ .0),
+      )
 
   -- and conversely
-  pub done-step : Done s o planSize movesSize
+  pub done-step : Plannable s o → length (planIn s o) ≤ planSize → length (movesIn s o) ≤ movesSize
       → stepAnswer s o planSize movesSize ≡ planned (decisionIn s o .kind) (readSheet s .limit) (length (planIn s o)) (length (movesIn s o))
   unfolding stepAnswer writtenAnswer
-  done-step d =
+  done-step d f g =
       let a : eqb (readSheet s .refusal) 0 ≡ true = eq-eqb (readSheet s .refusal) 0 (d .sheet) in
       let b : eqb (readOld o (readSheet s .n) .refusal) 0 ≡ true = eq-eqb (readOld o (readSheet s .n) .refusal) 0 (d .old) in
-      rw (a, b, le-ltb planSize (length (planIn s o)) (d .plan-fits), le-ltb movesSize (length (movesIn s o)) (d .moves-fits))
+      rw (a, b, le-ltb planSize (length (planIn s o)) f, le-ltb movesSize (length (movesIn s o)) g)
 
 -- ---- a sheet and an old plan that are accepted were read as something
 
-abbrev pub headOf : List ℕ → Sheet
-headOf s = let a = readSheet s in record { n = a .n; t = a .t; e = a .e; p = a .p; limit = a .limit }
+module _ (s o : List ℕ) (d : Plannable s o) where
+  abbrev pub head : Sheet
+  head = let a = readSheet s in record { n = a .n; t = a .t; e = a .e; p = a .p; limit = a .limit }
 
-module _ (s o : List ℕ) (z : readSheet s .refusal ≡ 0) (y : readOld o (readSheet s .n) .refusal ≡ 0) where
   abbrev pub tree : Bool
   tree = readOld o (readSheet s .n) .tree
 
-  pub was-read : Read s o (headOf s) tree
-  was-read =
-      record {
-        sheet = sym (sheet-accepted s z .answer);
-        old = ap (λ (k : ℕ). record { refusal = k; tree = tree }) y;
-      }
+  pub was-read : StepRead s o head tree
+  was-read = record { sheet = sym (sheet-accepted s (d .sheet) .answer); old = ap (λ (k : ℕ). record { refusal = k; tree = tree }) (d .old) }
 
-  pub fine : Fine (readSheet s .n) (readSheet s .limit) (totalsIn s) (decisionIn s o)
-  fine = decision-fine s o (headOf s) tree was-read
-
-  -- ---- the moves that are decided
-
-  abbrev pub routesIn : List ℕ
-  routesIn = allRoutes (readSheet s .n) (tableIn s) (dueIn (readSheet s .n) (totalsIn s) (decisionIn s o))
-
-  abbrev pub countsIn : List ℕ
-  countsIn = allCounts (readSheet s .n) (tableIn s) (dueIn (readSheet s .n) (totalsIn s) (decisionIn s o))
-
+  -- the moves that are decided carry out what is due
   pub carries : Carries (readSheet s .n) (tableIn s) (dueIn (readSheet s .n) (totalsIn s) (decisionIn s o))
-  carries = carries-due s o (headOf s) tree was-read
+  carries = carries-due s o head tree was-read
 
-  writable : Writable (readSheet s .n) (length routesIn) routesIn countsIn
+  abbrev routes : List ℕ
+  routes = decidedRoutes s o
+
+  abbrev counts : List ℕ
+  counts = decidedCounts s o
+
+  all-counts : take (length routes) counts ≡ counts
+  all-counts = take-all (length routes) counts (omega (arith, carries .accepted .same))
+
+  writable : Writable (readSheet s .n) (length routes) routes counts
   writable =
-      let k = sheet-accepted s z in
+      let k = sheet-accepted s (d .sheet) in
       let a = carries .accepted in
       record {
         n-low = k .n-low;
@@ -99,47 +90,39 @@ module _ (s o : List ℕ) (z : readSheet s .refusal ≡ 0) (y : readOld o (readS
         e-high = a .few;
         routes-long = omega arith;
         counts-long = omega (arith, a .same);
-        routes-fine = rw (take-length routesIn) (a .routes-fine);
-        counts-fine = rw (take-all (length routesIn) countsIn (omega (arith, a .same))) (a .counts-fine);
+        routes-fine = rw (take-length routes) (a .routes-fine);
+        counts-fine = rw all-counts (a .counts-fine);
       }
 
-  -- THEOREM. The plan is read back with the kind and the limit that were decided, and with the helpands and shares.
-  pub plan-read : readPlan (planIn s o) ≡ planAccepted (readSheet s .n) (decisionIn s o .kind) (readSheet s .limit)
-  unfolding planIn
-  plan-read = fine .read-back .answer
+  pub records-back : StepReadBack s o (planIn s o) (movesIn s o)
+  unfolding planIn movesIn
+  records-back =
+      let n = readSheet s .n in
+      let plan = decision-fine s o head tree was-read .read-back in
+      record {
+        plan-read = plan .answer;
+        helpands = plan .helpands-back;
+        shares = plan .shares-back;
+        moves-read = read-written n (length routes) routes counts writable;
+        routes = routes-written n (length routes) routes counts writable ∙ take-length routes;
+        counts = counts-written n (length routes) routes counts writable ∙ all-counts;
+      }
 
-  pub helpands-read : helpandsOf (planIn s o) (readSheet s .n) ≡ take (readSheet s .n) (decisionIn s o .helpands)
-  unfolding planIn
-  helpands-read = fine .read-back .helpands-back
+-- ---- the buffers' fronts are the two records
 
-  pub shares-read : sharesOf (planIn s o) (readSheet s .n) ≡ take (readSheet s .n) (decisionIn s o .shares)
-  unfolding planIn
-  shares-read = fine .read-back .shares-back
+module _ (s o p m : List ℕ) (q : stepAnswer s o (length p) (length m) .refusal ≡ 0) where
+  abbrev a : StepAnswer
+  a = stepAnswer s o (length p) (length m)
 
-  -- THEOREM. The moves are read back with the routes and counts that were decided.
-  pub moves-read : readMoves (movesIn s o) ≡ movesAccepted (readSheet s .n) (length routesIn)
-  unfolding movesIn movesOf
-  moves-read = read-written (readSheet s .n) (length routesIn) routesIn countsIn writable
+  answer-is : a ≡ planned (decisionIn s o .kind) (readSheet s .limit) (length (planIn s o)) (length (movesIn s o))
+  answer-is = let d = step-done s o (length p) (length m) q in done-step s o (length p) (length m) (d .0) (d .1) (d .2)
 
-  pub routes-read : routesOf (movesIn s o) (length routesIn) ≡ routesIn
-  unfolding movesIn movesOf
-  routes-read = routes-written (readSheet s .n) (length routesIn) routesIn countsIn writable ∙ take-length routesIn
+  pub plan-front : take (a .plan) (planAfter s o p (length m)) ≡ planIn s o
+  plan-front = ap (λ (x : StepAnswer). take (x .plan) (planAfter s o p (length m))) answer-is ∙ after-front (a .refusal) (planIn s o) p q
 
-  pub counts-read : countsOf (movesIn s o) (length routesIn) ≡ countsIn
-  unfolding movesIn movesOf
-  counts-read =
-      counts-written (readSheet s .n) (length routesIn) routesIn countsIn writable
-      ∙ take-all (length routesIn) countsIn (omega (arith, carries .accepted .same))
+  pub moves-front : take (a .moves) (movesAfter s o m (length p)) ≡ movesIn s o
+  moves-front = ap (λ (x : StepAnswer). take (x .moves) (movesAfter s o m (length p))) answer-is ∙ after-front (a .refusal) (movesIn s o) m q
 
--- ---- the buffers' fronts
-
--- THEOREM. After an accepted call the bytes of the lengths given are the plan and the moves.
-pub plan-front : (s o p m : List ℕ) → let a = stepAnswer s o (length p) (length m) in a .refusal ≡ 0 → take (a .plan) (after a (planIn s o) p) ≡ planIn s o
-plan-front s o p m q =
-    rw (done-step s o (length p) (length m) (step-done s o (length p) (length m) q))
-    (take-at (planIn s o) (drop (length (planIn s o)) p) (length (planIn s o)) refl)
-
-pub moves-front : (s o p m : List ℕ) → let a = stepAnswer s o (length p) (length m) in a .refusal ≡ 0 → take (a .moves) (after a (movesIn s o) m) ≡ movesIn s o
-moves-front s o p m q =
-    rw (done-step s o (length p) (length m) (step-done s o (length p) (length m) q))
-    (take-at (movesIn s o) (drop (length (movesIn s o)) m) (length (movesIn s o)) refl)
+  -- THEOREM. After an accepted call the bytes in front of the two buffers, of the lengths given, are read back as what was decided.
+  pub step-read-back : StepReadBack s o (take (a .plan) (planAfter s o p (length m))) (take (a .moves) (movesAfter s o m (length p)))
+  step-read-back = rw (plan-front, moves-front) (records-back s o (step-done s o (length p) (length m) q .0))

@@ -23,13 +23,15 @@ use Rattle.transfer.proofs.Carrying.{Carries, carries-totals}
 use Rattle.decide.specs.declared.Decision.{Decision}
 use Rattle.decide.specs.Decide.{decided}
 use Rattle.planner.specs.declared.StepAnswer.{StepAnswer}
-use Rattle.planner.specs.Step.{decisionIn, planOf, planIn, dueIn, movesOf, movesIn, writtenAnswer, decidedAnswer, after, Read}
+use Rattle.planner.specs.Step.{decisionIn, planRecord, planIn, dueIn, movesRecord, movesIn, writtenAnswer}
+use Rattle.planner.specs.Inner.{StepRead}
+use Rattle.planner.proofs.Ways.{Writes, Ends, ends-written}
 use Rattle.planner.proofs.Facts.{table, totals, old, facts, sum-within, given, decision, decision-fine}
 use Rattle.arrays.specs.Arrays.{at}
 
 -- moves at the front of two arrays are written as they are
 moves-front : (n : ℕ) (routes counts a b : List ℕ) → length routes ≡ length counts
-    → movesBytes n (length routes) (placed routes a) (placed counts b) ≡ movesBytes n (length routes) routes counts
+    → movesBytes n (length routes) (placed routes a) (placed counts b) ≡ movesRecord n routes counts
 unfolding movesBytes
 moves-front n routes counts a b e =
     rw (
@@ -39,7 +41,7 @@ moves-front n routes counts a b e =
       take-all (length routes) counts (omega (arith, e)),
     )
 
-module _ (s o : List ℕ) (h : Sheet) (tree : Bool) (r : Read s o h tree) where
+module _ (s o : List ℕ) (h : Sheet) (tree : Bool) (r : StepRead s o h tree) where
   abbrev d₀ : Decision
   d₀ = decisionIn s o
 
@@ -102,29 +104,24 @@ module _ (s o : List ℕ) (h : Sheet) (tree : Bool) (r : Read s o h tree) where
       omega (arith, ap length q, length-append counts (drop (length counts) b), here-carries .accepted .same),
     )
 
-    here-plan : planOf (h .n) (h .limit) d ≡ planIn s o
+    here-plan : planRecord (h .n) (h .limit) d ≡ planIn s o
     unfolding planIn
     here-plan = rw (← r .sheet, here-decision)
 
     here-moves : (e : ℕ) (xs ys a b : List ℕ) → e ≡ length routes → xs ≡ placed routes a → ys ≡ placed counts b → movesBytes (h .n) e xs ys ≡ movesIn s o
-    unfolding movesIn movesOf
+    unfolding movesIn
     here-moves e xs ys a b i j q =
         rw (i, j, q) (moves-front (h .n) routes counts a b (here-carries .accepted .same) ∙ rw (← r .sheet, here-decision, here-totals, k .table-is))
 
     -- so the answer and the buffers are those of the definitions
-    pub here-answers : (e : ℕ) (xs ys a b : List ℕ) → e ≡ length routes → xs ≡ placed routes a → ys ≡ placed counts b
+    pub here-ends : (e : ℕ) (xs ys a b : List ℕ) → e ≡ length routes → xs ≡ placed routes a → ys ≡ placed counts b
         → (w : StepAnswer) (p m p₁ m₁ : List ℕ)
-        → (w ≡ writtenAnswer (d .kind) (h .limit) (planOf (h .n) (h .limit) d) (movesBytes (h .n) e xs ys) (length p) (length m))
-        × ((p₁ ≡ after w (planOf (h .n) (h .limit) d) p) × (m₁ ≡ after w (movesBytes (h .n) e xs ys) m))
-        → (w ≡ decidedAnswer s o (length p) (length m)) × ((p₁ ≡ after w (planIn s o) p) × (m₁ ≡ after w (movesIn s o) m))
-    here-answers e xs ys a b i j q w p m p₁ m₁ f =
+        → Writes (d .kind) (h .limit) (planRecord (h .n) (h .limit) d) (movesBytes (h .n) e xs ys) p m w p₁ m₁ → Ends s o p m w p₁ m₁
+    here-ends e xs ys a b i j q w p m p₁ m₁ f =
+        let head = r .sheet in
+        let moves = here-moves e xs ys a b i j q in
         let kinds : d .kind ≡ d₀ .kind = ap (λ (x : Decision). x .kind) here-decision in
-        let limits = ap (λ (x : SheetAnswer). x .limit) (r .sheet) in
-        let moves = here-moves e xs ys a b i j q in (
-          f .0
-              ∙ ap (λ (k : ℕ). writtenAnswer k (h .limit) (planOf (h .n) (h .limit) d) (movesBytes (h .n) e xs ys) (length p) (length m)) kinds
-              ∙ ap (λ (l : ℕ). writtenAnswer (d₀ .kind) l (planOf (h .n) (h .limit) d) (movesBytes (h .n) e xs ys) (length p) (length m)) limits
-              ∙ ap (λ (x : List ℕ). writtenAnswer (d₀ .kind) (readSheet s .limit) x (movesBytes (h .n) e xs ys) (length p) (length m)) here-plan
-              ∙ ap (λ (x : List ℕ). writtenAnswer (d₀ .kind) (readSheet s .limit) (planIn s o) x (length p) (length m)) moves,
-          (f .1 .0 ∙ ap (λ (x : List ℕ). after w x p) here-plan, f .1 .1 ∙ ap (λ (x : List ℕ). after w x m) moves),
-        )
+        let limits : h .limit ≡ readSheet s .limit = ap (λ (x : SheetAnswer). x .limit) head in
+        let same : Writes (d .kind) (h .limit) (planIn s o) (movesIn s o) p m w p₁ m₁ = rw (here-plan, moves) at f in
+        ends-written s o p m (h .n) (ap (λ (x : SheetAnswer). x .refusal) head) (ap (λ (x : SheetAnswer). x .n) head) tree (r .old) w p₁ m₁
+        (rw (kinds, limits) at same)

@@ -7,7 +7,7 @@ use Prim.Native.Nat.{ℕ, _≤_, _<_}
 use native.Mathlib.Omega.{arith}
 use borrow.Author.Tests.{lt-ltb, le-ltb, eq-eqb, ne-eqb}
 use lib.ListN.{length}
-use Rattle.words.specs.Buffer.{placed}
+use Rattle.words.specs.Buffer.{placed, afterCall}
 use Rattle.sheet.specs.declared.SheetRefusal.{SheetRefusal}
 use Rattle.sheet.specs.declared.SheetReading.{SheetReading}
 use Rattle.sheet.specs.declared.SheetReading.the-variants.{Refused}
@@ -19,7 +19,7 @@ use Rattle.plan.specs.Plan.{readPlan, accepted}
 use Rattle.planner.specs.declared.StepAnswer.{StepAnswer}
 use Rattle.planner.specs.declared.StepRefusal.{StepRefusal}
 use Rattle.planner.specs.declared.StepRefusal.the-variants.{Sheet, Plan, NodesDiffer, PlanBuffer, MovesBuffer}
-use Rattle.planner.specs.Step.{refused, planned, numberOf, oldRefused, oldRead, readOld, writtenAnswer, decidedAnswer, stepAnswer, after}
+use Rattle.planner.specs.Step.{refused, planned, numberOf, oldRefused, oldRead, readOld, decisionIn, planIn, movesIn, writtenAnswer, stepAnswer, planAfter, movesAfter}
 
 -- ---- the old plan
 
@@ -66,7 +66,7 @@ module _ (kind limit : ℕ) (plan moves planOut movesOut : List ℕ) where
 
   -- the answer, and both buffers as they are then
   abbrev pub Writes : StepAnswer → List ℕ → List ℕ → Type 0
-  Writes a planAfter movesAfter = (a ≡ answer) × ((planAfter ≡ after a plan planOut) × (movesAfter ≡ after a moves movesOut))
+  Writes a plan₁ moves₁ = (a ≡ answer) × ((plan₁ ≡ afterCall (a .refusal) plan planOut) × (moves₁ ≡ afterCall (a .refusal) moves movesOut))
 
   pub writes-plan-short : (size : ℕ) → length plan ≡ size → length planOut < size → Writes (refused 22) planOut movesOut
   unfolding writtenAnswer
@@ -84,7 +84,7 @@ module _ (kind limit : ℕ) (plan moves planOut movesOut : List ℕ) where
     writes-both size₂ f l =
         (rw (le-ltb (length planOut) (length plan) (omega (arith, e)), le-ltb (length movesOut) (length moves) (omega (arith, f)), e, f), (refl, refl))
 
--- ---- the sheet, and then the old plan
+-- ---- the sheet, then the old plan, then both buffers
 
 module _ (s o : List ℕ) (a b : ℕ) where
   pub step-sheet : (k : ℕ) → k ≡ readSheet s .refusal → k ≢ 0 → refused k ≡ stepAnswer s o a b
@@ -96,22 +96,30 @@ module _ (s o : List ℕ) (a b : ℕ) where
     unfolding stepAnswer
     step-old k e d = rw (← z, ← m, ← e, ne-eqb k 0 d)
 
-    pub step-decided : (tree : Bool) → oldRead tree ≡ readOld o n → decidedAnswer s o a b ≡ stepAnswer s o a b
+    pub step-decided : (tree : Bool) → readOld o n ≡ oldRead tree
+        → writtenAnswer (decisionIn s o .kind) (readSheet s .limit) (planIn s o) (movesIn s o) a b ≡ stepAnswer s o a b
     unfolding stepAnswer
-    step-decided tree e = rw (← z, ← m, ← e)
+    step-decided tree e = rw (← z, ← m, e)
 
--- ---- the answer with both buffers
+module _ (s o p m : List ℕ) where
+  -- the answer, and both buffers as they are then
+  abbrev pub Ends : StepAnswer → List ℕ → List ℕ → Type 0
+  Ends a p₁ m₁ = (a ≡ stepAnswer s o (length p) (length m)) × ((p₁ ≡ planAfter s o p (length m)) × (m₁ ≡ movesAfter s o m (length p)))
 
-module _ (a : StepAnswer) (plan moves p m : List ℕ) where
-  -- the answer a, and both buffers as they are then
-  abbrev pub Answers : StepAnswer → List ℕ → List ℕ → Type 0
-  Answers w p₁ m₁ = (w ≡ a) × ((p₁ ≡ after a plan p) × (m₁ ≡ after a moves m))
+  refuses : (k : ℕ) → k ≢ 0 → refused k ≡ stepAnswer s o (length p) (length m) → Ends (refused k) p m
+  refuses k d e = (e, (rw (← e, ne-eqb k 0 d), rw (← e, ne-eqb k 0 d)))
 
-  -- a refusal leaves both as they were
-  pub answers-refused : (w : StepAnswer) (k : ℕ) → w ≡ refused k → k ≢ 0 → refused k ≡ a → Answers w p m
-  answers-refused w k f d e = (f ∙ e, (rw (← e, ne-eqb k 0 d), rw (← e, ne-eqb k 0 d)))
+  pub ends-sheet : (k : ℕ) → k ≡ readSheet s .refusal → k ≢ 0 → Ends (refused k) p m
+  ends-sheet k e d = refuses k d (step-sheet s o (length p) (length m) k e d)
 
-  pub answers-decided : (w b : StepAnswer) (p₁ m₁ : List ℕ) → b ≡ a → (w ≡ b) × ((p₁ ≡ after w plan p) × (m₁ ≡ after w moves m)) → Answers w p₁ m₁
-  answers-decided w b p₁ m₁ e f =
-      let q : w ≡ a = f .0 ∙ e in
-      (q, (f .1 .0 ∙ ap (λ (x : StepAnswer). after x plan p) q, f .1 .1 ∙ ap (λ (x : StepAnswer). after x moves m) q))
+  module _ (n : ℕ) (z : 0 ≡ readSheet s .refusal) (is : n ≡ readSheet s .n) where
+    pub ends-old : (k : ℕ) → oldRefused k ≡ readOld o n → k ≢ 0 → Ends (refused k) p m
+    ends-old k e d = refuses k d (step-old s o (length p) (length m) n z is k e d)
+
+    pub ends-written : (tree : Bool) → readOld o n ≡ oldRead tree → (a : StepAnswer) (p₁ m₁ : List ℕ)
+        → Writes (decisionIn s o .kind) (readSheet s .limit) (planIn s o) (movesIn s o) p m a p₁ m₁ → Ends a p₁ m₁
+    ends-written tree e a p₁ m₁ w =
+        let q = w .0 ∙ step-decided s o (length p) (length m) n z is tree e in (
+          q,
+          (w .1 .0 ∙ ap (λ (x : StepAnswer). afterCall (x .refusal) (planIn s o) p) q, w .1 .1 ∙ ap (λ (x : StepAnswer). afterCall (x .refusal) (movesIn s o) m) q),
+        )

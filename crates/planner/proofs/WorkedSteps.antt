@@ -25,13 +25,13 @@ use Rattle.rebuild.specs.Rebuild.{turnOf, startOf, runOf, finishOf, rebuiltOf}
 use Rattle.transfer.specs.Due.{dueWith}
 use Rattle.transfer.specs.Matching.{matched}
 use Rattle.decide.specs.Decide.{decided}
-use Rattle.planner.specs.Step.{readOld, decisionIn, planIn, movesOf, movesIn, writtenAnswer, stepAnswer}
+use Rattle.planner.specs.Step.{readOld, decisionIn, planIn, movesIn, writtenAnswer, stepAnswer}
 use Rattle.planner.specs.Worked.{steps, expected, outcome}
 
 -- THEOREM. On steps A to K the definitions of *plan a step* give the answers, the plans and the moves of the list.
 pub steps-worked : map outcome steps ≡ map expected steps
 unfolding steps readSheet readHeader words encode rising runningSum limitOf readOld readPlan headAnswer arraysAnswer all sum reaches
     tableOf countsFrom countAt tabulate collect decided leastWithin down amount space fill rebuiltOf startOf runOf
-    turnOf finishOf targetOf best decisionIn planIn planBytes movesOf movesIn movesBytes dueWith matched writtenAnswer
+    turnOf finishOf targetOf best decisionIn planIn planBytes movesIn movesBytes dueWith matched writtenAnswer
     stepAnswer
 steps-worked = refl

@@ -5,15 +5,15 @@ use mathlib.Core.Bool.{Bool, true, false, cond, not}
 use mathlib.Core.List.{List}
 use Prim.Native.Nat.{ℕ}
 use lib.Dec.{eqb, ltb}
-use lib.ListN.{length}
+use lib.ListN.{length, take}
 use Rattle.arrays.specs.Arrays.{padded, at}
 use Rattle.words.specs.Checks.{refuseIf, refuseAs}
-use Rattle.words.specs.Buffer.{placed}
-use Rattle.sheet.specs.declared.Sheet.{Sheet}
-use Rattle.sheet.specs.Sheet.{readSheet, refusalNumber as sheetNumber, accepted as sheetAccepted}
+use Rattle.words.specs.Buffer.{afterCall}
+use Rattle.sheet.specs.Sheet.{readSheet, refusalNumber as sheetNumber}
 use Rattle.sheet.specs.Table.{tableIn}
-use Rattle.plan.specs.Plan.{readPlan, helpandsOf, refusalNumber as planNumber}
+use Rattle.plan.specs.Plan.{readPlan, helpandsOf, sharesOf, refusalNumber as planNumber, accepted as planAccepted}
 use Rattle.plan.specs.Write.{planBytes}
+use Rattle.moves.specs.Moves.{readMoves, routesOf, countsOf, accepted as movesAccepted}
 use Rattle.moves.specs.Write.{movesBytes}
 use Rattle.transfer.specs.Due.{dueOf}
 use Rattle.transfer.specs.Matching.{allRoutes, allCounts}
@@ -71,8 +71,8 @@ oldOf (OldRefused r) = oldRefused (numberOf r)
 unfoldable pub readOld : List ℕ → ℕ → OldAnswer
 readOld o n =
     cond (eqb (length o) 0) (oldRead false)
-    (cond (not (eqb (readPlan o .refusal) 0)) (oldRefused (readPlan o .refusal))
-    (cond (not (eqb (readPlan o .n) n)) (oldRefused 21)
+    (refuseAs oldRefused (readPlan o .refusal)
+    (refuseIf (not (eqb (readPlan o .n) n)) (oldRefused 21)
     (oldRead (not (eqb (readPlan o .kind) 0)))))
 
 -- the helpands of the old tree; without one each node is its own
@@ -88,24 +88,28 @@ decisionIn s o =
     decided n (readSheet s .p) (readSheet s .limit) (tableIn s) (totalsIn s) tree (oldHelpands o tree n)
 
 -- the plan: "A plan written carries L as its limit."
-abbrev pub planOf : ℕ → ℕ → Decision → List ℕ
-planOf n limit d = planBytes n (d .kind) limit (d .helpands) (d .shares)
+abbrev pub planRecord : ℕ → ℕ → Decision → List ℕ
+planRecord n limit d = planBytes n (d .kind) limit (d .helpands) (d .shares)
 
 unfoldable pub planIn : List ℕ → List ℕ → List ℕ
-planIn s o = planOf (readSheet s .n) (readSheet s .limit) (decisionIn s o)
+planIn s o = planRecord (readSheet s .n) (readSheet s .limit) (decisionIn s o)
 
 -- what node k is due of subdomain n
 abbrev pub dueIn : ℕ → List ℕ → Decision → ℕ → ℕ → ℕ
 dueIn nodes totals d = dueOf nodes (at (d .helpands)) (at totals) (at (d .shares))
 
--- the moves
-unfoldable pub movesOf : ℕ → List ℕ → List ℕ → Decision → List ℕ
-movesOf n table totals d =
-    let routes = allRoutes n table (dueIn n totals d) in
-    movesBytes n (length routes) routes (allCounts n table (dueIn n totals d))
+-- the moves: routes and counts
+abbrev pub decidedRoutes : List ℕ → List ℕ → List ℕ
+decidedRoutes s o = allRoutes (readSheet s .n) (tableIn s) (dueIn (readSheet s .n) (totalsIn s) (decisionIn s o))
+
+abbrev pub decidedCounts : List ℕ → List ℕ → List ℕ
+decidedCounts s o = allCounts (readSheet s .n) (tableIn s) (dueIn (readSheet s .n) (totalsIn s) (decisionIn s o))
+
+abbrev pub movesRecord : ℕ → List ℕ → List ℕ → List ℕ
+movesRecord n routes counts = movesBytes n (length routes) routes counts
 
 unfoldable pub movesIn : List ℕ → List ℕ → List ℕ
-movesIn s o = movesOf (readSheet s .n) (tableIn s) (totalsIn s) (decisionIn s o)
+movesIn s o = movesRecord (readSheet s .n) (decidedRoutes s o) (decidedCounts s o)
 
 -- ---- the checks, in the order written
 
@@ -116,31 +120,28 @@ writtenAnswer kind limit plan moves planSize movesSize =
     (refuseIf (ltb movesSize (length moves)) (refused 23)
     (planned kind limit (length plan) (length moves)))
 
-abbrev pub decidedAnswer : List ℕ → List ℕ → ℕ → ℕ → StepAnswer
-decidedAnswer s o planSize movesSize =
-    writtenAnswer (decisionIn s o .kind) (readSheet s .limit) (planIn s o) (movesIn s o) planSize movesSize
-
 -- "A refused sheet ends planning before the old plan is looked at."
 unfoldable pub stepAnswer : List ℕ → List ℕ → ℕ → ℕ → StepAnswer
 stepAnswer s o planSize movesSize =
     refuseAs refused (readSheet s .refusal)
     (refuseAs refused (readOld o (readSheet s .n) .refusal)
-    (decidedAnswer s o planSize movesSize))
-
--- a buffer afterwards: the record in front, or as it was
-abbrev pub after : StepAnswer → List ℕ → List ℕ → List ℕ
-after a rec out = cond (eqb (a .refusal) 0) (placed rec out) out
+    (writtenAnswer (decisionIn s o .kind) (readSheet s .limit) (planIn s o) (movesIn s o) planSize movesSize))
 
 -- the two buffers afterwards, each with the other's length
 abbrev pub planAfter : List ℕ → List ℕ → List ℕ → ℕ → List ℕ
-planAfter s o plan movesSize = after (stepAnswer s o (length plan) movesSize) (planIn s o) plan
+planAfter s o plan movesSize = afterCall (stepAnswer s o (length plan) movesSize .refusal) (planIn s o) plan
 
 abbrev pub movesAfter : List ℕ → List ℕ → List ℕ → ℕ → List ℕ
-movesAfter s o moves planSize = after (stepAnswer s o planSize (length moves)) (movesIn s o) moves
+movesAfter s o moves planSize = afterCall (stepAnswer s o planSize (length moves) .refusal) (movesIn s o) moves
 
--- ---- what the inner functions ask
+-- ---- demand 2, of an accepted call: each record is read back as what was decided
 
--- the sheet was read as this, and the old plan has a tree or none
-pub record Read (s o : List ℕ) (h : Sheet) (tree : Bool) : Type 0 where
-  pub sheet : sheetAccepted (h .n) (h .t) (h .e) (h .p) (h .limit) ≡ readSheet s
-  pub old : readOld o (h .n) ≡ oldRead tree
+pub record StepReadBack (s o plan moves : List ℕ) : Type 0 where
+  -- "Plan: N, kind, limit; N helpands; N shares."
+  pub plan-read : readPlan plan ≡ planAccepted (readSheet s .n) (decisionIn s o .kind) (readSheet s .limit)
+  pub helpands : helpandsOf plan (readSheet s .n) ≡ take (readSheet s .n) (decisionIn s o .helpands)
+  pub shares : sharesOf plan (readSheet s .n) ≡ take (readSheet s .n) (decisionIn s o .shares)
+  -- "Moves: N, E; E routes; E counts."
+  pub moves-read : readMoves moves ≡ movesAccepted (readSheet s .n) (length (decidedRoutes s o))
+  pub routes : routesOf moves (length (decidedRoutes s o)) ≡ decidedRoutes s o
+  pub counts : countsOf moves (length (decidedRoutes s o)) ≡ decidedCounts s o

@@ -12,9 +12,11 @@ ghost use mathlib.Core.Bool.{true};
 ghost use Prim.Native.Nat.{_+_, _*_, _≤_};
 ghost use lib.ListN.{length};
 ghost use Rattle.limit.specs.Limit.{maxNodes, tableSize};
+ghost use Rattle.words.specs.Buffer.{placed, afterCall};
 ghost use Rattle.sheet.specs.Sheet.{answerOf as sheetAnswer};
 ghost use Rattle.moves.specs.Write.{movesBytes};
-ghost use Rattle.planner.specs.Step.{refused, numberOf, answerOf, oldOf, readOld, oldHelpands, planOf, planIn, movesIn, writtenAnswer, decidedAnswer, stepAnswer, after, planAfter, movesAfter, Read};
+ghost use Rattle.planner.specs.Step.{refused, numberOf, answerOf, oldOf, readOld, oldHelpands, planRecord, writtenAnswer, stepAnswer, planAfter, movesAfter};
+ghost use Rattle.planner.specs.Inner.{StepRead};
 
 // Why planning is refused, in the order of the checks.
 pub enum StepRefusal {
@@ -100,7 +102,31 @@ fn old_helpands(old: &[u8], tree: bool, nodes: usize) -> [u32; 64]
     decide::own_numbers(nodes)
 }
 
-// Writes the plan and the first e moves, once both buffers are known to be long enough.
+// Writes the plan and the first e moves to buffers that are long enough.
+fn put_records(
+    plan: &mut [u8],
+    moves: &mut [u8],
+    n: u32,
+    limit: u32,
+    d: Decision,
+    routes: &[u32],
+    counts: &[u32],
+    e: usize,
+)
+    requires { ⌜
+        (n ≤ maxNodes) × (e ≤ tableSize) × (e ≤ length (now routes)) × (e ≤ length (now counts))
+        × (4 * (3 + 2 * n) ≤ length (now plan)) × (4 * (2 + 2 * e) ≤ length (now moves)) ⌝ }
+    ensures plan { λ _. ⌜ now (plan .exit) ≡ placed (planRecord n limit d) (now (plan .entry)) ⌝ }
+    ensures moves { λ _. ⌜
+        now (moves .exit) ≡ placed (movesBytes n e (now (routes .entry)) (now (counts .entry))) (now (moves .entry)) ⌝ }
+{
+    let helpands = d.helpands;
+    let shares = d.shares;
+    plan::write::put_plan(plan, n, d.kind, limit, helpands, shares);
+    moves::write::put_moves(moves, n, e, routes, counts);
+}
+
+// The same to any buffers: both lengths are tested before the first store.
 fn write_records(
     plan: &mut [u8],
     moves: &mut [u8],
@@ -113,11 +139,12 @@ fn write_records(
 ) -> Step
     requires { ⌜ (n ≤ maxNodes) × (e ≤ tableSize) × (e ≤ length (now routes)) × (e ≤ length (now counts)) ⌝ }
     ensures answer { λ r. ⌜
-        answerOf r ≡ writtenAnswer (d .kind) limit (planOf n limit d) (movesBytes n e (now (routes .entry)) (now (counts .entry)))
+        answerOf r ≡ writtenAnswer (d .kind) limit (planRecord n limit d) (movesBytes n e (now (routes .entry)) (now (counts .entry)))
         (length (now (plan .entry))) (length (now (moves .entry))) ⌝ }
-    ensures plan { λ r. ⌜ now (plan .exit) ≡ after (answerOf r) (planOf n limit d) (now (plan .entry)) ⌝ }
+    ensures plan { λ r. ⌜ now (plan .exit) ≡ afterCall (answerOf r .refusal) (planRecord n limit d) (now (plan .entry)) ⌝ }
     ensures moves { λ r. ⌜
-        now (moves .exit) ≡ after (answerOf r) (movesBytes n e (now (routes .entry)) (now (counts .entry))) (now (moves .entry)) ⌝ }
+        now (moves .exit)
+        ≡ afterCall (answerOf r .refusal) (movesBytes n e (now (routes .entry)) (now (counts .entry))) (now (moves .entry)) ⌝ }
 {
     let plan_size = 4 * (3 + 2 * n as usize);
     if plan.len() < plan_size {
@@ -127,10 +154,7 @@ fn write_records(
     if moves.len() < moves_size {
         return Step::Refused(StepRefusal::MovesBuffer);
     }
-    let helpands = d.helpands;
-    let shares = d.shares;
-    plan::write::put_plan(plan, n, d.kind, limit, helpands, shares);
-    moves::write::put_moves(moves, n, e, routes, counts);
+    put_records(plan, moves, n, limit, d, routes, counts, e);
     Step::Planned(PlannedStep {
         kind: d.kind,
         limit: limit,
@@ -148,11 +172,13 @@ fn plan_read(
     plan: &mut [u8],
     moves: &mut [u8],
 ) -> Step
-    requires { ⌜ Read (now sheet) (now old) s tree ⌝ }
+    requires { ⌜ StepRead (now sheet) (now old) s tree ⌝ }
     ensures answer { λ r. ⌜
-        answerOf r ≡ decidedAnswer (now (sheet .entry)) (now (old .entry)) (length (now (plan .entry))) (length (now (moves .entry))) ⌝ }
-    ensures plan { λ r. ⌜ now (plan .exit) ≡ after (answerOf r) (planIn (now (sheet .entry)) (now (old .entry))) (now (plan .entry)) ⌝ }
-    ensures moves { λ r. ⌜ now (moves .exit) ≡ after (answerOf r) (movesIn (now (sheet .entry)) (now (old .entry))) (now (moves .entry)) ⌝ }
+        answerOf r ≡ stepAnswer (now (sheet .entry)) (now (old .entry)) (length (now (plan .entry))) (length (now (moves .entry))) ⌝ }
+    ensures plan { λ _. ⌜
+        now (plan .exit) ≡ planAfter (now (sheet .entry)) (now (old .entry)) (now (plan .entry)) (length (now (moves .entry))) ⌝ }
+    ensures moves { λ _. ⌜
+        now (moves .exit) ≡ movesAfter (now (sheet .entry)) (now (old .entry)) (now (moves .entry)) (length (now (plan .entry))) ⌝ }
 {
     let nodes = s.n as usize;
     let table = sheet::table::unpack(sheet, s.e as usize);

@@ -17,7 +17,8 @@ use Rattle.moves.proofs.Accepted.{moves-accepted, routes-are, counts-are}
 use Rattle.tree.specs.Division.{ownOf}
 use Rattle.sheet.specs.Totals.{totalsIn}
 use Rattle.text.specs.Text.{headLine, nodeLine, moveLine, movesText, stepText}
-use Rattle.run.specs.Run.{ownIn, recordsText, Printable}
+use Rattle.run.specs.Run.{ownIn, recordsText}
+use Rattle.run.specs.Inner.{Printable}
 use Rattle.arrays.proofs.Padded.{padded-same}
 
 -- a text with each array read by index

@@ -21,7 +21,7 @@ use Rattle.rebuild.specs.Rebuild.{turnOf, startOf, runOf, finishOf, rebuiltOf}
 use Rattle.transfer.specs.Due.{dueWith}
 use Rattle.transfer.specs.Matching.{matched}
 use Rattle.decide.specs.Decide.{decided}
-use Rattle.planner.specs.Step.{readOld, decisionIn, planIn, movesOf, movesIn, writtenAnswer, stepAnswer}
+use Rattle.planner.specs.Step.{readOld, decisionIn, planIn, movesIn, writtenAnswer, stepAnswer}
 use Rattle.planner.specs.Worked.{step-D}
 use Rattle.text.specs.Text.{ascii, digits, field, headLine, nodeLine, moveLine, stepText}
 use Rattle.text.specs.Split.{splitAt}
@@ -32,6 +32,6 @@ pub step-d-printed : runText (encode (step-D .sheet))
     ≡ ascii "kind 2 limit 36\nnode 0 helps 0 share 0 own 34\nnode 1 helps 0 share 27 own 6\nnode 2 helps 0 share 29 own 4\nmove 0 from 0 to 1 count 27\nmove 0 from 0 to 2 count 29\n"
 unfolding words encode rising runningSum limitOf readHeader readSheet splitAt readOld readPlan headAnswer arraysAnswer readMoves all every sum
     reaches tableOf countsFrom countAt tabulate collect decided leastWithin rebuiltOf startOf runOf turnOf finishOf targetOf best
-    decisionIn planIn planBytes movesOf movesIn movesBytes dueWith matched writtenAnswer stepAnswer digits field headLine
+    decisionIn planIn planBytes movesIn movesBytes dueWith matched writtenAnswer stepAnswer digits field headLine
     nodeLine moveLine stepText recordsText textIn runText
 step-d-printed = refl

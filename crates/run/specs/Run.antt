@@ -1,5 +1,4 @@
 -- Document 01, 'The bench program': from the bytes of standard input to the bytes of standard output.
-use mathlib.Core.Path.{_≡_}
 use mathlib.Core.Bool.{cond}
 use mathlib.Core.List.{List}
 use Prim.Native.Nat.{ℕ, _+_}
@@ -14,7 +13,6 @@ use Rattle.arrays.specs.Arrays.{at, tabulate}
 use Rattle.plan.specs.Plan.{readPlan, helpandsOf, sharesOf}
 use Rattle.moves.specs.Moves.{readMoves, routesOf, countsOf}
 use Rattle.tree.specs.Division.{ownOf}
-use Rattle.transfer.specs.Inner.{Allotted}
 use Rattle.sheet.specs.Totals.{totalsIn}
 use Rattle.planner.specs.declared.StepAnswer.{StepAnswer}
 use Rattle.planner.specs.Step.{stepAnswer, planIn, movesIn}
@@ -64,13 +62,3 @@ frontSize = longestSheet maxNodes + planLength maxNodes + 1
 -- as many bytes as no run exceeds: at most 64 for each of 1 + 64 + 64 × 63 lines
 abbrev pub textSize : ℕ
 textSize = 262208
-
--- ---- what the inner functions ask
-
--- the three records are accepted, the plan is for as many nodes as the sheet, and no owner's helpers are given more than there is
-pub record Printable (s p m : List ℕ) : Type 0 where
-  pub sheet : readSheet s .refusal ≡ 0
-  pub plan : readPlan p .refusal ≡ 0
-  pub moves : readMoves m .refusal ≡ 0
-  pub nodes : readPlan p .n ≡ readSheet s .n
-  pub allotted : Allotted (readPlan p .n) (at (helpandsOf p (readPlan p .n))) (at (totalsIn s)) (at (sharesOf p (readPlan p .n)))

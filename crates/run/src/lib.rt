@@ -10,7 +10,8 @@ ghost use Rattle.sheet.specs.Sheet.{readSheet};
 ghost use Rattle.arrays.specs.Arrays.{at};
 ghost use Rattle.sheet.specs.Totals.{totalsIn};
 ghost use Rattle.transfer.specs.Inner.{Allotted};
-ghost use Rattle.run.specs.Run.{ownIn, recordsText, textIn, runText, frontSize, textSize, Printable};
+ghost use Rattle.run.specs.Run.{ownIn, recordsText, textIn, runText, frontSize, textSize};
+ghost use Rattle.run.specs.Inner.{Printable};
 
 // The longest input that can be accepted, and one byte: a longer one prints what its first bytes print (proofs/LongInput.antt).
 pub const FRONT_SIZE: usize = 33_305;

@@ -5,3 +5,4 @@ pub mod Tables
 pub mod Totalled
 pub mod Filled
 pub mod RoundTrip
+pub mod Refusals

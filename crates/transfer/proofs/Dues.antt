@@ -32,7 +32,7 @@ module _ (h share : ℕ → ℕ) (own n k : ℕ) where
   due-other d f = rw (helps-other h n k f, ne-eqb k n d)
 
   -- a helper's part, or the owner's
-  due-parts : dueWith h share own n k ≡ only (helps h n k) (share k) + only (eqb k n) own
+  pub due-parts : dueWith h share own n k ≡ only (helps h n k) (share k) + only (eqb k n) own
   due-parts = elim (ℕ-discrete k n) [
     | yes e ↦ omega (arith, due-owner e, only-not (helps h n k) (share k) (helps-self h n k e), only-is (eqb k n) own (eq-eqb k n e))
     | no d ↦ elim (ℕ-discrete (h k) n) [

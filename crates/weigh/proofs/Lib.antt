@@ -1,2 +1,4 @@
 pub mod Weighed
+pub mod ReadBack
+pub mod Sizes
 pub mod Answers

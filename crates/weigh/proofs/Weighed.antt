@@ -1,5 +1,7 @@
--- What weighing needs of a sheet and a plan that were accepted, and the bytes of the leasts. Assumes nothing.
-use mathlib.Core.Path.{_≡_, refl, sym, ap, _∙_}
+-- What weighing needs of a sheet and a plan that were accepted, and one law for each way out: the answer, and the buffer as it is then.
+-- Assumes nothing.
+use mathlib.Core.Path.{_≡_, sym, ap, _∙_}
+use mathlib.Core.Logic.{_≢_}
 use mathlib.Core.List.{List, [], _∷_}
 use Prim.Native.Nat.{ℕ, _*_, _≤_, _<_}
 use native.Mathlib.Omega.{arith}
@@ -15,25 +17,26 @@ use Rattle.words.specs.Words.{encode}
 use Rattle.words.specs.Buffer.{placed}
 use Rattle.words.proofs.Words.{length-encode}
 use Rattle.words.proofs.Buffer.{sets-placed}
-use Rattle.sheet.specs.Totals.{totalsOf}
-use Rattle.tree.specs.Weigh.{least}
 use Rattle.arrays.specs.Arrays.{padded, tabulate, at}
-use Rattle.tree.proofs.Weighing.{holds-tabulated}
+use Rattle.arrays.proofs.Padded.{padded-same}
+use Rattle.arrays.proofs.Tabulate.{length-row, take-tabulate}
 use Rattle.sheet.specs.declared.Sheet.{Sheet}
 use Rattle.sheet.specs.declared.SheetAnswer.{SheetAnswer}
 use Rattle.sheet.specs.Sheet.{readSheet, accepted}
 use Rattle.sheet.specs.Table.{tableOf}
+use Rattle.sheet.specs.Totals.{totalsOf}
 use Rattle.sheet.proofs.Accepted.{Accepted, reading-accepted}
 use Rattle.sheet.proofs.Tables.{table-within}
+use Rattle.plan.specs.declared.Plan.{Plan}
+use Rattle.plan.specs.declared.PlanAnswer.{PlanAnswer}
 use Rattle.plan.specs.Tree.{Tree}
 use Rattle.plan.specs.Plan.{readPlan, helpandsOf}
 use Rattle.plan.proofs.AcceptedTree.{accepted-tree}
-use Rattle.plan.specs.declared.Plan.{Plan}
-use Rattle.plan.specs.declared.PlanAnswer.{PlanAnswer}
+use Rattle.tree.specs.Weigh.{least}
+use Rattle.tree.proofs.Weighing.{holds-tabulated}
 use Rattle.weigh.specs.declared.WeighAnswer.{WeighAnswer}
-use Rattle.weigh.specs.Weigh.{refused, weighed, leastIn, holdsIn, leastBytes, pairAnswer, weighAnswer, bytesAfter, Read, Weighable}
-use Rattle.arrays.proofs.Tabulate.{length-row, take-tabulate}
-use Rattle.arrays.proofs.Padded.{padded-same}
+use Rattle.weigh.specs.Weigh.{refused, weighed, leastIn, holdsIn, leastBytes, weighAnswer, weighBytes}
+use Rattle.weigh.specs.Inner.{WeighRead, Weighable}
 
 module _ (s p : List ℕ) (h : Sheet) (w : Weighable s p h) where
   -- the sheet's facts
@@ -57,67 +60,70 @@ module _ (s p : List ℕ) (h : Sheet) (w : Weighable s p h) where
       → leasts ≡ tabulate (h .n) (leastIn s p)
   leasts-read table totals helpands leasts t o a e = rw (← w .sheet) (e ∙ rw (a, padded-same (helpandsOf p (h .n)), o, t))
 
--- ---- one law for each way that the checks of a pair can go
+-- ---- the ways out
 
-module _ (s p : List ℕ) (h : Sheet) (q : Plan) (r : Read s p h q) (size : ℕ) where
-  pub pair-differ : (h .n ≡ q .n → ⊥) → pairAnswer s p size ≡ refused 21
-  unfolding pairAnswer
-  pair-differ d = rw (← r .sheet, ← r .plan, ne-eqb (h .n) (q .n) d)
+module _ (s p out : List ℕ) where
+  -- the answer, and the buffer as it is then
+  abbrev pub Ends : WeighAnswer → List ℕ → Type 0
+  Ends a out₁ = (a ≡ weighAnswer s p (length out)) × (out₁ ≡ weighBytes s p out)
 
-  pub pair-primary : h .n ≡ q .n → q .kind ≡ 0 → pairAnswer s p size ≡ refused 24
-  unfolding pairAnswer
-  pair-primary e z = rw (← r .sheet, ← r .plan, eq-eqb (h .n) (q .n) e, eq-eqb (q .kind) 0 z)
+  refuses : (k : ℕ) → k ≢ 0 → refused k ≡ weighAnswer s p (length out) → Ends (refused k) out
+  refuses k d e = (e, rw (← e, ne-eqb k 0 d))
 
-  pub pair-short : h .n ≡ q .n → (q .kind ≡ 0 → ⊥) → size < 4 * h .n → pairAnswer s p size ≡ refused 25
-  unfolding pairAnswer
-  pair-short e d l = rw (← r .sheet, ← r .plan, eq-eqb (h .n) (q .n) e, ne-eqb (q .kind) 0 d, lt-ltb size (4 * h .n) l)
-
-  pub pair-weighed : h .n ≡ q .n → (q .kind ≡ 0 → ⊥) → 4 * h .n ≤ size → pairAnswer s p size ≡ weighed (holdsIn s p)
-  unfolding pairAnswer
-  pair-weighed e d l = rw (← r .sheet, ← r .plan, eq-eqb (h .n) (q .n) e, ne-eqb (q .kind) 0 d, le-ltb size (4 * h .n) l)
-
-  pub weighable : h .n ≡ q .n → (q .kind ≡ 0 → ⊥) → Weighable s p h
-  weighable e d =
-      record {
-        sheet = r .sheet;
-        plan = ap (λ (a : PlanAnswer). a .refusal) (sym (r .plan));
-        nodes = ap (λ (a : PlanAnswer). a .n) (sym (r .plan)) ∙ sym e;
-        kind = λ z. d (ap (λ (a : PlanAnswer). a .kind) (r .plan) ∙ z);
-      }
-
--- ---- what is written
-
-module _ (s p : List ℕ) (h : Sheet) (q : Plan) (r : Read s p h q) (leasts : List ℕ) (l : leasts ≡ tabulate (h .n) (leastIn s p)) where
-  pub leasts-placed : (out : List ℕ) → 4 * h .n ≤ length out → sets out 0 (encode (take (h .n) leasts)) ≡ placed (leastBytes s p) out
-  unfolding leastBytes
-  leasts-placed out f =
-      let n : h .n ≡ readSheet s .n = ap (λ (a : SheetAnswer). a .n) (r .sheet) in
-      let e = length-encode (collect (readSheet s .n) (λ k. leastIn s p k ∷ [])) in
-      ap (λ (ws : List ℕ). sets out 0 (encode ws))
-      (ap (take (h .n)) l ∙ take-tabulate (h .n) (leastIn s p) ∙ ap (λ (m : ℕ). collect m (λ k. leastIn s p k ∷ [])) n)
-      ∙ sets-placed (leastBytes s p) out (omega (arith, e, length-row (leastIn s p) (readSheet s .n)))
-
-  pub leasts-hold : all (h .n) (λ k. leb (at leasts k) (h .limit)) ≡ holdsIn s p
-  leasts-hold =
-      rw (l, ← r .sheet)
-      (holds-tabulated (h .n) (at (helpandsOf p (h .n))) (at (totalsOf (h .n) (tableOf s (h .e)))) (h .limit))
-
--- a refusal leaves the buffer, and its number is not 0
-pub refused-both : (leasts out : List ℕ) (a : WeighAnswer) (k : ℕ) → (k ≡ 0 → ⊥) → a ≡ refused k
-    → (refused k ≡ a) × (out ≡ bytesAfter leasts a out)
-refused-both leasts out a k d e = rw e (refl, rw (ne-eqb k 0 d))
-
--- ---- one law for each way that the two readings can go
-
-module _ (s p : List ℕ) (size : ℕ) where
-  pub weigh-sheet : (k : ℕ) → k ≡ readSheet s .refusal → (k ≡ 0 → ⊥) → weighAnswer s p size ≡ refused k
+  pub ends-sheet : (k : ℕ) → k ≡ readSheet s .refusal → k ≢ 0 → Ends (refused k) out
   unfolding weighAnswer
-  weigh-sheet k e d = rw (← e, ne-eqb k 0 d)
+  ends-sheet k e d = refuses k d (rw (← e, ne-eqb k 0 d))
 
-  pub weigh-plan : 0 ≡ readSheet s .refusal → (k : ℕ) → k ≡ readPlan p .refusal → (k ≡ 0 → ⊥) → weighAnswer s p size ≡ refused k
+  pub ends-plan : 0 ≡ readSheet s .refusal → (k : ℕ) → k ≡ readPlan p .refusal → k ≢ 0 → Ends (refused k) out
   unfolding weighAnswer
-  weigh-plan z k e d = rw (← z, ← e, ne-eqb k 0 d)
+  ends-plan z k e d = refuses k d (rw (← z, ← e, ne-eqb k 0 d))
 
-  pub weigh-pair : 0 ≡ readSheet s .refusal → 0 ≡ readPlan p .refusal → weighAnswer s p size ≡ pairAnswer s p size
-  unfolding weighAnswer
-  weigh-pair z y = rw (← z, ← y)
+  module _ (h : Sheet) (q : Plan) (r : WeighRead s p h q) where
+    pub ends-differ : h .n ≢ q .n → Ends (refused 21) out
+    unfolding weighAnswer
+    ends-differ d = refuses 21 (λ z. omega arith) (rw (← r .sheet, ← r .plan, ne-eqb (h .n) (q .n) d))
+
+    module _ (same : h .n ≡ q .n) where
+      pub ends-primary : q .kind ≡ 0 → Ends (refused 24) out
+      unfolding weighAnswer
+      ends-primary z = refuses 24 (λ z. omega arith) (rw (← r .sheet, ← r .plan, eq-eqb (h .n) (q .n) same, eq-eqb (q .kind) 0 z))
+
+      module _ (tree : q .kind ≢ 0) where
+        pub ends-short : length out < 4 * h .n → Ends (refused 25) out
+        unfolding weighAnswer
+        ends-short l =
+            refuses 25 (λ z. omega arith)
+            (rw (← r .sheet, ← r .plan, eq-eqb (h .n) (q .n) same, ne-eqb (q .kind) 0 tree, lt-ltb (length out) (4 * h .n) l))
+
+        pub weighable : Weighable s p h
+        weighable =
+            record {
+              sheet = r .sheet;
+              plan = ap (λ (a : PlanAnswer). a .refusal) (sym (r .plan));
+              nodes = ap (λ (a : PlanAnswer). a .n) (sym (r .plan)) ∙ sym same;
+              kind = λ z. tree (ap (λ (a : PlanAnswer). a .kind) (r .plan) ∙ z);
+            }
+
+        -- the leasts were worked out, and there is room for them
+        module _ (long : 4 * h .n ≤ length out) (leasts : List ℕ) (l : leasts ≡ tabulate (h .n) (leastIn s p)) where
+          answered : weighed (holdsIn s p) ≡ weighAnswer s p (length out)
+          unfolding weighAnswer
+          answered =
+              rw (← r .sheet, ← r .plan, eq-eqb (h .n) (q .n) same, ne-eqb (q .kind) 0 tree, le-ltb (length out) (4 * h .n) long)
+
+          holding : all (h .n) (λ k. leb (at leasts k) (h .limit)) ≡ holdsIn s p
+          holding =
+              rw (l, ← r .sheet)
+              (holds-tabulated (h .n) (at (helpandsOf p (h .n))) (at (totalsOf (h .n) (tableOf s (h .e)))) (h .limit))
+
+          placing : sets out 0 (encode (take (h .n) leasts)) ≡ placed (leastBytes s p) out
+          unfolding leastBytes
+          placing =
+              let n : h .n ≡ readSheet s .n = ap (λ (a : SheetAnswer). a .n) (r .sheet) in
+              let size = length-encode (collect (readSheet s .n) (λ k. leastIn s p k ∷ [])) in
+              let row = ap (take (h .n)) l ∙ take-tabulate (h .n) (leastIn s p) ∙ ap (λ (m : ℕ). collect m (λ k. leastIn s p k ∷ [])) n in
+              ap (λ (ws : List ℕ). sets out 0 (encode ws)) row
+              ∙ sets-placed (leastBytes s p) out (omega (arith, size, length-row (leastIn s p) (readSheet s .n)))
+
+          pub ends-weighed : Ends (weighed (all (h .n) (λ k. leb (at leasts k) (h .limit)))) (sets out 0 (encode (take (h .n) leasts)))
+          ends-weighed = (ap weighed holding ∙ answered, placing ∙ rw (← answered))

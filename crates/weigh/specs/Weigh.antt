@@ -1,21 +1,18 @@
 -- Document 01, *Weigh*: "takes sheet and plan, writes N words of least under the sheet's limit, and says whether the tree holds."
 use mathlib.Core.Path.{_≡_}
-use mathlib.Core.Logic.{_≢_}
-use Prim.Native.Nat.{ℕ, _*_}
+use Prim.Native.Nat.{ℕ, _*_, _<_}
 use mathlib.Core.List.{List, [], _∷_}
-use mathlib.Core.Bool.{Bool, cond, not}
+use mathlib.Core.Bool.{Bool, not}
 use lib.Dec.{eqb, ltb}
-use lib.ListN.{length}
+use lib.ListN.{length, getD}
 use Rattle.fold.specs.Sum.{only}
 use Rattle.fold.specs.Collect.{collect}
 use Rattle.words.specs.Checks.{refuseIf, refuseAs}
-use Rattle.words.specs.Words.{encode}
-use Rattle.words.specs.Buffer.{placed}
-use Rattle.sheet.specs.declared.Sheet.{Sheet}
-use Rattle.sheet.specs.Sheet.{readSheet, refusalNumber as sheetNumber, accepted as sheetAccepted}
+use Rattle.words.specs.Words.{words, encode}
+use Rattle.words.specs.Buffer.{afterCall}
+use Rattle.sheet.specs.Sheet.{readSheet, refusalNumber as sheetNumber}
 use Rattle.arrays.specs.Arrays.{at}
-use Rattle.plan.specs.declared.Plan.{Plan}
-use Rattle.plan.specs.Plan.{readPlan, helpandsOf, refusalNumber as planNumber, accepted as planAccepted}
+use Rattle.plan.specs.Plan.{readPlan, helpandsOf, refusalNumber as planNumber}
 use Rattle.sheet.specs.Totals.{totalsIn}
 use Rattle.tree.specs.Weigh.{least, holds}
 use Rattle.weigh.specs.declared.WeighRefusal.{WeighRefusal}
@@ -58,42 +55,22 @@ holdsIn s p = holds (readSheet s .n) (at (helpandsOf p (readSheet s .n))) (at (t
 unfoldable pub leastBytes : List ℕ → List ℕ → List ℕ
 leastBytes s p = encode (collect (readSheet s .n) (λ k. leastIn s p k ∷ []))
 
--- ---- the checks, in the order written
-
--- 21, 24 and 25, with a buffer of so many bytes
-unfoldable pub pairAnswer : List ℕ → List ℕ → ℕ → WeighAnswer
-pairAnswer s p size =
-    refuseIf (not (eqb (readSheet s .n) (readPlan p .n))) (refused 21)
-    (refuseIf (eqb (readPlan p .kind) 0) (refused 24)
-    (refuseIf (ltb size (4 * readSheet s .n)) (refused 25)
-    (weighed (holdsIn s p))))
+-- ---- the checks, in the order written, with a buffer of so many bytes
 
 unfoldable pub weighAnswer : List ℕ → List ℕ → ℕ → WeighAnswer
 weighAnswer s p size =
     refuseAs refused (readSheet s .refusal)
     (refuseAs refused (readPlan p .refusal)
-    (pairAnswer s p size))
+    (refuseIf (not (eqb (readSheet s .n) (readPlan p .n))) (refused 21)
+    (refuseIf (eqb (readPlan p .kind) 0) (refused 24)
+    (refuseIf (ltb size (4 * readSheet s .n)) (refused 25)
+    (weighed (holdsIn s p))))))
 
--- the buffer afterwards: "N words of least", or as it was
-abbrev pub bytesAfter : List ℕ → WeighAnswer → List ℕ → List ℕ
-bytesAfter leasts a out = cond (eqb (a .refusal) 0) (placed leasts out) out
-
-abbrev pub pairBytes : List ℕ → List ℕ → List ℕ → List ℕ
-pairBytes s p out = bytesAfter (leastBytes s p) (pairAnswer s p (length out)) out
-
+-- the buffer afterwards
 abbrev pub weighBytes : List ℕ → List ℕ → List ℕ → List ℕ
-weighBytes s p out = bytesAfter (leastBytes s p) (weighAnswer s p (length out)) out
+weighBytes s p out = afterCall (weighAnswer s p (length out) .refusal) (leastBytes s p) out
 
--- ---- what the inner functions ask
+-- ---- demand 2, of an accepted call: the N words in front of the buffer are the leasts
 
--- the sheet and the plan were read as these
-pub record Read (s p : List ℕ) (h : Sheet) (q : Plan) : Type 0 where
-  pub sheet : sheetAccepted (h .n) (h .t) (h .e) (h .p) (h .limit) ≡ readSheet s
-  pub plan : planAccepted (q .n) (q .kind) (q .limit) ≡ readPlan p
-
--- and they can be weighed
-pub record Weighable (s p : List ℕ) (h : Sheet) : Type 0 where
-  pub sheet : sheetAccepted (h .n) (h .t) (h .e) (h .p) (h .limit) ≡ readSheet s
-  pub plan : readPlan p .refusal ≡ 0
-  pub nodes : readPlan p .n ≡ h .n
-  pub kind : readPlan p .kind ≢ 0
+pub record LeastsReadBack (s p buffer : List ℕ) : Type 0 where
+  pub leasts : (k : ℕ) → k < readSheet s .n → getD (words buffer) k 0 ≡ leastIn s p k

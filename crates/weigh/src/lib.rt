@@ -8,7 +8,8 @@ use sheet::SheetRefusal;
 ghost use mathlib.Core.Path.{_≡_};
 ghost use lib.ListN.{length};
 ghost use Rattle.arrays.specs.Arrays.{tabulate};
-ghost use Rattle.weigh.specs.Weigh.{Weighable, Read, leastIn, pairAnswer, pairBytes, weighAnswer, weighBytes, numberOf, answerOf};
+ghost use Rattle.weigh.specs.Weigh.{leastIn, weighAnswer, weighBytes, numberOf, answerOf};
+ghost use Rattle.weigh.specs.Inner.{WeighRead, Weighable};
 
 // Why weighing is refused, in the order of the checks.
 pub enum WeighRefusal {
@@ -47,9 +48,9 @@ fn leasts_of(sheet: &[u8], plan: &[u8], s: Sheet) -> [u32; 64]
 
 // Weighs a sheet and a plan that were read.
 fn weigh_read(sheet: &[u8], plan: &[u8], s: Sheet, p: Plan, least: &mut [u8]) -> Weighing
-    requires { ⌜ Read (now sheet) (now plan) s p ⌝ }
-    ensures answer { λ r. ⌜ answerOf r ≡ pairAnswer (now (sheet .entry)) (now (plan .entry)) (length (now (least .entry))) ⌝ }
-    ensures bytes { λ _. ⌜ now (least .exit) ≡ pairBytes (now (sheet .entry)) (now (plan .entry)) (now (least .entry)) ⌝ }
+    requires { ⌜ WeighRead (now sheet) (now plan) s p ⌝ }
+    ensures answer { λ r. ⌜ answerOf r ≡ weighAnswer (now (sheet .entry)) (now (plan .entry)) (length (now (least .entry))) ⌝ }
+    ensures bytes { λ _. ⌜ now (least .exit) ≡ weighBytes (now (sheet .entry)) (now (plan .entry)) (now (least .entry)) ⌝ }
 {
     if s.n != p.n {
         return Weighing::Refused(WeighRefusal::NodesDiffer);

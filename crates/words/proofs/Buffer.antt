@@ -5,12 +5,12 @@ use Prim.Native.Nat.{ℕ, suc, _+_, _*_, _≤_, _<_}
 use native.Mathlib.Nat.{suc-add, add-suc, add-zero, zero-add}
 use native.Mathlib.Numerals.{add-one, add-two, add-three}
 use native.Mathlib.Omega.{arith}
-use borrow.Author.Tests.{lt-ltb, le-ltb}
-use lib.ListN.{length, set, length-append}
-use lib.Seq.{sets, sets-eq, set-comm}
+use borrow.Author.Tests.{lt-ltb, le-ltb, eq-eqb}
+use lib.ListN.{length, take, drop, set, length-append}
+use lib.Seq.{sets, sets-eq, set-comm, take-at}
 use Rattle.words.specs.Words.{bytesOf, encode, putWord}
 use Rattle.words.specs.declared.Written.the-variants.{Bytes, Short}
-use Rattle.words.specs.Buffer.{placed, written, writing}
+use Rattle.words.specs.Buffer.{placed, afterCall, written, writing}
 use Rattle.words.proofs.Words.{length-encode, encode-append}
 
 -- a run of stores in two parts
@@ -68,3 +68,7 @@ module _ (rec out : List ℕ) (k : ℕ) (e : length rec ≡ k) where
 
   pub long-writes : k ≤ length out → (Bytes k ≡ writing rec out) × (placed rec out ≡ written rec out)
   long-writes h = rw (le-ltb (length out) (length rec) (omega arith)) (ap Bytes (sym e), refl)
+
+-- after an accepted call the bytes of the record's length are the record
+pub after-front : (refusal : ℕ) (rec out : List ℕ) → refusal ≡ 0 → take (length rec) (afterCall refusal rec out) ≡ rec
+after-front refusal rec out e = rw (eq-eqb refusal 0 e) (take-at rec (drop (length rec) out) (length rec) refl)

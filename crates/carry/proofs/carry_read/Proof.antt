@@ -2,43 +2,30 @@
 -- is 43. Assumes nothing.
 use borrow.Author.Needs.{needs}
 use mathlib.Core.Path.{_≡_, sym, _∙_}
-use mathlib.Core.Bool.{true, false}
+use mathlib.Core.Bool.{true}
 use mathlib.Core.List.{List}
-use native.Mathlib.Omega.{arith}
 use Prim.Native.Nat.{ℕ}
+use native.Mathlib.Omega.{arith}
 use borrow.Author.Tests.{not-true, not-false}
-use lib.ListN.{length}
 use denote.Ref.{now}
+use Rattle.sheet.specs.declared.Sheet.{Sheet}
+use Rattle.sheet.specs.Sheet.{accepted}
 use Rattle.sheet.specs.Write.{sheetBytes}
-use Rattle.sheet.proofs.Accepted.{sheet-unpackable}
+use Rattle.sheet.proofs.Accepted.{Accepted, sheet-unpackable}
+use Rattle.moves.specs.declared.Moves.{Moves}
 use Rattle.moves.specs.Moves.{routesOf, countsOf}
 use Rattle.transfer.specs.Apply.{sendsWithin}
-use Rattle.transfer.specs.Inner.{Ready}
-use Rattle.carry.specs.Carry.{withinIn, nextTable, nextSheet, pairAnswer}
-use Rattle.carry.proofs.Carried.{sheet-facts, ready, within-is, carried-is, pair-differ, pair-sends, wrote, pair-wrote, pair-unwritten, length-small, refused-both}
+use Rattle.carry.specs.Carry.{withinIn, nextTable}
+use Rattle.carry.proofs.Carried.{sheet-facts, ready, within-is, carried-is, wrote, ends-differ, ends-sends, ends-carried, ends-short}
+use Rattle.carry.proofs.Sizes.{length-most}
 use Rattle.carry.proofs.carry_read.Statement.{statement}
+use Rattle.transfer.specs.Inner.{Ready}
 use Rattle.carry.proofs.carry_read.Tie as tie
 
-returns : tie.Need-returns
-returns c =
-    let start = c .before .before .before .before .before .before in
-    let a = start .args in
-    let s = now (a .sheet) in
-    let m = now (a .moves) in
-    let size = length (now (a .next)) in
-    refused-both (nextSheet s m) (now (a .next)) (pairAnswer s m size) 41 (λ z. omega arith)
-    (pair-differ s m (a .s) (a .m) (start .pre) size (c .if1 .taken))
-
-unpack-requires : tie.Need-unpack-requires
-unpack-requires c κs =
-    let start = c .before .before .before .before .before .before .before in
-    let f = sheet-facts (now (start .args .sheet)) (now (start .args .moves)) (start .args .s) (start .args .m) (start .pre) in
-    (_, sheet-unpackable _ _ f)
-
--- past 41: the table of the sheet, and the test of the moves against it
-module _ (c : tie.After-unpack) where
+-- before the first check
+module _ (c : tie.After-struct-known2) where
   abbrev start : tie.Start
-  start = c .before .before .before .before .before .before .before .before
+  start = c .before .before .before .before .before
 
   abbrev sheet : List ℕ
   sheet = now (start .args .sheet)
@@ -46,89 +33,119 @@ module _ (c : tie.After-unpack) where
   abbrev moves : List ℕ
   moves = now (start .args .moves)
 
+  abbrev next : List ℕ
+  next = now (start .args .next)
+
+  abbrev head : Sheet
+  head = start .args .s
+
+  abbrev given : Moves
+  given = start .args .m
+
+  facts : Accepted sheet (accepted (head .n) (head .t) (head .e) (head .p) (head .limit))
+  facts = sheet-facts sheet moves head given (start .pre)
+
+returns : tie.Need-returns
+returns c =
+    let b = c .before in
+    ends-differ (sheet b) (moves b) (next b) (head b) (given b) (start b .pre) (c .if1 .taken)
+
+-- past 41: the table of the sheet, and the test of the moves against it
+module _ (c : tie.After-unpack) where
+  abbrev same : tie.Else1
+  same = c .before .before
+
+  abbrev begun : tie.After-struct-known2
+  begun = same .before
+
   abbrev e : ℕ
-  e = start .args .m .e
+  e = given begun .e
 
-  ready-here : Ready (c .unpack .result) moves e
-  ready-here = ready sheet moves (start .args .s) (start .args .m) (start .pre) (c .unpack .result) (c .unpack .ensures)
+  ready-here : Ready (c .unpack .result) (moves begun) e
+  ready-here = ready (sheet begun) (moves begun) (head begun) (given begun) (start begun .pre) (c .unpack .result) (c .unpack .ensures)
 
-  within-here : sendsWithin (c .unpack .result) (routesOf moves e) (countsOf moves e) ≡ withinIn sheet moves
-  within-here = within-is sheet moves (start .args .s) (start .args .m) (start .pre) (c .unpack .result) (c .unpack .ensures)
+  within-here : sendsWithin (c .unpack .result) (routesOf (moves begun) e) (countsOf (moves begun) e) ≡ withinIn (sheet begun) (moves begun)
+  within-here = within-is (sheet begun) (moves begun) (head begun) (given begun) (start begun .pre) (c .unpack .result) (c .unpack .ensures)
+
+abbrev unpacked : tie.After-sends-within → tie.After-unpack
+unpacked c = c .before .before .before
 
 returns-2 : tie.Need-returns-2
 returns-2 c =
     let w = c .before in
-    let u = w .before .before .before in
-    let a = start u .args in
-    let size = length (now (a .next)) in
-    let f : withinIn (sheet u) (moves u) ≡ false = sym (within-here u) ∙ sym (w .sends-within .ensures) ∙ not-true _ (c .if2 .taken) in
-    refused-both (nextSheet (sheet u) (moves u)) (now (a .next)) (pairAnswer (sheet u) (moves u) size) 42 (λ z. omega arith)
-    (pair-sends (sheet u) (moves u) (a .s) (a .m) (start u .pre) size (u .before .before .if1 .left) f)
+    let u = unpacked w in
+    let b = begun u in
+    ends-sends (sheet b) (moves b) (next b) (head b) (given b) (start b .pre) (same u .if1 .left)
+    (sym (within-here u) ∙ sym (w .sends-within .ensures) ∙ not-true _ (c .if2 .taken))
 
 apply-moves-requires : tie.Need-apply-moves-requires
 apply-moves-requires c κs =
     let w = c .before .before in
-    let u = w .before .before .before in
-    (ready-here u, sym (w .sends-within .ensures) ∙ not-false _ (c .before .if2 .left))
+    (ready-here (unpacked w), sym (w .sends-within .ensures) ∙ not-false _ (c .before .if2 .left))
 
-write-sheet-requires : tie.Need-write-sheet-requires
-write-sheet-requires c κs =
-    let b = start (c .before .before .before .before .before .before .before .before) in
-    sheet-facts (now (b .args .sheet)) (now (b .args .moves)) (b .args .s) (b .args .m) (b .pre) .n-high
+-- past 42: the moves were applied to the table
+module _ (c : tie.After-apply-moves) where
+  abbrev passed : tie.Else2
+  passed = c .before .before
 
--- past 42: the table after the moves is handed to the writer
+  abbrev read : tie.After-unpack
+  read = unpacked (passed .before)
+
+  abbrev origin : tie.After-struct-known2
+  origin = begun read
+
+  within : withinIn (sheet origin) (moves origin) ≡ true
+  within = sym (within-here read) ∙ sym (passed .before .sends-within .ensures) ∙ not-false _ (passed .if2 .left)
+
+  abbrev table : List ℕ
+  table = c .apply-moves .last .0
+
+  table-is : table ≡ nextTable (sheet origin) (moves origin)
+  table-is =
+      c .apply-moves .ensures
+      ∙ carried-is (sheet origin) (moves origin) (head origin) (given origin) (start origin .pre) (read .unpack .result) (read .unpack .ensures)
+
+-- and the table was written
 module _ (c : tie.After-write-sheet) where
   abbrev applied : tie.After-apply-moves
   applied = c .before .before .before
 
-  abbrev passed : tie.Else2
-  passed = applied .before .before
+  abbrev b₀ : tie.After-struct-known2
+  b₀ = origin applied
 
-  abbrev read : tie.After-unpack
-  read = passed .before .before .before .before
+  abbrev rec : List ℕ
+  rec = sheetBytes (head b₀ .n) (head b₀ .t) (table applied)
 
-  within : withinIn (sheet read) (moves read) ≡ true
-  within = sym (within-here read) ∙ sym (passed .before .sends-within .ensures) ∙ not-false _ (passed .if2 .left)
-
-  abbrev table : List ℕ
-  table = applied .apply-moves .last .0
-
-  table-is : table ≡ nextTable (sheet read) (moves read)
-  table-is =
-      let b = start read in
-      applied .apply-moves .ensures ∙ carried-is (sheet read) (moves read) (b .args .s) (b .args .m) (b .pre) (read .unpack .result) (read .unpack .ensures)
+abbrev answered : tie.After-slice-known2 → tie.After-write-sheet
+answered c = c .before .before
 
 returns-3 : tie.Need-returns-3
 returns-3 c =
-    let w = c .before .before .before .before .before in
-    let u = read w in
-    let a = start u .args in
-    let n = u .before .before .if1 .left in
     let size = c .before .size .given in
-    let p = pair-wrote (sheet u) (moves u) (a .s) (a .m) (start u .pre) (table w) (table-is w) (now (a .next)) n (within w) (size .0 .0)
-    (sym (size .1) ∙ w .write-sheet .ensures .0) in
-    (p .0, w .write-sheet .ensures .1 ∙ p .1)
+    let w = answered (c .before .before .before) in
+    let a = applied w in
+    let b = b₀ w in
+    let x = ends-carried (sheet b) (moves b) (next b) (head b) (given b) (start b .pre) (same (read a) .if1 .left) (within a) (table a) (table-is a)
+    (size .0 .0) (sym (size .1) ∙ w .write-sheet .ensures .0) in
+    (x .0, w .write-sheet .ensures .1 ∙ x .1)
 
 returns-4 : tie.Need-returns-4
 returns-4 c =
-    let w = c .before .before .before .before in
-    let u = read w in
-    let a = start u .args in
-    let n = u .before .before .if1 .left in
-    let p = pair-unwritten (sheet u) (moves u) (a .s) (a .m) (start u .pre) (table w) (table-is w) (now (a .next)) n (within w)
+    let w = answered (c .before .before) in
+    let a = applied w in
+    let b = b₀ w in
+    let x = ends-short (sheet b) (moves b) (next b) (head b) (given b) (start b .pre) (same (read a) .if1 .left) (within a) (table a) (table-is a)
     (sym (c .enum-told .given .1) ∙ w .write-sheet .ensures .0) in
-    (p .0, w .write-sheet .ensures .1 ∙ p .1)
+    (x .0, w .write-sheet .ensures .1 ∙ x .1)
 
 -- the length that the writer gives fits
 cast : tie.Need-cast-t23
 cast c =
-    let w = c .before .before .before .before .before in
-    let u = read w in
-    let a = start u .args in
     let size = c .before .size .given in
-    let z = wrote (sheetBytes (a .s .n) (a .s .t) (table w)) (now (a .next)) (size .0 .0) (sym (size .1) ∙ w .write-sheet .ensures .0) in
-    let h = sheet-facts (sheet u) (moves u) (a .s) (a .m) (start u .pre) .n-high in
-    omega (arith, z .0, length-small (a .s .n) (a .s .t) (table w) h)
+    let w = answered (c .before .before .before) in
+    let h = head (b₀ w) in
+    let z = wrote (rec w) (next (b₀ w)) (size .0 .0) (sym (size .1) ∙ w .write-sheet .ensures .0) in
+    omega (arith, z .0, length-most (h .n) (h .t) (table (applied w)) (facts (b₀ w) .n-high))
 
 pub carry-read-spec : {M : Type 1} → statement M
 carry-read-spec =
@@ -136,12 +153,12 @@ carry-read-spec =
     (tie.spec
     returns
     (λ c. search needs)  -- cast-unpack
-    unpack-requires
+    (λ c κs. (_, sheet-unpackable _ _ (facts (c .before .before))))  -- unpack-requires
     (λ c. search needs)  -- cast-e
     (λ c κs. ready-here (c .before .before))  -- sends-within-requires
     returns-2
     apply-moves-requires
-    write-sheet-requires
+    (λ c κs. facts (origin (c .before .before)) .n-high)  -- write-sheet-requires
     (λ c. search needs)  -- enum-known-size
     cast
     (λ c. search needs)  -- enum-told

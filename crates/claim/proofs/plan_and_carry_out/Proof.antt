@@ -1,88 +1,75 @@
--- `claim::plan_and_carry_out` meets its contract: what is handed on is the moves just written. Assumes nothing.
+-- `claim::plan_and_carry_out` meets its contract: what is handed on is the moves just written, and so demand 3 holds. Assumes nothing.
 use borrow.Author.Needs.{needs}
-use mathlib.Core.Path.{_≡_, sym, ap, _∙_}
+use mathlib.Core.Path.{_≡_, refl, sym, ap}
 use mathlib.Core.List.{List}
-use Prim.Native.Nat.{ℕ}
-use lib.ListN.{length}
+use Prim.Native.Nat.{ℕ, _≤_}
+use native.Mathlib.Omega.{arith}
+use lib.ListN.{length, take}
+use lib.Seq.{length-take-le}
 use denote.Ref.{now}
-use Rattle.planner.specs.Step.{planned, numberOf, answerOf, stepAnswer}
-use Rattle.planner.specs.declared.PlannedStep.{PlannedStep}
-use Rattle.planner.proofs.Ways.{number-more}
-use Rattle.carry.specs.Carry.{answerOf as carryAnswerOf}
-use Rattle.claim.proofs.Outcomes.{size-inside, outcome-refused, outcome-planned}
+use Rattle.planner.specs.declared.StepAnswer.{StepAnswer}
+use Rattle.planner.specs.Step.{stepAnswer, planAfter, movesAfter}
+use Rattle.planner.proofs.Sizes.{moves-inside}
+use Rattle.carry.specs.declared.CarryAnswer.{CarryAnswer}
+use Rattle.carry.specs.Carry.{carryAnswer, nextAfter}
+use Rattle.claim.specs.Claim.{Demand3}
+use Rattle.claim.proofs.Demand.{demand}
 use Rattle.claim.proofs.plan_and_carry_out.Statement.{statement}
 use Rattle.claim.proofs.plan_and_carry_out.Tie as tie
 
-module _ (c : tie.Start) where
+-- the demand, of answers and buffers that are what the contracts say
+handed-on : (s o p m x : List ℕ) (a : StepAnswer) (c : CarryAnswer) (p₁ m₁ x₁ : List ℕ)
+    → a ≡ stepAnswer s o (length p) (length m) → p₁ ≡ planAfter s o p (length m) → m₁ ≡ movesAfter s o m (length p)
+    → c ≡ carryAnswer s (take (a .moves) m₁) (length x) → x₁ ≡ nextAfter s (take (a .moves) m₁) x → Demand3 s o p m x a c p₁ x₁
+handed-on s o p m x a c p₁ m₁ x₁ e f g h i = rw (h, i, g, f, e) (demand s o p m x)
+
+-- the step was planned or refused
+module _ (c : tie.After-firrozka-plan-step) where
+  abbrev begun : tie.After-slice-known3
+  begun = c .before .before .before
+
+  abbrev start : tie.Start
+  start = begun .before .before .before .before .before
+
   abbrev s : List ℕ
-  s = now (c .args .sheet)
+  s = now (start .args .sheet)
 
   abbrev o : List ℕ
-  o = now (c .args .old)
+  o = now (start .args .old)
 
   abbrev p : List ℕ
-  p = now (c .args .plan)
+  p = now (start .args .plan)
 
   abbrev m : List ℕ
-  m = now (c .args .moves)
+  m = now (start .args .moves)
 
   abbrev x : List ℕ
-  x = now (c .args .next)
+  x = now (start .args .next)
+
+  size-inside : c .firrozka-plan-step .result .moves ≤ length m
+  size-inside = omega (arith, ap (λ (a : StepAnswer). a .moves) (c .firrozka-plan-step .ensures .0), moves-inside s o (length p) (length m))
+
+abbrev stepped : tie.After-struct-known → tie.After-firrozka-plan-step
+stepped c = c .before .before .before .before .before
 
 returns : tie.Need-returns
 returns c =
-    let r = c .before in
-    let w = r .before .before .before .before .before .before in
-    let b = w .before .before .before .before .before .before .before .before in
-    let k = r .r .given .0 .0 in
-    outcome-refused (s b) (o b) (p b) (m b) (x b) (numberOf k) _ _ (number-more k) (ap answerOf (sym (r .r .given .1)) ∙ w .plan-step .ensures .0) (w .plan-step .ensures .1)
-
--- the step was planned
-module _ (c : tie.After-p) where
-  abbrev step : tie.After-plan-step
-  step = c .before .before .before .before .before .before
-
-  abbrev start : tie.Start
-  start = step .before .before .before .before .before .before .before .before
-
-  abbrev given : PlannedStep
-  given = c .p .given .0 .0
-
-  is-planned : planned (given .kind) (given .limit) (given .plan) (given .moves) ≡ stepAnswer (s start) (o start) (length (p start)) (length (m start))
-  is-planned = ap answerOf (sym (c .p .given .1)) ∙ step .plan-step .ensures .0
-
-part-carry-out-end : tie.Need-part-carry-out-end
-part-carry-out-end c =
-    let q = c .before .before .before in
-    let b = start q in
-    let g = given q in
-    size-inside (s b) (o b) (p b) (m b) (x b) (g .kind) (g .limit) (g .plan) (g .moves) (is-planned q) _ (step q .plan-step .ensures .1 .1)
-
-returns-2 : tie.Need-returns-2
-returns-2 c =
     let y = c .before .before in
-    let q = y .before .before .before .before .before .before in
-    let b = start q in
-    let g = given q in
-    let e = step q .plan-step .ensures .1 in
-    outcome-planned (s b) (o b) (p b) (m b) (x b) (g .kind) (g .limit) (g .plan) (g .moves) (is-planned q) _ (e .1) (carryAnswerOf (y .carry-out .result)) _ _ (e .0) (y .carry-out .ensures)
+    let w = stepped (y .before .before .before) in
+    let e = w .firrozka-plan-step .ensures in
+    let f = y .firrozka-carry-out .ensures in
+    (e .0, (e .1 .0, (e .1 .1, (f .0, (f .1, handed-on (s w) (o w) (p w) (m w) (x w) _ _ _ _ _ (e .0) (e .1 .0) (e .1 .1) (f .0) (f .1))))))
 
 pub plan-and-carry-out-spec : {M : Type 1} → statement M
 plan-and-carry-out-spec =
     tie.close
     (tie.spec
-    (λ c κs. search needs)  -- plan-step-requires
-    (λ c. search needs)  -- enum-known-r
-    (λ c. search needs)  -- enum-known-p
+    (λ c κs. search needs)  -- firrozka-plan-step-requires
     (λ c. search needs)  -- cast-size
-    (λ c. search needs)  -- sub-carry-out
-    (λ c. search needs)  -- part-carry-out-start
-    part-carry-out-end
-    (λ c κs. search needs)  -- carry-out-requires
+    (λ c. omega (arith, size-inside (stepped c)))  -- slice-reshare-prefix-firrozka-carry-out
+    (λ c. sym (length-take-le _ _ (omega (arith, size-inside (stepped (c .before))))))  -- slice-aggregate-firrozka-carry-out
+    (λ c κs. search needs)  -- firrozka-carry-out-requires
     (λ c. search needs)  -- same-length
     (λ c. search needs)  -- same-length-2
-    returns
     (λ c. search needs)  -- same-length-3
-    (λ c. search needs)  -- same-length-4
-    (λ c. search needs)  -- same-length-5
-    returns-2)
+    returns)

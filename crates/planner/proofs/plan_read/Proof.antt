@@ -7,107 +7,130 @@ use Prim.Native.Nat.{ℕ}
 use native.Mathlib.Omega.{arith}
 use denote.Ref.{now}
 use Rattle.sheet.specs.declared.Sheet.{Sheet}
-use Rattle.sheet.proofs.Accepted.{sheet-unpackable}
+use Rattle.sheet.specs.Sheet.{accepted}
+use Rattle.sheet.proofs.Accepted.{Accepted, sheet-unpackable}
 use Rattle.planner.specs.Step.{answerOf}
 use Rattle.planner.proofs.Facts.{facts, sum-within, old-size}
-use Rattle.planner.proofs.Records.{Here, product-small, before-deciding, here-allotted, here-few, here-long, here-answers}
+use Rattle.planner.proofs.Records.{Here, product-small, before-deciding, here-allotted, here-few, here-long, here-ends}
 use Rattle.planner.proofs.plan_read.Statement.{statement}
 use Rattle.planner.proofs.plan_read.Tie as tie
 
-module _ (c : tie.Start) where
+-- before the table is unpacked
+module _ (c : tie.After-struct-known2) where
+  abbrev lent : tie.After-slice-known2
+  lent = c .before .before
+
+  abbrev start : tie.Start
+  start = lent .before .before .before .before
+
   abbrev sheet : List ℕ
-  sheet = now (c .args .sheet)
+  sheet = now (start .args .sheet)
 
   abbrev old : List ℕ
-  old = now (c .args .old)
+  old = now (start .args .old)
 
   abbrev s : Sheet
-  s = c .args .s
+  s = start .args .s
 
   abbrev tree : Bool
-  tree = c .args .tree
+  tree = start .args .tree
 
-unpack-requires : tie.Need-unpack-requires
-unpack-requires c κs =
-    let b = c .before .before .before .before .before .before in
-    let f = facts (sheet b) (old b) (s b) (tree b) (b .pre) in
-    (_, sheet-unpackable _ _ f)
+  known : Accepted sheet (accepted (s .n) (s .t) (s .e) (s .p) (s .limit))
+  known = facts sheet old s tree (start .pre)
+
+-- the totals were summed
+module _ (c : tie.After-totals) where
+  abbrev unpacked : tie.After-unpack
+  unpacked = c .before .before
+
+  abbrev b₀ : tie.After-struct-known2
+  b₀ = unpacked .before
 
 totals-requires : tie.Need-totals-requires
 totals-requires c κs =
     let u = c .before in
-    let b = u .before .before .before .before .before .before .before in
-    (facts (sheet b) (old b) (s b) (tree b) (b .pre) .n-high, rw (u .unpack .ensures) (sum-within (sheet b) (old b) (s b) (tree b) (b .pre)))
+    let b = u .before in
+    (known b .n-high, rw (u .unpack .ensures) (sum-within (sheet b) (old b) (s b) (tree b) (start b .pre)))
 
 old-helpands-requires : tie.Need-old-helpands-requires
-old-helpands-requires c κs =
-    let b = c .before .before .before .before .before .before .before .before .before in
-    (facts (sheet b) (old b) (s b) (tree b) (b .pre) .n-high, old-size (sheet b) (old b) (s b) (tree b) (b .pre))
+old-helpands-requires c κs = let b = b₀ c in (known b .n-high, old-size (sheet b) (old b) (s b) (tree b) (start b .pre))
 
 decide-requires : tie.Need-decide-requires
 decide-requires c κs =
-    let u = c .before .before .before .before in
-    let b = u .before .before .before .before .before .before .before in
-    let t = c .before .before in
-    let v = c .before in
-    let f = facts (sheet b) (old b) (s b) (tree b) (b .pre) in
-    let w = before-deciding (sheet b) (old b) (s b) (tree b) (b .pre) (u .unpack .result) (t .totals .result) (v .old-helpands .result) (u .unpack .ensures) (t .totals .ensures) (v .old-helpands .ensures) in
-    (f .n-low, f .n-high, t .totals .ensures, w .0, f .sum .within, w .1, w .2)
+    let o = c .before in
+    let t = o .before in
+    let u = unpacked t in
+    let b = b₀ t in
+    let w = before-deciding (sheet b) (old b) (s b) (tree b) (start b .pre) (u .unpack .result) (t .totals .result) (o .old-helpands .result)
+    (u .unpack .ensures) (t .totals .ensures) (o .old-helpands .ensures) in
+    (known b .n-low, known b .n-high, t .totals .ensures, w .0, known b .sum .within, w .1, w .2)
 
 -- the decision was made
 module _ (c : tie.After-decide) where
-  abbrev start : tie.Start
-  start = c .before .before .before .before .before .before .before .before .before .before .before .before
+  abbrev read : tie.After-old-helpands
+  read = c .before .before
+
+  abbrev summed : tie.After-totals
+  summed = read .before
+
+  abbrev begun : tie.After-struct-known2
+  begun = b₀ summed
 
   abbrev table : List ℕ
-  table = c .before .before .before .before .before .unpack .result
+  table = unpacked summed .unpack .result
 
-  abbrev totals : List ℕ
-  totals = c .before .before .before .totals .result
-
-  abbrev helpands : List ℕ
-  helpands = c .before .before .old-helpands .result
-
-  worked : Here (sheet start) (old start) (s start) (tree start) (start .pre) table totals helpands (c .decide .result)
+  worked : Here (sheet begun) (old begun) (s begun) (tree begun) (start begun .pre) table (summed .totals .result) (read .old-helpands .result)
+      (c .decide .result)
   worked =
       record {
-        table-is = c .before .before .before .before .before .unpack .ensures;
-        totals-is = c .before .before .before .totals .ensures;
-        old-is = c .before .before .old-helpands .ensures;
+        table-is = unpacked summed .unpack .ensures;
+        totals-is = summed .totals .ensures;
+        old-is = read .old-helpands .ensures;
         decision-is = c .decide .ensures;
       }
 
+-- the two arrays for the moves are there
+abbrev decided : tie.After-counts → tie.After-decide
+decided c = c .before .before .before .before .before
+
 all-moves-requires : tie.Need-all-moves-requires
 all-moves-requires c κs =
-    let d = c .before .before .before .before .before in
-    let b = start d in
-    let small = product-small (sheet b) (old b) (s b) (tree b) (b .pre) in (
-      facts (sheet b) (old b) (s b) (tree b) (b .pre) .n-high,
+    let d = decided c in
+    let b = begun d in
+    let small = product-small (sheet b) (old b) (s b) (tree b) (start b .pre) in (
+      known b .n-high,
       worked d .totals-is,
-      here-allotted (sheet b) (old b) (s b) (tree b) (b .pre) (table d) (totals d) (helpands d) (d .decide .result) (worked d),
+      here-allotted (sheet b) (old b) (s b) (tree b) (start b .pre) _ _ _ _ (worked d),
       small,
       small,
     )
 
+-- the moves were worked out
+abbrev handed : tie.After-counts3 → tie.After-write-records-arg2
+handed c = c .before .before
+
+abbrev moved : tie.After-counts3 → tie.After-all-moves
+moved c = handed c .before .before .before .before
+
 write-records-requires : tie.Need-write-records-requires
 write-records-requires c κs =
-    let m = c .before .before .before .before .before .before in
-    let d = m .before .before .before .before .before .before in
-    let b = start d in
+    let m = moved c in
+    let d = decided (m .before) in
+    let b = begun d in
     let e = m .all-moves .ensures in
-    let few = here-few (sheet b) (old b) (s b) (tree b) (b .pre) (table d) (totals d) (helpands d) (d .decide .result) (worked d) in
-    let long = here-long (sheet b) (old b) (s b) (tree b) (b .pre) (table d) (totals d) (helpands d) (d .decide .result) (worked d) (m .all-moves .result) _ _ _ _ (e .0) (e .1 .0) (e .1 .1) in
-    (facts (sheet b) (old b) (s b) (tree b) (b .pre) .n-high, omega (arith, few, e .0), long .0, long .1)
+    let few = here-few (sheet b) (old b) (s b) (tree b) (start b .pre) _ _ _ _ (worked d) in
+    let long = here-long (sheet b) (old b) (s b) (tree b) (start b .pre) _ _ _ _ (worked d) _ _ _ _ _ (e .0) (e .1 .0) (e .1 .1) in
+    (known b .n-high, omega (arith, few, e .0), long .0, long .1)
 
 returns : tie.Need-returns
 returns c =
     let w = c .before .before .before .before in
-    let m = w .before .before .before .before .before .before .before in
-    let d = m .before .before .before .before .before .before in
-    let b = start d in
+    let m = moved (w .before) in
+    let d = decided (m .before) in
+    let b = begun d in
     let e = m .all-moves .ensures in
-    here-answers (sheet b) (old b) (s b) (tree b) (b .pre) (table d) (totals d) (helpands d) (d .decide .result) (worked d) (m .all-moves .result) _ _ _ _ (e .0) (e .1 .0) (e .1 .1)
-    (answerOf (w .write-records .result)) (now (b .args .plan)) (now (b .args .moves)) _ _ (w .write-records .ensures)
+    here-ends (sheet b) (old b) (s b) (tree b) (start b .pre) _ _ _ _ (worked d) _ _ _ _ _ (e .0) (e .1 .0) (e .1 .1)
+    (answerOf (w .write-records .result)) (now (start b .args .plan)) (now (start b .args .moves)) _ _ (w .write-records .ensures)
 
 pub plan-read-spec : {M : Type 1} → statement M
 plan-read-spec =
@@ -115,7 +138,7 @@ plan-read-spec =
     (tie.spec
     (λ c. search needs)  -- cast-nodes
     (λ c. search needs)  -- cast-unpack
-    unpack-requires
+    (λ c κs. (_, sheet-unpackable _ _ (known c)))  -- unpack-requires
     totals-requires
     old-helpands-requires
     decide-requires

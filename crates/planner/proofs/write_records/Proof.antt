@@ -9,45 +9,64 @@ use denote.Ref.{now}
 use Rattle.moves.specs.Write.{movesBytes}
 use Rattle.moves.proofs.Laws.{length-moves}
 use Rattle.plan.proofs.Writing.{length-plan}
-use Rattle.planner.specs.Step.{planOf}
+use Rattle.decide.specs.declared.Decision.{Decision}
+use Rattle.planner.specs.Step.{planRecord}
 use Rattle.planner.proofs.Ways.{writes-plan-short, writes-moves-short, writes-both}
 use Rattle.planner.proofs.write_records.Statement.{statement}
 use Rattle.planner.proofs.write_records.Tie as tie
 
-module _ (c : tie.Start) where
+-- before the first test
+module _ (c : tie.After-shared-slice-known2) where
+  abbrev start : tie.Start
+  start = c .before .before .before .before
+
+  abbrev d : Decision
+  d = start .args .d
+
+  abbrev limit : ℕ
+  limit = start .args .limit
+
   abbrev plan : List ℕ
-  plan = planOf (c .args .n) (c .args .limit) (c .args .d)
+  plan = planRecord (start .args .n) limit d
 
   abbrev moves : List ℕ
-  moves = movesBytes (c .args .n) (c .args .e) (now (c .args .routes)) (now (c .args .counts))
+  moves = movesBytes (start .args .n) (start .args .e) (now (start .args .routes)) (now (start .args .counts))
 
-  plan-size : length plan ≡ 4 * (3 + 2 * c .args .n)
+  abbrev plan-out : List ℕ
+  plan-out = now (start .args .plan)
+
+  abbrev moves-out : List ℕ
+  moves-out = now (start .args .moves)
+
+  plan-size : length plan ≡ 4 * (3 + 2 * start .args .n)
   plan-size =
-      let d = c .args .d in
+      let few = start .pre .0 in
       let h : (length (d .helpands) ≡ 64) × (length (d .shares) ≡ 64) = search needs in
-      length-plan (c .args .n) (d .kind) (c .args .limit) (d .helpands) (d .shares) (omega (arith, c .pre .0)) (omega (arith, c .pre .0))
+      length-plan (start .args .n) (d .kind) limit (d .helpands) (d .shares) (omega (arith, few)) (omega (arith, few))
 
-  moves-size : length moves ≡ 4 * (2 + 2 * c .args .e)
-  moves-size = length-moves (c .args .n) (c .args .e) (now (c .args .routes)) (now (c .args .counts)) (c .pre .2) (c .pre .3)
+  moves-size : length moves ≡ 4 * (2 + 2 * start .args .e)
+  moves-size = let q = start .pre in length-moves (start .args .n) (start .args .e) _ _ (q .2) (q .3)
 
 returns : tie.Need-returns
 returns c =
-    let s = c .before .before .before .before .before in
-    writes-plan-short (s .args .d .kind) (s .args .limit) (plan s) (moves s) (now (s .args .plan)) (now (s .args .moves)) _ (plan-size s) (c .if1 .taken)
+    let b = c .before in
+    writes-plan-short (d b .kind) (limit b) (plan b) (moves b) (plan-out b) (moves-out b) _ (plan-size b) (c .if1 .taken)
 
 returns-2 : tie.Need-returns-2
 returns-2 c =
-    let s = c .before .before .before .before .before .before in
-    writes-moves-short (s .args .d .kind) (s .args .limit) (plan s) (moves s) (now (s .args .plan)) (now (s .args .moves)) _ (plan-size s) (c .before .if1 .left) _ (moves-size s) (c .if2 .taken)
+    let b = c .before .before in
+    writes-moves-short (d b .kind) (limit b) (plan b) (moves b) (plan-out b) (moves-out b) _ (plan-size b) (c .before .if1 .left) _ (moves-size b)
+    (c .if2 .taken)
 
 returns-3 : tie.Need-returns-3
 returns-3 c =
-    let m = c .before .before in
-    let p = m .before .before .before .before in
-    let e = p .before .before .before .before in
-    let s = e .before .before .before .before .before .before in
-    let w = writes-both (s .args .d .kind) (s .args .limit) (plan s) (moves s) (now (s .args .plan)) (now (s .args .moves)) _ (plan-size s) (e .before .if1 .left) _ (moves-size s) (e .if2 .left) in
-    (w .0, (p .put-plan .ensures ∙ w .1 .0, m .put-moves .ensures ∙ w .1 .1))
+    let p = c .before .before .before .before in
+    let e = p .before .before .before in
+    let b = e .before .before in
+    let put = p .put-records .ensures in
+    let w = writes-both (d b .kind) (limit b) (plan b) (moves b) (plan-out b) (moves-out b) _ (plan-size b) (e .before .if1 .left) _ (moves-size b)
+    (e .if2 .left) in
+    (w .0, (put .0 ∙ w .1 .0, put .1 ∙ w .1 .1))
 
 pub write-records-spec : {M : Type 1} → statement M
 write-records-spec =
@@ -61,10 +80,9 @@ write-records-spec =
     (λ c. search needs)  -- add-moves-size
     (λ c. search needs)  -- mul-moves-size-2
     returns-2
-    (λ c κs. search needs)  -- put-plan-requires
-    (λ c κs. search needs)  -- put-moves-requires
-    (λ c. search needs)  -- cast-t24
-    (λ c. search needs)  -- cast-t25
+    (λ c κs. search needs)  -- put-records-requires
+    (λ c. search needs)  -- cast-t22
+    (λ c. search needs)  -- cast-t23
     (λ c. search needs)  -- same-length
     (λ c. search needs)  -- same-length-2
     returns-3)

@@ -1,68 +1,66 @@
--- `weigh::weigh` meets its contract: the sheet's refusal, then the plan's, then what the pair of them gives. Assumes nothing.
+-- `weigh::weigh` meets its contract: the sheet's refusal, then the plan's, then what weighing both gives. Assumes nothing.
 use borrow.Author.Needs.{needs}
 use mathlib.Core.Path.{_≡_, sym, ap, _∙_}
+use mathlib.Core.List.{List}
+use Prim.Native.Nat.{ℕ}
 use native.Mathlib.Omega.{arith}
-use lib.ListN.{length}
 use denote.Ref.{now}
 use Rattle.sheet.specs.declared.SheetAnswer.{SheetAnswer}
-use Rattle.plan.specs.declared.PlanAnswer.{PlanAnswer}
-use Rattle.plan.proofs.Answers.{number-more as plan-more}
-use Rattle.sheet.proofs.Answers.{number-more as sheet-more}
-use Rattle.sheet.specs.declared.SheetReading.the-variants as Sheet
+use Rattle.sheet.specs.declared.SheetReading.the-variants as sheet-way
 use Rattle.sheet.specs.Sheet.{readSheet, answerOf as sheetAnswer, refusalNumber as sheetNumber}
+use Rattle.sheet.proofs.Answers.{number-more as sheet-more}
+use Rattle.plan.specs.declared.PlanAnswer.{PlanAnswer}
 use Rattle.plan.specs.Plan.{answerOf as planAnswer, refusalNumber as planNumber}
-use Rattle.weigh.specs.Weigh.{leastBytes, weighAnswer}
-use Rattle.weigh.proofs.Weighed.{refused-both, weigh-sheet, weigh-plan, weigh-pair}
+use Rattle.plan.proofs.Answers.{number-more as plan-more}
+use Rattle.weigh.proofs.Weighed.{ends-sheet, ends-plan}
 use Rattle.weigh.proofs.weigh.Statement.{statement}
 use Rattle.weigh.proofs.weigh.Tie as tie
 
+-- the sheet was read
+module _ (c : tie.After-read-sheet) where
+  abbrev start : tie.Start
+  start = c .before .before .before .before
+
+  abbrev sheet : List ℕ
+  sheet = now (start .args .sheet)
+
+  abbrev plan : List ℕ
+  plan = now (start .args .plan)
+
+  abbrev least : List ℕ
+  least = now (start .args .least)
+
 returns : tie.Need-returns
 returns c =
-    let r = c .before in
-    let f = r .before .before in
-    let a = f .before .before .before .before .args in
-    let k = sheetNumber (r .r .given .0 .0) in
-    let d : k ≡ 0 → ⊥ = λ z. omega (arith, sheet-more (r .r .given .0 .0)) in
-    let e = ap (λ (x : SheetAnswer). x .refusal) (ap sheetAnswer (sym (r .r .given .1)) ∙ f .read-sheet .ensures) in
-    refused-both (leastBytes (now (a .sheet)) (now (a .plan))) (now (a .least)) (weighAnswer (now (a .sheet)) (now (a .plan)) (length (now (a .least)))) k d
-    (weigh-sheet (now (a .sheet)) (now (a .plan)) (length (now (a .least))) k e d)
+    let f = c .before .before .before in
+    let r = c .before .r .given in
+    ends-sheet (sheet f) (plan f) (least f) (sheetNumber (r .0 .0))
+    (ap (λ (x : SheetAnswer). x .refusal) (ap sheetAnswer (sym (r .1)) ∙ f .read-sheet .ensures)) (λ z. omega (arith, sheet-more (r .0 .0)))
 
--- the sheet was accepted, and then the plan
-module _ (c : tie.After-s) where
-  abbrev read : tie.After-read-sheet
-  read = c .before .before
+-- it was accepted, and the plan was read
+module _ (c : tie.After-read-plan) where
+  abbrev accepted : tie.After-s
+  accepted = c .before .before
 
-  sheet-read : sheetAnswer (Sheet.Accepted (c .s .given .0 .0)) ≡ readSheet (now (read .before .before .before .before .args .sheet))
-  sheet-read = ap sheetAnswer (sym (c .s .given .1)) ∙ read .read-sheet .ensures
+  abbrev first : tie.After-read-sheet
+  first = accepted .before .before
+
+  sheet-read : sheetAnswer (sheet-way.Accepted (accepted .s .given .0 .0)) ≡ readSheet (sheet first)
+  sheet-read = ap sheetAnswer (sym (accepted .s .given .1)) ∙ first .read-sheet .ensures
 
 returns-2 : tie.Need-returns-2
 returns-2 c =
-    let r = c .before in
-    let f = r .before .before in
-    let s = f .before .before in
-    let a = s .before .before .before .before .before .before .args in
-    let k = planNumber (r .r2 .given .0 .0) in
-    let d : k ≡ 0 → ⊥ = λ z. omega (arith, plan-more (r .r2 .given .0 .0)) in
-    let e = ap (λ (x : PlanAnswer). x .refusal) (ap planAnswer (sym (r .r2 .given .1)) ∙ f .read-plan .ensures) in
-    refused-both (leastBytes (now (a .sheet)) (now (a .plan))) (now (a .least)) (weighAnswer (now (a .sheet)) (now (a .plan)) (length (now (a .least)))) k d
-    (weigh-plan (now (a .sheet)) (now (a .plan)) (length (now (a .least))) (ap (λ (x : SheetAnswer). x .refusal) (sheet-read s)) k e d)
+    let f = c .before .before .before in
+    let b = first f in
+    let r = c .before .r2 .given in
+    ends-plan (sheet b) (plan b) (least b) (ap (λ (x : SheetAnswer). x .refusal) (sheet-read f)) (planNumber (r .0 .0))
+    (ap (λ (x : PlanAnswer). x .refusal) (ap planAnswer (sym (r .1)) ∙ f .read-plan .ensures)) (λ z. omega (arith, plan-more (r .0 .0)))
 
 weigh-read-requires : tie.Need-weigh-read-requires
 weigh-read-requires c κs =
     let p = c .before .before in
     let f = p .before .before in
-    record { sheet = sheet-read (f .before .before); plan = ap planAnswer (sym (p .p .given .1)) ∙ f .read-plan .ensures }
-
-returns-3 : tie.Need-returns-3
-returns-3 c =
-    let w = c .before .before in
-    let p = w .before .before .before in
-    let f = p .before .before in
-    let s = f .before .before in
-    let a = s .before .before .before .before .before .before .args in
-    let y = ap (λ (x : PlanAnswer). x .refusal) (ap planAnswer (sym (p .p .given .1)) ∙ f .read-plan .ensures) in
-    let e = weigh-pair (now (a .sheet)) (now (a .plan)) (length (now (a .least))) (ap (λ (x : SheetAnswer). x .refusal) (sheet-read s)) y in
-    (w .weigh-read .ensures .0 ∙ sym e, w .weigh-read .ensures .1 ∙ rw e)
+    record { sheet = sheet-read f; plan = ap planAnswer (sym (p .p .given .1)) ∙ f .read-plan .ensures }
 
 pub weigh-spec : {M : Type 1} → statement M
 weigh-spec =
@@ -78,4 +76,4 @@ weigh-spec =
     returns
     returns-2
     (λ c. search needs)  -- same-length
-    returns-3)
+    (λ c. c .before .before .weigh-read .ensures))  -- returns-3
