@@ -180,6 +180,16 @@ module _ (nodes p t : ℕ) (table totals : List ℕ) (tree : Bool) (old : List �
   abbrev decision : Decision
   decision = decided nodes p limit table totals tree old
 
+  -- THEOREM. Where a tree is needed, an old tree that holds is kept, and its shares are a division within the limit.
+  pub decided-kept : primary nodes (at totals) limit ≡ false → tree ≡ true → holds nodes (at old) (at totals) limit ≡ true → KeptFine nodes limit totals old decision
+  unfolding decided
+  decided-kept f e h = let r = g .rooted e in simp (f, e, h) (kept-way (r .0) (r .1) h)
+
+  -- THEOREM. Where a tree is needed and there is none that holds, the new one puts every node on its target.
+  pub decided-rebuilt : primary nodes (at totals) limit ≡ false → (tree && holds nodes (at old) (at totals) limit) ≡ false → RebuiltFine nodes p totals decision
+  unfolding decided
+  decided-rebuilt f h = simp (f, h) rebuilt-way
+
   -- THEOREM. Whichever way it went, the plan is read back as what was written, and no owner's helpers are given more than there is.
   pub decided-fine : Fine nodes limit totals decision
   unfolding decided
@@ -196,15 +206,3 @@ module _ (nodes p t : ℕ) (table totals : List ℕ) (tree : Bool) (old : List �
       by-load : (primary nodes (at totals) limit ≡ true) ⊎ (primary nodes (at totals) limit ≡ false) → Fine nodes limit totals decision
       by-load (inl e) = rw e primary-fine
       by-load (inr f) = by-tree f (either (tree && holds nodes (at old) (at totals) limit))
-
-  -- THEOREM. Where a tree is needed, an old tree that holds is kept, and its shares are a division within the limit.
-  pub decided-kept : primary nodes (at totals) limit ≡ false → tree ≡ true → holds nodes (at old) (at totals) limit ≡ true
-      → KeptFine nodes limit totals old decision
-  unfolding decided
-  decided-kept f e h = let r = g .rooted e in rw (f, e, h) (kept-way (r .0) (r .1) h)
-
-  -- THEOREM. Where a tree is needed and there is none that holds, the new one puts every node on its target.
-  pub decided-rebuilt : primary nodes (at totals) limit ≡ false → (tree && holds nodes (at old) (at totals) limit) ≡ false
-      → RebuiltFine nodes p totals decision
-  unfolding decided
-  decided-rebuilt f h = rw (f, h) rebuilt-way
