@@ -18,7 +18,7 @@ use Rattle.fold.proofs.Sums.{sum-eq}
 use Rattle.fold.proofs.Scans.{best-found, best-some}
 use Rattle.limit.specs.Limit.{maxNodes, limitOf}
 use Rattle.plan.specs.Tree.{helpandsBelow, isRoot, walk, Tree}
-use Rattle.plan.proofs.Trees.{walk-own}
+use Rattle.plan.proofs.Trees.{walk-none, walk-more, walk-own}
 use Rattle.tree.specs.Family.{helps, overHelpers}
 use Rattle.arrays.specs.Arrays.{at, tabulate}
 use Rattle.tree.specs.Division.{OnTarget, WithinLimit, load, ownOf}
@@ -36,11 +36,11 @@ use Rattle.arrays.proofs.Tabulate.{tabulate-at, length-tabulate}
 reach-rank : (nodes : ℕ) (h : ℕ → ℕ) (r : ℕ) (rank : ℕ → ℕ) → h r ≡ r → ((k : ℕ) → k < nodes → h k < nodes)
     → ((k : ℕ) → k < nodes → k ≢ r → rank (h k) < rank k)
     → (j k : ℕ) → k < nodes → rank k ≤ j → walk h j k ≡ r
-unfolding walk
-reach-rank nodes h r rank own inside falls zero k b m = elim (ℕ-discrete k r) [ yes e ↦ e | no d ↦ absurd (omega (arith, falls k b d)) ]
+reach-rank nodes h r rank own inside falls zero k b m =
+    walk-none h k ∙ elim (ℕ-discrete k r) [ yes e ↦ e | no d ↦ absurd (omega (arith, falls k b d)) ]
 reach-rank nodes h r rank own inside falls (suc j) k b m = elim (ℕ-discrete k r) [
   | yes e ↦ rw e (walk-own h r own (suc j))
-  | no d ↦ reach-rank nodes h r rank own inside falls j (h k) (inside k b) (omega (arith, falls k b d))
+  | no d ↦ walk-more h j k ∙ reach-rank nodes h r rank own inside falls j (h k) (inside k b) (omega (arith, falls k b d))
 ]
 
 and-not : (a c : Bool) → (a ≡ true → c ≡ false) → (a && not c) ≡ a
