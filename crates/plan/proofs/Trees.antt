@@ -99,7 +99,9 @@ tree-of n h b o a =
         root = w .1;
         own = w .2;
         inside = inside;
-        reach = λ k l. root-same n h o (walk h n k) (w .0) (walk-inside h n inside n k l) (w .1) (reaches-walk h n k (all-at n (reaches h n) a k l)) (w .2);
+        reach =
+            λ k l. root-same n h o (walk h n k) (w .0) (walk-inside h n inside n k l) (w .1)
+            (reaches-walk h n k (all-at n (reaches h n) a k l)) (w .2);
       },
     )
 
@@ -115,7 +117,9 @@ module _ {n : ℕ} {h : ℕ → ℕ} {r : ℕ} (t : Tree n h r) where
   tree-reaches = all-of n (reaches h n) (λ k l. walk-reaches h n k (rw (t .reach k l) (t .own)))
 
   pub tree-roots : roots n h ≡ 1
-  tree-roots = sum-eq n (λ k. only (isRoot h k) 1) (λ k. only (eqb k r) 1) (λ k l. ap (λ (b : Bool). only b 1) (same k l)) ∙ sum-only n (λ k. 1) r (t .root)
+  tree-roots =
+      sum-eq n (λ k. only (isRoot h k) 1) (λ k. only (eqb k r) 1) (λ k l. ap (λ (b : Bool). only b 1) (same k l))
+      ∙ sum-only n (λ k. 1) r (t .root)
     where
       same : (k : ℕ) → k < n → isRoot h k ≡ eqb k r
       same k l = elim (ℕ-discrete k r) [

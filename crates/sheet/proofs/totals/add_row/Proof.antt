@@ -1,4 +1,5 @@
--- `sheet::totals::add_row` meets its contract: the entries of the subdomains passed have the holder's count too, the others are as they were.
+-- `sheet::totals::add_row` meets its contract: the entries of the subdomains passed have the holder's count too, the others are as
+-- they were.
 -- Assumes nothing.
 use borrow.Author.Needs.{needs}
 use mathlib.Core.Path.{_≡_, refl, ap, _∙_}
@@ -27,7 +28,8 @@ abbrev μ-loop : tie.MeasureT-loop
 more : (c : tie.After-totals2 Inv-loop μ-loop) →
     let l = c .before .before .before in
     let a = l .before .args in
-    at (l .loop .totals) (l .loop .n) + held (now (a .table)) (a .holder) (l .loop .n) ≡ totalOf (a .holder + 1) (now (a .table)) (l .loop .n)
+    at (l .loop .totals) (l .loop .n) + held (now (a .table)) (a .holder) (l .loop .n) ≡ totalOf (a .holder + 1) (now (a .table))
+    (l .loop .n)
 more c =
     let l = c .before .before .before in
     let a = l .before .args in
@@ -67,7 +69,8 @@ returns c =
     let e : l .loop .n ≡ a .nodes = omega arith in
     tabulate-is (a .nodes) (totalOf (a .holder + 1) (now (a .table))) (omega arith) (l .loop .totals) (l .loop .inv .1)
     (rw e at (l .loop .inv .2))
-    (λ k b. l .loop .inv .3 k (omega arith) ∙ ap (λ (xs : List ℕ). at xs k) (l .before .pre .3) ∙ tabulate-behind (a .nodes) (totalOf (a .holder) (now (a .table))) k b)
+    (λ k b. l .loop .inv .3 k (omega arith) ∙ ap (λ (xs : List ℕ). at xs k) (l .before .pre .3)
+    ∙ tabulate-behind (a .nodes) (totalOf (a .holder) (now (a .table))) k b)
 
 pub add-row-spec : {M : Type 1} → statement M
 add-row-spec =
@@ -75,7 +78,13 @@ add-row-spec =
     (tie.spec
     Inv-loop
     μ-loop
-    (λ c. (omega arith, ap length (c .pre .3) ∙ length-tabulate (c .args .nodes) _ (omega arith), (λ k b. absurd (omega arith)), (λ k b. refl)))  -- loop-holds
+    (λ c. (
+      omega arith,
+      ap length (c .pre .3)
+          ∙ length-tabulate (c .args .nodes) _ (omega arith),
+      (λ k b. absurd (omega arith)),
+      (λ k b. refl),
+    ))  -- loop-holds
     (λ c. search needs)  -- mul-totals
     (λ c. search needs)  -- add-totals
     (λ c. search needs)  -- mul-totals-2
