@@ -87,9 +87,11 @@ module _ (ok : ℕ → Bool) (beats : ℕ → ℕ → Bool) (R : ℕ → ℕ →
       one-more : best ok beats (n + 1) ≡ best ok beats (suc n)
       one-more = ap (best ok beats) (add-one n)
 
-      step : (ok n ≡ true) ⊎ (ok n ≡ false) → (r : Found) → best ok beats n ≡ r → ((c : ℕ) → best ok beats n ≡ At c → k < n → ok k ≡ true → R c k) → R b k
+      step : (ok n ≡ true) ⊎ (ok n ≡ false) → (r : Found) → best ok beats n ≡ r
+          → ((c : ℕ) → best ok beats n ≡ At c → k < n → ok k ≡ true → R c k) → R b k
       step (inr f) r q ih =
-          ih b (sym (best-skips ok beats n f) ∙ one-more ∙ e) (elim (ℕ-discrete k n) [ yes z ↦ absurd (true≢false (sym o ∙ ap ok z ∙ f)) | no d ↦ omega arith ]) o
+          ih b (sym (best-skips ok beats n f) ∙ one-more ∙ e)
+          (elim (ℕ-discrete k n) [ yes z ↦ absurd (true≢false (sym o ∙ ap ok z ∙ f)) | no d ↦ omega arith ]) o
       step (inl t) Nothing q ih =
           let z = new (sym one-more ∙ best-begins ok beats n t q) in
           elim (ℕ-discrete k n) [

@@ -64,7 +64,8 @@ module _ (old new : List ℕ) where
         tree = λ k. eqb-false (a .kind) 0 (or-left (eqb (a .kind) 0) (not (sameHelpands n h g)) (kept k));
         same = λ k.
             let s = not-false (sameHelpands n h g) (or-right (eqb (a .kind) 0) (not (sameHelpands n h g)) (kept k)) in
-            ext-getD 0 (helpandsOf old n) (helpandsOf new n) (l ∙ sym m) (λ i b. eqb-true (h i) (g i) (all-at n (λ j. eqb (h j) (g j)) s i (omega arith)));
+            ext-getD 0 (helpandsOf old n) (helpandsOf new n) (l ∙ sym m)
+            (λ i b. eqb-true (h i) (g i) (all-at n (λ j. eqb (h j) (g j)) s i (omega arith)));
       }
 
   -- what holds of the empty stretch, of the old plan's and of the new plan's, holds of the one in force
@@ -88,7 +89,8 @@ module _ (old new : List ℕ) where
 
 abbrev pub Within : Where → List ℕ → List ℕ → Type 0
 Within w old new =
-    (partOf w .start + partOf w .length ≤ length old) × (partOf w .start + partOf w .length ≤ length new) × (partOf w .length ≤ 4 * maxNodes)
+    let end = partOf w .start + partOf w .length in
+    (end ≤ length old) × (end ≤ length new) × (partOf w .length ≤ 4 * maxNodes)
 
 pub force-within : (old new : List ℕ) → Within (inForce old new) old new
 force-within old new =
@@ -198,7 +200,8 @@ primary-other old new p q e z k same =
     let roots : all n (isRoot (at (helpandsOf old n))) ≡ true = rw (e, eq-eqb (readPlan old .kind) 0 z) at (x .shape) in
     let t = accepted-tree new q (λ u. omega arith) in
     let root : (i : ℕ) → i < n → at (helpandsOf new n) i ≡ i =
-    λ i b. ap (λ (l : List ℕ). at l i) (sym same) ∙ eqb-true (at (helpandsOf old n) i) i (all-at n (isRoot (at (helpandsOf old n))) roots i b) in
+    λ i b. ap (λ (l : List ℕ). at l i) (sym same)
+    ∙ eqb-true (at (helpandsOf old n) i) i (all-at n (isRoot (at (helpandsOf old n))) roots i b) in
     omega (arith, tree-alone (t .1) 0 (omega arith) (root 0 (omega arith)), tree-alone (t .1) 1 (omega arith) (root 1 (omega arith)))
 
 -- THEOREM: The numbers of an answer determine the stretch.

@@ -26,7 +26,8 @@ module _ (old new : List ℕ) where
       let d : refusalNumber r ≢ 0 = λ z. omega (arith, number-more r) in
       rw (← e, ne-eqb (refusalNumber r) 0 d, or-true)
 
-  module _ (n kind limit : ℕ) (a : accepted n kind limit ≡ readPlan old) (m kind₂ limit₂ : ℕ) (b : accepted m kind₂ limit₂ ≡ readPlan new) where
+  module _ (n kind limit : ℕ) (a : accepted n kind limit ≡ readPlan old) (m kind₂ limit₂ : ℕ)
+      (b : accepted m kind₂ limit₂ ≡ readPlan new) where
     -- the N differ
     pub force-nodes : n ≢ m → inForce old new ≡ emptyStretch
     unfolding inForce

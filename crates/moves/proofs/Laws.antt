@@ -71,6 +71,7 @@ count-of k f = rw (lt-ltb 0 k (f .low), le-leb k maxTotal (f .high))
 
 -- ---- the record written
 
-pub length-moves : (n e : ℕ) (routes counts : List ℕ) → e ≤ length routes → e ≤ length counts → length (movesBytes n e routes counts) ≡ 4 * (2 + 2 * e)
+pub length-moves : (n e : ℕ) (routes counts : List ℕ) → e ≤ length routes → e ≤ length counts
+    → length (movesBytes n e routes counts) ≡ 4 * (2 + 2 * e)
 unfolding movesBytes
 length-moves n e routes counts hr hc = simp (length-encode, length-append, length-take) (omega arith)

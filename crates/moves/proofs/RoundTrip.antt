@@ -14,7 +14,8 @@ use Rattle.fold.proofs.Tests.{every-at}
 use Rattle.fold.proofs.Lists.{rising-at}
 use Rattle.limit.specs.Limit.{maxNodes}
 use Rattle.words.specs.Words.{words, encode}
-use Rattle.words.proofs.Words.{Below, below-none, below-cons, below-append, words-encode, encode-words, part-first, part-second, take-two, record-split}
+use Rattle.words.proofs.Words.{Below, below-none, below-cons, below-append, words-encode, encode-words, part-first, part-second, take-two}
+use Rattle.words.proofs.Words.{record-split}
 use Rattle.moves.specs.declared.MovesAnswer.{MovesAnswer}
 use Rattle.moves.specs.Moves.{routesOf, countsOf, routeFine, countFine, accepted, readMoves}
 use Rattle.moves.specs.Write.{movesWords, movesBytes}

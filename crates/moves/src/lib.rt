@@ -1,5 +1,5 @@
-// The record `moves`: how many particles of which subdomain go from whom to whom. *Read moves* stands here, routes in `route`, the writer in
-// `write`.
+// The record `moves`: how many particles of which subdomain go from whom to whom. *Read moves* stands here, routes in `route`, the
+// writer in `write`.
 ghost use mathlib.Core.Path.{_≡_};
 ghost use Prim.Native.Nat.{_+_, _*_, _≤_};
 ghost use lib.ListN.{length};

@@ -40,7 +40,8 @@ number-more r = omega (arith, numbered r .0)
 
 -- the reading of an answer
 abbrev readingOf : PlanAnswer → PlanReading
-readingOf a = cond (eqb (a .refusal) 0) (Accepted (record { n = a .n; kind = a .kind; limit = a .limit })) (Refused (refusalOf (a .refusal)))
+readingOf a =
+    cond (eqb (a .refusal) 0) (Accepted (record { n = a .n; kind = a .kind; limit = a .limit })) (Refused (refusalOf (a .refusal)))
 
 back : (r : PlanReading) → readingOf (answerOf r) ≡ r
 back (Accepted p) = refl

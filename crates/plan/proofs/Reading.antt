@@ -52,7 +52,8 @@ module _ (s : List ℕ) (n kind limit : ℕ) (nodes : oneTo maxNodes n ≡ true)
       ∙ passes _ 14 _ (le-ltb maxLimit limit h)
       ∙ refuses _ 15 _ (ap not (ne-eqb (length s) (4 * (3 + 2 * n)) d))
 
-  pub head-fine : kindFine n kind ≡ true → limit ≤ maxLimit → length s ≡ 4 * (3 + 2 * n) → headAnswer s n kind limit ≡ arraysAnswer s n kind limit
+  pub head-fine : kindFine n kind ≡ true → limit ≤ maxLimit → length s ≡ 4 * (3 + 2 * n)
+      → headAnswer s n kind limit ≡ arraysAnswer s n kind limit
   unfolding headAnswer
   head-fine k h e =
       passes _ 12 _ (ap not nodes)
@@ -77,6 +78,7 @@ module _ (s : List ℕ) (n kind limit : ℕ)
   unfolding arraysAnswer
   arrays-share f = passes _ 16 _ (ap not below) ∙ passes _ 17 _ (ap not shape) ∙ refuses _ 18 _ (ap not f)
 
-  pub arrays-fine : sharesFine n limit (at (helpandsOf s n)) (at (sharesOf s n)) ≡ true → arraysAnswer s n kind limit ≡ accepted n kind limit
+  pub arrays-fine : sharesFine n limit (at (helpandsOf s n)) (at (sharesOf s n)) ≡ true
+      → arraysAnswer s n kind limit ≡ accepted n kind limit
   unfolding arraysAnswer
   arrays-fine f = passes _ 16 _ (ap not below) ∙ passes _ 17 _ (ap not shape) ∙ passes _ 18 _ (ap not f)

@@ -13,7 +13,8 @@ use lib.Seq.{length-take-le, getD-take, take-take}
 use Rattle.fold.proofs.Tests.{all-at, all-of}
 use Rattle.limit.specs.Limit.{maxNodes, maxLimit}
 use Rattle.words.specs.Words.{words, encode}
-use Rattle.words.proofs.Words.{Below, below-none, below-cons, below-append, words-encode, encode-words, part-first, part-second, take-three, record-split}
+use Rattle.words.proofs.Words.{Below, below-none, below-cons, below-append, words-encode, encode-words, part-first, part-second, take-three}
+use Rattle.words.proofs.Words.{record-split}
 use Rattle.plan.specs.Tree.{helpandsBelow, isRoot, shapeFine, sharesFine, Tree}
 use Rattle.plan.specs.Plan.{accepted, helpandsOf, sharesOf, readPlan}
 use Rattle.plan.specs.Write.{planWords, planBytes}
@@ -48,7 +49,8 @@ module _ (n kind limit : ℕ) (helpands shares : List ℕ) (w : Writable n kind 
   helpands-fit : Below (2 ^ 32) (take n helpands)
   helpands-fit i l =
       let k : i < n = omega (arith, length-take-le n helpands (w .helpands-long)) in
-      omega (arith, getD-take n helpands i 0 k, ltb-true (at helpands i) n (all-at n (λ j. ltb (at helpands j) n) (w .below) i k), w .n-high)
+      omega
+      (arith, getD-take n helpands i 0 k, ltb-true (at helpands i) n (all-at n (λ j. ltb (at helpands j) n) (w .below) i k), w .n-high)
 
   shares-fit : Below (2 ^ 32) (take n shares)
   shares-fit i l =
@@ -66,11 +68,13 @@ module _ (n kind limit : ℕ) (helpands shares : List ℕ) (w : Writable n kind 
       head : Below (2 ^ 32) (n ∷ kind ∷ limit ∷ [])
       head =
           below-cons (2 ^ 32) n (kind ∷ limit ∷ []) (omega (arith, w .n-high))
-          (below-cons (2 ^ 32) kind (limit ∷ []) (omega (arith, w .kind-high)) (below-cons (2 ^ 32) limit [] (omega (arith, w .limit-high)) (below-none (2 ^ 32))))
+          (below-cons (2 ^ 32) kind (limit ∷ []) (omega (arith, w .kind-high))
+          (below-cons (2 ^ 32) limit [] (omega (arith, w .limit-high)) (below-none (2 ^ 32))))
 
   written-helpands : helpandsOf (planBytes n kind limit helpands shares) n ≡ take n helpands
   written-helpands =
-      rw words-back (part-first (n ∷ kind ∷ limit ∷ []) (take n helpands) (take n shares) 3 n refl (length-take-le n helpands (w .helpands-long)))
+      rw words-back (part-first (n ∷ kind ∷ limit ∷ []) (take n helpands) (take n shares) 3 n refl
+      (length-take-le n helpands (w .helpands-long)))
 
   written-shares : sharesOf (planBytes n kind limit helpands shares) n ≡ take n shares
   written-shares =

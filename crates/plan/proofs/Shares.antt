@@ -38,4 +38,5 @@ module _ (n limit : ℕ) (h share : ℕ → ℕ) (e : sharesFine n limit h share
   pub share-zero : h k ≡ k → share k ≡ 0
   share-zero r =
       eqb-true (share k) 0
-      (ap (λ (t : Bool). not t || eqb (share k) 0) (sym (eq-eqb (h k) k r)) ∙ and-right (leb (share k) limit) (not (isRoot h k) || eqb (share k) 0) fine)
+      (ap (λ (t : Bool). not t || eqb (share k) 0) (sym (eq-eqb (h k) k r))
+      ∙ and-right (leb (share k) limit) (not (isRoot h k) || eqb (share k) 0) fine)

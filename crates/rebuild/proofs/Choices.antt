@@ -44,7 +44,8 @@ module _ (nodes : ℕ) (loads targets : List ℕ) (finished : List Bool) (l need
   pub chosen-root : h ≡ l → chosen nodes loads targets finished l need h ≡ largestInB nodes loads targets finished
   chosen-root e = rw (eq-eqb h l e)
 
-  pub chosen-out : inB loads targets finished h ≡ false → chosen nodes loads targets finished l need h ≡ largestInB nodes loads targets finished
+  pub chosen-out : inB loads targets finished h ≡ false
+      → chosen nodes loads targets finished l need h ≡ largestInB nodes loads targets finished
   chosen-out b = rw (b, and-false)
 
   pub chosen-lacks : at loads h < need → chosen nodes loads targets finished l need h ≡ largestInB nodes loads targets finished
@@ -84,7 +85,8 @@ module _ (ok : ℕ → Bool) where
 -- ---- the end
 
 module _ (nodes : ℕ) (s : Balance) where
-  pub finish-none : lowestInB nodes (s .loads) (s .targets) (s .finished) ≡ Nothing → finishOf nodes s ≡ record { helpands = s .helpands; shares = s .shares }
+  pub finish-none : lowestInB nodes (s .loads) (s .targets) (s .finished) ≡ Nothing
+      → finishOf nodes s ≡ record { helpands = s .helpands; shares = s .shares }
   unfolding finishOf
   finish-none e = rw (e, finishOf)
 

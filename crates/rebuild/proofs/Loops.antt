@@ -64,14 +64,16 @@ module _ (nodes p : ℕ) (few : nodes ≤ 64) (total : ℕ → ℕ) where
   sound-few s t v = omega (arith, v .inv .count, sum-ones nodes (is (s .finished)) (v .inv .left .0) (v .inv .left .1) (v .inv .left .2))
 
   -- l is a node under its target
-  pub next-l : (s : Balance) (l : ℕ) → nextL nodes s ≡ At l → (l < nodes) × (is (s .finished) l ≡ false) × (at (s .loads) l < at (s .targets) l)
+  pub next-l : (s : Balance) (l : ℕ) → nextL nodes s ≡ At l
+      → (l < nodes) × (is (s .finished) l ≡ false) × (at (s .loads) l < at (s .targets) l)
   next-l s l e =
       let f = best-found (inA (s .loads) (s .targets) (s .finished)) (smaller (at (s .loads))) nodes l e in
       let i = in-a-is (at (s .loads) l) (at (s .targets) l) (is (s .finished) l) (f .1) in
       (f .0, i .0, i .1)
 
   -- where no l is found, no unfinished node is under its target
-  pub next-none : (s : Balance) → nextL nodes s ≡ Nothing → (k : ℕ) → k < nodes → is (s .finished) k ≡ false → at (s .targets) k ≤ at (s .loads) k
+  pub next-none : (s : Balance) → nextL nodes s ≡ Nothing → (k : ℕ) → k < nodes → is (s .finished) k ≡ false
+      → at (s .targets) k ≤ at (s .loads) k
   next-none s e k b o = elim (decLt (at (s .loads) k) (at (s .targets) k)) [
     | no d ↦ omega arith
     | yes h ↦ absurd (true≢false (
@@ -81,7 +83,8 @@ module _ (nodes p : ℕ) (few : nodes ≤ 64) (total : ℕ → ℕ) where
   ]
 
   -- a turn keeps the invariant
-  pub turn-sound : (s : Balance) (t : ℕ) → Sound nodes p total s t → (l g : ℕ) → nextL nodes s ≡ At l → Served nodes s l g → Sound nodes p total (turnOf s l g (needOf s l)) (suc t)
+  pub turn-sound : (s : Balance) (t : ℕ) → Sound nodes p total s t → (l g : ℕ) → nextL nodes s ≡ At l → Served nodes s l g
+      → Sound nodes p total (turnOf s l g (needOf s l)) (suc t)
   unfolding turnOf
   turn-sound s t v l g e q =
       let i = next-l s l e in
@@ -97,9 +100,11 @@ module _ (nodes p : ℕ) (few : nodes ≤ 64) (total : ℕ → ℕ) where
         aims = v .aims;
         time = stamp (v .time) l t;
         inv =
-            turned nodes total (at (s .targets)) (at (s .loads)) (is (s .finished)) (at (s .helpands)) (at (s .shares)) t (v .time) (v .inv) l g need
+            turned nodes total (at (s .targets)) (at (s .loads)) (is (s .finished)) (at (s .helpands)) (at (s .shares)) t (v .time)
+            (v .inv) l g need
             (i .0) (q .node) apart (i .1) (q .unfinished) (omega (arith, i .2)) (q .enough)
-            (at (set (s .loads) g (at (s .loads) g - need))) (is (set (s .finished) l true)) (at (set (s .helpands) l g)) (at (set (s .shares) l need))
+            (at (set (s .loads) g (at (s .loads) g - need))) (is (set (s .finished) l true)) (at (set (s .helpands) l g))
+            (at (set (s .shares) l need))
             (changed (s .loads) g (at (s .loads) g - need) 0 (omega (arith, v .loads-long)))
             (changed (s .finished) l true false (omega (arith, v .finished-long)))
             (changed (s .helpands) l g 0 (omega (arith, v .helpands-long)))
@@ -108,7 +113,8 @@ module _ (nodes p : ℕ) (few : nodes ≤ 64) (total : ℕ → ℕ) where
 
   module _ (old : List ℕ) (inside : (k : ℕ) → k < nodes → at old k < nodes) where
     -- while A has a node, B has one, and whom l helps is in B and has the need
-    pub serve : (s : Balance) (t : ℕ) → Sound nodes p total s t → (l : ℕ) → nextL nodes s ≡ At l → (g : ℕ) × (nextG nodes old s l ≡ At g) × Served nodes s l g
+    pub serve : (s : Balance) (t : ℕ) → Sound nodes p total s t → (l : ℕ) → nextL nodes s ≡ At l
+        → (g : ℕ) × (nextG nodes old s l ≡ At g) × Served nodes s l g
     serve s t v l e = pick (either (oldServes (s .loads) (s .targets) (s .finished) l (needOf s l) (at old l)))
       where
         i : (l < nodes) × (is (s .finished) l ≡ false) × (at (s .loads) l < at (s .targets) l)
@@ -131,8 +137,11 @@ module _ (nodes p : ℕ) (few : nodes ≤ 64) (total : ℕ → ℕ) where
         by-largest : (g : ℕ) × (largestInB nodes (s .loads) (s .targets) (s .finished) ≡ At g) × Served nodes s l g
         by-largest =
             let ok = inB (s .loads) (s .targets) (s .finished) in
-            let r = above nodes total (at (s .targets)) (at (s .loads)) (is (s .finished)) (at (s .helpands)) (at (s .shares)) t (v .time) (v .inv) l (i .0) (i .1) (i .2) in
-            let o : ok (r .0) ≡ true = in-b-of (at (s .loads) (r .0)) (at (s .targets) (r .0)) (is (s .finished) (r .0)) (r .2) (omega (arith, r .3)) in
+            let r =
+            above nodes total (at (s .targets)) (at (s .loads)) (is (s .finished)) (at (s .helpands)) (at (s .shares)) t (v .time)
+            (v .inv) l (i .0) (i .1) (i .2) in
+            let o : ok (r .0) ≡ true =
+            in-b-of (at (s .loads) (r .0)) (at (s .targets) (r .0)) (is (s .finished) (r .0)) (r .2) (omega (arith, r .3)) in
             let b = best-some ok (larger (at (s .loads))) nodes (r .0) (r .1) o in
             let f = best-found ok (larger (at (s .loads))) nodes (b .0) (b .1) in
             let w = in-b-is (at (s .loads) (b .0)) (at (s .targets) (b .0)) (is (s .finished) (b .0)) (f .1) in (
@@ -142,20 +151,30 @@ module _ (nodes p : ℕ) (few : nodes ≤ 64) (total : ℕ → ℕ) where
                 node = f .0;
                 unfinished = w .0;
                 full = w .1;
-                enough = omega (arith, v .aims l (i .0), v .aims (r .0) (r .1), target-near nodes p l (r .0), r .3, largest-le ok (at (s .loads)) nodes (b .0) (b .1) (r .0) (r .1) o);
+                enough =
+                    omega (
+                      arith,
+                      v .aims l (i .0),
+                      v .aims (r .0) (r .1),
+                      target-near nodes p l (r .0),
+                      r .3,
+                      largest-le ok (at (s .loads)) nodes (b .0) (b .1) (r .0) (r .1) o,
+                    );
               },
             )
 
         way : Bool → Found
         way t = cond t (At (at old l)) (largestInB nodes (s .loads) (s .targets) (s .finished))
 
-        pick : (oldServes (s .loads) (s .targets) (s .finished) l (needOf s l) (at old l) ≡ true) ⊎ (oldServes (s .loads) (s .targets) (s .finished) l (needOf s l) (at old l) ≡ false)
+        pick : (oldServes (s .loads) (s .targets) (s .finished) l (needOf s l) (at old l) ≡ true)
+            ⊎ (oldServes (s .loads) (s .targets) (s .finished) l (needOf s l) (at old l) ≡ false)
             → (g : ℕ) × (nextG nodes old s l ≡ At g) × Served nodes s l g
         pick (inl q) = (at old l, ap way q, by-old q)
         pick (inr q) = (by-largest .0, ap way q ∙ by-largest .1, by-largest .2)
 
     -- so the g that is found is such a node
-    pub served : (s : Balance) (t : ℕ) → Sound nodes p total s t → (l g : ℕ) → nextL nodes s ≡ At l → nextG nodes old s l ≡ At g → Served nodes s l g
+    pub served : (s : Balance) (t : ℕ) → Sound nodes p total s t → (l g : ℕ) → nextL nodes s ≡ At l → nextG nodes old s l ≡ At g
+        → Served nodes s l g
     served s t v l g e f =
         let r = serve s t v l e in
         let w : At (r .0) ≡ At g = sym (r .1) ∙ f in
@@ -188,7 +207,8 @@ module _ (nodes p : ℕ) (few : nodes ≤ 64) (total : ℕ → ℕ) where
         later b r = (r .0, r .1, ⊎-elim (λ e. inl e) (λ e. inr (omega arith)) (r .2))
 
         way : (f : Found) → nextL nodes s ≡ f
-            → ((s′ : Balance) → Sound nodes p total s′ (suc t) → (u : ℕ) × Sound nodes p total (runOf nodes old d s′) u × ((nextL nodes (runOf nodes old d s′) ≡ Nothing) ⊎ (u ≡ suc t + d)))
+            → ((s′ : Balance) → Sound nodes p total s′ (suc t)
+            → (u : ℕ) × Sound nodes p total (runOf nodes old d s′) u × ((nextL nodes (runOf nodes old d s′) ≡ Nothing) ⊎ (u ≡ suc t + d)))
             → After (runOf nodes old (suc d) s)
         way Nothing e go = rw (run-stop (suc d) s e) (t, v, inl e)
         way (At l) e go =
@@ -242,7 +262,9 @@ module _ (nodes p : ℕ) (totals : List ℕ)
   never k b f = true≢false (sym f ∙ none-yet k b)
 
   every : (f : ℕ → ℕ) → sum nodes (λ k. only (not (is (replicate 64 false) k)) (f k)) ≡ sum nodes f
-  every f = sum-eq nodes (λ k. only (not (is (replicate 64 false) k)) (f k)) f (λ k b. only-is (not (is (replicate 64 false) k)) (f k) (ap not (none-yet k b)))
+  every f =
+      sum-eq nodes (λ k. only (not (is (replicate 64 false) k)) (f k)) f
+      (λ k b. only-is (not (is (replicate 64 false) k)) (f k) (ap not (none-yet k b)))
 
   start-target : (k : ℕ) → k < nodes → at (startOf nodes p totals .targets) k ≡ targetOf nodes p k
   unfolding startOf

@@ -18,7 +18,7 @@ use Rattle.fold.proofs.Sums.{sum-eq}
 use Rattle.fold.proofs.Scans.{best-found, best-some}
 use Rattle.limit.specs.Limit.{maxNodes, limitOf}
 use Rattle.plan.specs.Tree.{helpandsBelow, isRoot, walk, Tree}
-use Rattle.plan.proofs.Trees.{walk-own}
+use Rattle.plan.proofs.Trees.{walk-none, walk-more, walk-own}
 use Rattle.tree.specs.Family.{helps, overHelpers}
 use Rattle.arrays.specs.Arrays.{at, tabulate}
 use Rattle.tree.specs.Division.{OnTarget, WithinLimit, load, ownOf}
@@ -27,7 +27,8 @@ use Rattle.rebuild.specs.declared.Rebuilt.{Rebuilt}
 use Rattle.rebuild.specs.Target.{targetOf}
 use Rattle.rebuild.specs.Rebuild.{is, inB, needOf, nextL, nextG, startOf, runOf, lowestInB, newHelpand, newShare, finishOf, rebuiltOf}
 use Rattle.rebuild.proofs.TargetSums.{target-limit}
-use Rattle.rebuild.proofs.Choices.{in-b-is, in-b-of, in-b-done, first-lowest, finish-at, helpand-in, helpand-out, share-in, share-out}
+use Rattle.rebuild.proofs.Choices.{in-b-is, in-b-of, in-b-done, first-lowest, finish-at, helpand-in, helpand-out, share-in}
+use Rattle.rebuild.proofs.Choices.{share-out}
 use Rattle.rebuild.proofs.Turns.{level}
 use Rattle.rebuild.proofs.Loops.{Sound, sound-few, next-none, serve, run-sound, start-sound}
 use Rattle.arrays.proofs.Tabulate.{tabulate-at, length-tabulate}
@@ -36,11 +37,11 @@ use Rattle.arrays.proofs.Tabulate.{tabulate-at, length-tabulate}
 reach-rank : (nodes : ℕ) (h : ℕ → ℕ) (r : ℕ) (rank : ℕ → ℕ) → h r ≡ r → ((k : ℕ) → k < nodes → h k < nodes)
     → ((k : ℕ) → k < nodes → k ≢ r → rank (h k) < rank k)
     → (j k : ℕ) → k < nodes → rank k ≤ j → walk h j k ≡ r
-unfolding walk
-reach-rank nodes h r rank own inside falls zero k b m = elim (ℕ-discrete k r) [ yes e ↦ e | no d ↦ absurd (omega (arith, falls k b d)) ]
+reach-rank nodes h r rank own inside falls zero k b m =
+    walk-none h k ∙ elim (ℕ-discrete k r) [ yes e ↦ e | no d ↦ absurd (omega (arith, falls k b d)) ]
 reach-rank nodes h r rank own inside falls (suc j) k b m = elim (ℕ-discrete k r) [
   | yes e ↦ rw e (walk-own h r own (suc j))
-  | no d ↦ reach-rank nodes h r rank own inside falls j (h k) (inside k b) (omega (arith, falls k b d))
+  | no d ↦ walk-more h j k ∙ reach-rank nodes h r rank own inside falls j (h k) (inside k b) (omega (arith, falls k b d))
 ]
 
 and-not : (a c : Bool) → (a ≡ true → c ≡ false) → (a && not c) ≡ a
@@ -50,7 +51,8 @@ and-not false c h = refl
 -- what is known of the new helpands and shares, with the root
 pub record NewTree (nodes p : ℕ) (totals : List ℕ) (r : Rebuilt) (root : ℕ) : Type 0 where
   pub tree : Tree nodes (at (r .helpands)) root
-  pub on-target : OnTarget nodes (at (r .helpands)) (at totals) (targetOf nodes p) (ownOf nodes (at (r .helpands)) (at totals) (at (r .shares))) (at (r .shares))
+  pub on-target : let h = at (r .helpands) in let share = at (r .shares) in
+      OnTarget nodes h (at totals) (targetOf nodes p) (ownOf nodes h (at totals) share) share
   pub root-share : at (r .shares) root ≡ 0
   pub under-target : (k : ℕ) → k < nodes → at (r .shares) k ≤ targetOf nodes p k
   pub helpands-long : length (r .helpands) ≡ 64
@@ -171,13 +173,16 @@ module _ (nodes p : ℕ) (few : nodes ≤ 64) (totals : List ℕ) (s : Balance) 
       by (inl e) =
           rw (helpand-done k b e, e)
           (ap (λ (c : Bool). only c (at (s .shares) k))
-          (and-not (eqb (at (s .helpands) k) n) (eqb k n) (λ q. ne-eqb k n (λ z. v .inv .apart k b e (eqb-true (at (s .helpands) k) n q ∙ sym z)))))
-      by (inr o) = rw (v .inv .idle k b o) (only-zero (helps helpand n k) ∙ sym (only-zero (is (s .finished) k && eqb (at (s .helpands) k) n)))
+          (and-not (eqb (at (s .helpands) k) n) (eqb k n)
+          (λ q. ne-eqb k n (λ z. v .inv .apart k b e (eqb-true (at (s .helpands) k) n q ∙ sym z)))))
+      by (inr o) =
+          rw (v .inv .idle k b o) (only-zero (helps helpand n k) ∙ sym (only-zero (is (s .finished) k && eqb (at (s .helpands) k) n)))
 
   parts : (n : ℕ) → n < nodes → at (s .loads) n + overHelpers nodes helpand n share ≡ at totals n
   parts n b =
       ap (λ (x : ℕ). at (s .loads) n + x)
-      (sum-eq nodes (λ k. only (helps helpand n k) (share k)) (λ k. only (is (s .finished) k && eqb (at (s .helpands) k) n) (at (s .shares) k)) (same-part n))
+      (sum-eq nodes (λ k. only (helps helpand n k) (share k))
+      (λ k. only (is (s .finished) k && eqb (at (s .helpands) k) n) (at (s .shares) k)) (same-part n))
       ∙ v .inv .parts n b
 
   -- an owner is left with its load
@@ -187,7 +192,8 @@ module _ (nodes p : ℕ) (few : nodes ≤ 64) (totals : List ℕ) (s : Balance) 
   on : (n : ℕ) → n < nodes → load helpand (ownOf nodes helpand (at totals) share) share n ≡ targetOf nodes p n
   on n b = by (either (is (s .finished) n))
     where
-      by : (is (s .finished) n ≡ true) ⊎ (is (s .finished) n ≡ false) → load helpand (ownOf nodes helpand (at totals) share) share n ≡ targetOf nodes p n
+      by : (is (s .finished) n ≡ true) ⊎ (is (s .finished) n ≡ false)
+          → load helpand (ownOf nodes helpand (at totals) share) share n ≡ targetOf nodes p n
       by (inl e) =
           omega (
             arith,
@@ -195,14 +201,16 @@ module _ (nodes p : ℕ) (few : nodes ≤ 64) (totals : List ℕ) (s : Balance) 
             share-is n b,
             v .aims n b,
             v .inv .met n b e,
-            only-is (not (isRoot helpand n)) (share n) (ap not (ne-eqb (helpand n) n (λ z. v .inv .apart n b e (sym (helpand-done n b e) ∙ z)))),
+            only-is (not (isRoot helpand n)) (share n)
+                (ap not (ne-eqb (helpand n) n (λ z. v .inv .apart n b e (sym (helpand-done n b e) ∙ z)))),
           )
       by (inr o) =
           omega (
             arith,
             own-is n b,
             v .aims n b,
-            level nodes (at totals) (at (s .targets)) (at (s .loads)) (is (s .finished)) (at (s .helpands)) (at (s .shares)) t (v .time) (v .inv) end n b o,
+            level nodes (at totals) (at (s .targets)) (at (s .loads)) (is (s .finished)) (at (s .helpands)) (at (s .shares)) t (v .time)
+                (v .inv) end n b o,
             ap (only (not (isRoot helpand n))) (share-is n b ∙ v .inv .idle n b o) ∙ only-zero (not (isRoot helpand n)),
           )
 
@@ -239,8 +247,10 @@ module _ (nodes p : ℕ) (totals old : List ℕ)
   abbrev after : ℕ → Balance
   after turns = runOf nodes old turns (startOf nodes p totals)
 
-  after-sound : (turns : ℕ) → (u : ℕ) × Sound nodes p (at totals) (after turns) u × ((nextL nodes (after turns) ≡ Nothing) ⊎ (u ≡ 0 + turns))
-  after-sound turns = run-sound nodes p few (at totals) old old-inside turns (startOf nodes p totals) 0 (start-sound nodes p totals some few long adds)
+  after-sound : (turns : ℕ)
+      → (u : ℕ) × Sound nodes p (at totals) (after turns) u × ((nextL nodes (after turns) ≡ Nothing) ⊎ (u ≡ 0 + turns))
+  after-sound turns =
+      run-sound nodes p few (at totals) old old-inside turns (startOf nodes p totals) 0 (start-sound nodes p totals some few long adds)
 
   -- THEOREM. After any number of turns: while A has a node l, B has the node g that l is to help, and g has what l needs.
   pub turn-possible : (turns l : ℕ) → nextL nodes (after turns) ≡ At l
@@ -253,7 +263,8 @@ module _ (nodes p : ℕ) (totals old : List ℕ)
       let r = serve nodes p few (at totals) old old-inside (after turns) (v .0) (v .1) l e in (
         r .0,
         r .1,
-        in-b-of (at (after turns .loads) (r .0)) (at (after turns .targets) (r .0)) (is (after turns .finished) (r .0)) (r .2 .unfinished) (r .2 .full),
+        in-b-of (at (after turns .loads) (r .0)) (at (after turns .targets) (r .0)) (is (after turns .finished) (r .0)) (r .2 .unfinished)
+            (r .2 .full),
         r .2 .enough,
       )
 
@@ -281,14 +292,17 @@ module _ (nodes p : ℕ) (totals old : List ℕ)
 
   -- THEOREM. No node of B is lower than the root.
   pub root-lowest : (k : ℕ) → k < rebuilt-on-target .0 → inB (after nodes .loads) (after nodes .targets) (after nodes .finished) k ≡ false
-  root-lowest = first-lowest (inB (after nodes .loads) (after nodes .targets) (after nodes .finished)) nodes (rebuilt-on-target .0) (rebuilt-on-target .1)
+  root-lowest =
+      first-lowest (inB (after nodes .loads) (after nodes .targets) (after nodes .finished)) nodes (rebuilt-on-target .0)
+      (rebuilt-on-target .1)
 
   -- ---- under the limit of any tolerance
 
   module _ (t : ℕ) where
     -- THEOREM. Along the new tree no load is above the limit.
     pub rebuilt-within : let r = rebuiltOf nodes p totals old in
-        WithinLimit nodes (at (r .helpands)) (at totals) (limitOf p nodes t) (ownOf nodes (at (r .helpands)) (at totals) (at (r .shares))) (at (r .shares))
+        WithinLimit nodes (at (r .helpands)) (at totals) (limitOf p nodes t) (ownOf nodes (at (r .helpands)) (at totals) (at (r .shares)))
+        (at (r .shares))
     rebuilt-within =
         let o = rebuilt-on-target .2 .on-target in
         record { division = o .division; within = λ n b. omega (arith, o .on n b, target-limit nodes p t some n) }

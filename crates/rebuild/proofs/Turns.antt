@@ -43,7 +43,8 @@ module _ (nodes : ℕ) (total target : ℕ → ℕ) where
         (sum-above nodes (λ k. only (not (done k)) (target k)) (λ k. only (not (done k)) (load k)) l b (sym (v .even))
         (omega (arith, only-is (not (done l)) (target l) (ap not o), only-is (not (done l)) (load l) (ap not o))))
       where
-        found : (k : ℕ) × (k < nodes) × (only (not (done k)) (target k) < only (not (done k)) (load k)) → (g : ℕ) × (g < nodes) × (done g ≡ false) × (target g < load g)
+        found : (k : ℕ) × (k < nodes) × (only (not (done k)) (target k) < only (not (done k)) (load k))
+            → (g : ℕ) × (g < nodes) × (done g ≡ false) × (target g < load g)
         found r = split (either (done (r .0)))
           where
             split : (done (r .0) ≡ true) ⊎ (done (r .0) ≡ false) → (g : ℕ) × (g < nodes) × (done g ≡ false) × (target g < load g)
@@ -52,7 +53,8 @@ module _ (nodes : ℕ) (total target : ℕ → ℕ) where
               r .0,
               r .1,
               e,
-              omega (arith, r .2, only-is (not (done (r .0))) (target (r .0)) (ap not e), only-is (not (done (r .0))) (load (r .0)) (ap not e)),
+              let in-turn : (x : ℕ) → only (not (done (r .0))) x ≡ x = λ x. only-is (not (done (r .0))) x (ap not e) in
+                  omega (arith, r .2, in-turn (target (r .0)), in-turn (load (r .0))),
             )
 
     -- with no unfinished node under its target, each has just that
@@ -69,7 +71,13 @@ module _ (nodes : ℕ) (total target : ℕ → ℕ) where
             split : (done (r .0) ≡ true) ⊎ (done (r .0) ≡ false) → ⊥
             split (inl e) = omega (arith, only-not (not (done (r .0))) (target (r .0)) (ap not e), r .2)
             split (inr e) =
-                omega (arith, r .2, a (r .0) (r .1) e, only-is (not (done (r .0))) (target (r .0)) (ap not e), only-is (not (done (r .0))) (load (r .0)) (ap not e))
+                omega (
+                  arith,
+                  r .2,
+                  a (r .0) (r .1) e,
+                  only-is (not (done (r .0))) (target (r .0)) (ap not e),
+                  only-is (not (done (r .0))) (load (r .0)) (ap not e),
+                )
 
     -- one turn
     module _ (l g need : ℕ)
@@ -120,13 +128,16 @@ module _ (nodes : ℕ) (total target : ℕ → ℕ) where
             enough,
             cl .here,
             load-l,
-            sum-at nodes (λ k. only (not (done k)) (load′ k)) (λ k. only (not (done k)) (load k)) g bg (λ k b d. ap (only (not (done k))) (cl .other k d)),
+            sum-at nodes (λ k. only (not (done k)) (load′ k)) (λ k. only (not (done k)) (load k)) g bg
+                (λ k b d. ap (only (not (done k))) (cl .other k d)),
             only-is (not (done g)) (load g) (ap not og),
             only-is (not (done g)) (load′ g) (ap not og),
-            sum-at nodes (λ k. only (not (done′ k)) (load′ k)) (λ k. only (not (done k)) (load′ k)) l bl (λ k b d. ap (λ (c : Bool). only (not c) (load′ k)) (cd .other k d)),
+            sum-at nodes (λ k. only (not (done′ k)) (load′ k)) (λ k. only (not (done k)) (load′ k)) l bl
+                (λ k b d. ap (λ (c : Bool). only (not c) (load′ k)) (cd .other k d)),
             only-is (not (done l)) (load′ l) (ap not ol),
             only-not (not (done′ l)) (load′ l) (ap not (cd .here)),
-            sum-at nodes (λ k. only (not (done′ k)) (target k)) (λ k. only (not (done k)) (target k)) l bl (λ k b d. ap (λ (c : Bool). only (not c) (target k)) (cd .other k d)),
+            sum-at nodes (λ k. only (not (done′ k)) (target k)) (λ k. only (not (done k)) (target k)) l bl
+                (λ k b d. ap (λ (c : Bool). only (not c) (target k)) (cd .other k d)),
             only-is (not (done l)) (target l) (ap not ol),
             only-not (not (done′ l)) (target l) (ap not (cd .here)),
           )
@@ -150,11 +161,13 @@ module _ (nodes : ℕ) (total target : ℕ → ℕ) where
       idle′ : (k : ℕ) → k < nodes → done′ k ≡ false → share′ k ≡ 0
       idle′ k b e = cs .other k (not-l k e) ∙ v .idle k b (sym (cd .other k (not-l k e)) ∙ e)
 
-      gives : (n : ℕ) → sum nodes (λ k. only (done′ k && eqb (helpand′ k) n) (share′ k)) ≡ sum nodes (λ k. only (done k && eqb (helpand k) n) (share k)) + only (eqb g n) need
+      gives : (n : ℕ) → sum nodes (λ k. only (done′ k && eqb (helpand′ k) n) (share′ k))
+          ≡ sum nodes (λ k. only (done k && eqb (helpand k) n) (share k)) + only (eqb g n) need
       gives n =
           omega (
             arith,
-            sum-at nodes (λ k. only (done′ k && eqb (helpand′ k) n) (share′ k)) (λ k. only (done k && eqb (helpand k) n) (share k)) l bl (λ k b d. same k d),
+            sum-at nodes (λ k. only (done′ k && eqb (helpand′ k) n) (share′ k)) (λ k. only (done k && eqb (helpand k) n) (share k)) l bl
+                (λ k b d. same k d),
             ap (λ (c : Bool). only (c && eqb (helpand l) n) (share l)) ol,
             new,
           )

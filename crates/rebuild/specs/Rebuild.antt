@@ -49,7 +49,8 @@ oldServes loads targets finished l need h = not (eqb h l) && (inB loads targets 
 
 -- "Otherwise g is the node in B with the largest load, lowest number on ties."
 abbrev pub chosen : ℕ → List ℕ → List ℕ → List Bool → ℕ → ℕ → ℕ → Found
-chosen nodes loads targets finished l need h = cond (oldServes loads targets finished l need h) (At h) (largestInB nodes loads targets finished)
+chosen nodes loads targets finished l need h =
+    cond (oldServes loads targets finished l need h) (At h) (largestInB nodes loads targets finished)
 
 -- ---- a turn
 

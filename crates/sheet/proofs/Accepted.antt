@@ -18,7 +18,8 @@ use Rattle.sheet.specs.declared.Sheet.{Sheet}
 use Rattle.sheet.specs.declared.SheetAnswer.{SheetAnswer}
 use Rattle.sheet.specs.declared.CountSum.{CountSum}
 use Rattle.sheet.specs.declared.CountSum.the-variants.{Sum, Bad}
-use Rattle.sheet.specs.Sheet.{accepted, refused, cellsOf, countsOf, cellFine, runningSum, summedAnswer, HeaderAnswer, headerRefused, headerAccepted, rangesAnswer, readHeader, entriesAnswer, readSheet}
+use Rattle.sheet.specs.Sheet.{accepted, refused, cellsOf, countsOf, cellFine, runningSum, summedAnswer, HeaderAnswer, headerRefused}
+use Rattle.sheet.specs.Sheet.{headerAccepted, rangesAnswer, readHeader, entriesAnswer, readSheet}
 use Rattle.sheet.specs.Inner.{Unpackable}
 use Rattle.sheet.proofs.Laws.{Summed, summed}
 
@@ -83,7 +84,8 @@ unfolding readSheet
 header-refuses s d = rw (ne-eqb (readHeader s .refusal) 0 d)
 
 -- past it the entries decide
-pub header-passes : (s : List ℕ) → FineHeader s → readSheet s ≡ entriesAnswer s (getD (words s) 0 0) (getD (words s) 1 0) (getD (words s) 2 0)
+pub header-passes : (s : List ℕ) → FineHeader s
+    → readSheet s ≡ entriesAnswer s (getD (words s) 0 0) (getD (words s) 1 0) (getD (words s) 2 0)
 unfolding readSheet
 header-passes s h = rw (h .is)
 
@@ -96,7 +98,13 @@ pub header-front : (s p : List ℕ) → 12 ≤ length s → readHeader (s ++ p) 
 unfolding readHeader
 header-front s p h =
     let l : 12 ≤ length (s ++ p) = simp length-append (omega arith) in
-    rw (le-ltb (length (s ++ p)) 12 l, le-ltb (length s) 12 h, word-front s p 0 (omega arith), word-front s p 1 (omega arith), word-front s p 2 (omega arith))
+    rw (
+      le-ltb (length (s ++ p)) 12 l,
+      le-ltb (length s) 12 h,
+      word-front s p 0 (omega arith),
+      word-front s p 1 (omega arith),
+      word-front s p 2 (omega arith),
+    )
 
 -- ---- the sheet
 

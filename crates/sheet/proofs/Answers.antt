@@ -15,7 +15,8 @@ use Rattle.sheet.specs.Sheet.{refusalNumber, answerOf}
 -- the refusal of a number
 abbrev pub refusalOf : ℕ → SheetRefusal
 refusalOf k =
-    cond (eqb k 1) Short (cond (eqb k 2) Nodes (cond (eqb k 3) Tolerance (cond (eqb k 4) Entries (cond (eqb k 5) Length (cond (eqb k 6) Cell Count)))))
+    cond (eqb k 1) Short (cond (eqb k 2) Nodes
+    (cond (eqb k 3) Tolerance (cond (eqb k 4) Entries (cond (eqb k 5) Length (cond (eqb k 6) Cell Count)))))
 
 -- the paper numbers them 1 to 7, and the number tells which refusal it is
 pub numbered : (r : SheetRefusal) → (1 ≤ refusalNumber r) × (refusalNumber r ≤ 7) × (refusalOf (refusalNumber r) ≡ r)
@@ -34,7 +35,8 @@ number-more r = omega (arith, numbered r .0)
 -- the reading of an answer
 abbrev readingOf : SheetAnswer → SheetReading
 readingOf a =
-    cond (eqb (a .refusal) 0) (Accepted (record { n = a .n; t = a .t; e = a .e; p = a .p; limit = a .limit })) (Refused (refusalOf (a .refusal)))
+    cond (eqb (a .refusal) 0) (Accepted (record { n = a .n; t = a .t; e = a .e; p = a .p; limit = a .limit }))
+    (Refused (refusalOf (a .refusal)))
 
 back : (r : SheetReading) → readingOf (answerOf r) ≡ r
 back (Accepted h) = refl

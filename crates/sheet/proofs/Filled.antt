@@ -34,10 +34,12 @@ pub cells-one : (table : List ℕ) (c : ℕ) → (getD table c 0 ≡ 0 → ⊥) 
 cells-one table c d = collect-more c (filled table) ∙ rw (filled-one table c d)
 
 -- a cell with a count is one more of all that have one
-pub cell-more : (table : List ℕ) (n c : ℕ) → c < 64 * n → (getD table c 0 ≡ 0 → ⊥) → length (collect c (filled table)) < length (filledCells n table)
+pub cell-more : (table : List ℕ) (n c : ℕ) → c < 64 * n → (getD table c 0 ≡ 0 → ⊥)
+    → length (collect c (filled table)) < length (filledCells n table)
 cell-more table n c h d =
     let e : c + 1 + (64 * n - (c + 1)) ≡ 64 * n = omega arith in
-    let one : length (collect (c + 1) (filled table)) ≡ length (collect c (filled table)) + 1 = rw (cells-one table c d) (length-append (collect c (filled table)) (c ∷ [])) in
+    let one : length (collect (c + 1) (filled table)) ≡ length (collect c (filled table)) + 1 =
+    rw (cells-one table c d) (length-append (collect c (filled table)) (c ∷ [])) in
     omega (arith, rw e at (collect-grows (c + 1) (64 * n - (c + 1)) (filled table)))
 
 -- there are at most as many as cells passed
@@ -52,13 +54,19 @@ cells-le table (suc c) = simp length-append (omega (arith, cells-le table c, one
 
 -- the two arrays, with one more cell and its count stored as entry i behind what is there
 pub store-one : (out table : List ℕ) (e i c : ℕ) → (getD table c 0 ≡ 0 → ⊥) → i ≡ length (collect c (filled table)) → i < e
-    → putWord (putWord (sets (sets out 12 (encode (collect c (filled table)))) (4 * (3 + e)) (encode (counts table c))) (4 * (3 + i)) c) (4 * (3 + e + i)) (getD table c 0)
+    → putWord (putWord (sets (sets out 12 (encode (collect c (filled table)))) (4 * (3 + e)) (encode (counts table c))) (4 * (3 + i)) c)
+    (4 * (3 + e + i)) (getD table c 0)
     ≡ sets (sets out 12 (encode (collect (c + 1) (filled table)))) (4 * (3 + e)) (encode (counts table (c + 1)))
 store-one out table e i c d q h =
     let xs = collect c (filled table) in
     let at : 4 * (3 + i) ≡ 12 + 4 * length xs = omega arith in
     let behind : 4 * (3 + e + i) ≡ 4 * (3 + e) + 4 * length (counts table c) = simp length-map (omega arith) in
-    rw (put-before (sets out 12 (encode xs)) (4 * (3 + e)) (encode (counts table c)) (4 * (3 + i)) c (omega arith), at, put-behind out 12 xs c, behind)
+    rw (
+      put-before (sets out 12 (encode xs)) (4 * (3 + e)) (encode (counts table c)) (4 * (3 + i)) c (omega arith),
+      at,
+      put-behind out 12 xs c,
+      behind,
+    )
     (put-behind (sets out 12 (encode xs ++ bytesOf c)) (4 * (3 + e)) (counts table c) (getD table c 0)
     ∙ rw (cells-one table c d, encode-snoc xs c, map-append, encode-snoc (counts table c) (getD table c 0)))
 

@@ -61,7 +61,8 @@ summed sum [] p h e =
     record { is = omega arith; within = omega arith; positive = λ i l. absurd (omega arith) }
 summed sum (c ∷ cs) p h e = go (eqb c 0) (ltb maxTotal (sum + c)) refl refl (λ k. summed (sum + c) cs p k) e
   where
-    go : (b d : Bool) → eqb c 0 ≡ b → ltb maxTotal (sum + c) ≡ d → (sum + c ≤ maxTotal → runningSum (sum + c) cs ≡ Sum p → Summed (sum + c) cs p)
+    go : (b d : Bool) → eqb c 0 ≡ b → ltb maxTotal (sum + c) ≡ d
+        → (sum + c ≤ maxTotal → runningSum (sum + c) cs ≡ Sum p → Summed (sum + c) cs p)
         → cond b Bad (cond d Bad (runningSum (sum + c) cs)) ≡ Sum p → Summed sum (c ∷ cs) p
     go true d q w ih r = let z : _≡_ {A = ℕ} 0 1 = cc in absurd (omega arith)
     go false true q w ih r = let z : _≡_ {A = ℕ} 0 1 = cc in absurd (omega arith)
@@ -74,7 +75,8 @@ summed sum (c ∷ cs) p h e = go (eqb c 0) (ltb maxTotal (sum + c)) refl refl (�
         at s (suc i) l = s .positive i (omega arith)
 
 -- and conversely
-pub sum-of : (sum : ℕ) (cs : List ℕ) → sum + total cs ≤ maxTotal → ((i : ℕ) → i < length cs → 0 < getD cs i 0) → runningSum sum cs ≡ Sum (sum + total cs)
+pub sum-of : (sum : ℕ) (cs : List ℕ) → sum + total cs ≤ maxTotal → ((i : ℕ) → i < length cs → 0 < getD cs i 0)
+    → runningSum sum cs ≡ Sum (sum + total cs)
 unfolding total
 sum-of sum [] h p = unfold runningSum in ap Sum (omega arith)
 sum-of sum (c ∷ cs) h p =

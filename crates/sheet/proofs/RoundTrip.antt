@@ -21,7 +21,8 @@ use Rattle.fold.proofs.Lists.{rises, rising-more, rising-none, rising-from, ris
 use Rattle.limit.specs.Limit.{maxNodes, maxTolerance, maxTotal, limitOf}
 use Rattle.limit.proofs.Laws.{one-to-of}
 use Rattle.words.specs.Words.{words, encode}
-use Rattle.words.proofs.Words.{Below, below-none, below-cons, below-append, words-encode, encode-words, part-first, part-second, take-three, record-split}
+use Rattle.words.proofs.Words.{Below, below-none, below-cons, below-append, words-encode, encode-words, part-first, part-second, take-three}
+use Rattle.words.proofs.Words.{record-split}
 use Rattle.sheet.specs.declared.CountSum.the-variants.{Sum}
 use Rattle.sheet.specs.declared.SheetAnswer.{SheetAnswer}
 use Rattle.sheet.specs.Sheet.{accepted, cellsOf, countsOf, cellFine, runningSum, readHeader, readSheet}
@@ -84,23 +85,32 @@ module _ (n t : ℕ) (table : List ℕ) (w : Writable n t table) where
   from-rises : (low m : ℕ) → rising (cellFine n) low (from table low m) ≡ true
   from-rises low zero = rw (from-none table low) (rising-none (cellFine n) low)
   from-rises low (suc m) = elim (ℕ-discrete (getD table low 0) 0) [
-    | yes e ↦ rw (from-skip table low m e) (rising-from (cellFine n) (low + 1) low (from table (low + 1) m) (omega arith) (from-rises (low + 1) m))
-    | no d ↦ rw (from-one table low m d) (rising-more (cellFine n) low low (from table (low + 1) m) (omega arith) (fine low d) ∙ from-rises (low + 1) m)
+    | yes e ↦
+        rw
+        (from-skip table low m e) (rising-from (cellFine n) (low + 1) low (from table (low + 1) m) (omega arith) (from-rises (low + 1) m))
+    | no d ↦
+        rw (from-one table low m d) (rising-more (cellFine n) low low (from table (low + 1) m) (omega arith) (fine low d)
+        ∙ from-rises (low + 1) m)
   ]
 
   cells-rise : rising (cellFine n) 0 (filledCells n table) ≡ true
   cells-rise = rw (from-all n table) (from-rises 0 (64 * n))
 
-  from-count : (low m c : ℕ) → low ≤ c → c < low + m → countAt (from table low m) (map (λ k. getD table k 0) (from table low m)) c ≡ getD table c 0
+  from-count : (low m c : ℕ) → low ≤ c → c < low + m
+      → countAt (from table low m) (map (λ k. getD table k 0) (from table low m)) c ≡ getD table c 0
   from-count low zero c h l = absurd (omega arith)
   from-count low (suc m) c h l = elim (ℕ-discrete (getD table low 0) 0) [
     | yes e ↦ rw (from-skip table low m e) (elim (ℕ-discrete low c) [
-      | yes q ↦ count-below (cellFine n) (low + 1) (from table (low + 1) m) (map count (from table (low + 1) m)) c (from-rises (low + 1) m) (omega arith) ∙ sym (ap count (sym q) ∙ e)
+      | yes q ↦
+          count-below (cellFine n) (low + 1) (from table (low + 1) m) (map count (from table (low + 1) m)) c (from-rises (low + 1) m)
+          (omega arith) ∙ sym (ap count (sym q) ∙ e)
       | no r ↦ from-count (low + 1) m c (omega arith) (omega arith)
     ])
     | no d ↦ rw (from-one table low m d) (elim (ℕ-discrete low c) [
       | yes q ↦ count-here low (count low) (from table (low + 1) m) (map count (from table (low + 1) m)) c q ∙ ap count q
-      | no r ↦ count-other low (count low) (from table (low + 1) m) (map count (from table (low + 1) m)) c r ∙ from-count (low + 1) m c (omega arith) (omega arith)
+      | no r ↦
+          count-other low (count low) (from table (low + 1) m) (map count (from table (low + 1) m)) c r
+          ∙ from-count (low + 1) m c (omega arith) (omega arith)
     ])
   ]
 
@@ -159,7 +169,14 @@ module _ (n t : ℕ) (table : List ℕ) (w : Writable n t table) where
   rows zero = omega (arith, sum-none named)
   rows (suc h) =
       let e : 64 * suc h ≡ 64 * h + 64 = omega arith in
-      rw e (omega (arith, sum-split (64 * h) 64 named, rows h, sum-eq 64 (λ d. named (64 * h + d)) (λ d. only (ltb d n) 1) (λ d l. ap (λ (x : ℕ). only (ltb x n) 1) (omega arith)), sum-below 64 n, w .n-high))
+      rw e (omega (
+        arith,
+        sum-split (64 * h) 64 named,
+        rows h,
+        sum-eq 64 (λ d. named (64 * h + d)) (λ d. only (ltb d n) 1) (λ d l. ap (λ (x : ℕ). only (ltb x n) 1) (omega arith)),
+        sum-below 64 n,
+        w .n-high,
+      ))
 
   cells-few : length (filledCells n table) ≤ n * n
   cells-few = omega (arith, few (64 * n), rows n)
@@ -177,14 +194,19 @@ module _ (n t : ℕ) (table : List ℕ) (w : Writable n t table) where
   cells-total =
       let r : 64 * n + (4096 - 64 * n) ≡ 4096 = omega (arith, w .n-high) in
       total-filled (64 * n)
-      ∙ sym (omega (arith, rw r at (sum-split (64 * n) (4096 - 64 * n) count), sum-zeros (4096 - 64 * n) (λ k. count (64 * n + k)) (λ k h. w .outside (64 * n + k) (beyond k))))
+      ∙ sym (omega (
+        arith,
+        rw r at (sum-split (64 * n) (4096 - 64 * n) count),
+        sum-zeros (4096 - 64 * n) (λ k. count (64 * n + k)) (λ k h. w .outside (64 * n + k) (beyond k)),
+      ))
     where
       beyond : (k : ℕ) → cellFine n (64 * n + k) ≡ false
       beyond k = rw (le-ltb ((64 * n + k) / 64) n (omega arith))
 
   cell-at : (i : ℕ) → i < e → getD (filledCells n table) i 0 < 4096
   cell-at i h =
-      omega (arith, cell-below n (getD (filledCells n table) i 0) (rising-at (cellFine n) 0 (filledCells n table) cells-rise i h), w .n-high)
+      omega
+      (arith, cell-below n (getD (filledCells n table) i 0) (rising-at (cellFine n) 0 (filledCells n table) cells-rise i h), w .n-high)
 
   count-at : (i : ℕ) → i < e → (0 < getD (filledCounts n table) i 0) × (getD (filledCounts n table) i 0 ≤ maxTotal)
   count-at i h =
@@ -196,7 +218,9 @@ module _ (n t : ℕ) (table : List ℕ) (w : Writable n t table) where
   small =
       below-append (2 ^ 32) ((n ∷ t ∷ e ∷ []) ++ filledCells n table) (filledCounts n table)
       (below-append (2 ^ 32) (n ∷ t ∷ e ∷ []) (filledCells n table)
-      (below-cons (2 ^ 32) n (t ∷ e ∷ []) (omega (arith, w .n-high)) (below-cons (2 ^ 32) t (e ∷ []) (omega (arith, w .t-high)) (below-cons (2 ^ 32) e [] (omega (arith, cells-le table (64 * n), w .n-high)) (below-none (2 ^ 32)))))
+      (below-cons (2 ^ 32) n (t ∷ e ∷ []) (omega (arith, w .n-high))
+      (below-cons (2 ^ 32) t (e ∷ []) (omega (arith, w .t-high))
+      (below-cons (2 ^ 32) e [] (omega (arith, cells-le table (64 * n), w .n-high)) (below-none (2 ^ 32)))))
       (λ i h. omega (arith, cell-at i h)))
       (λ i h. omega (arith, count-at i (omega (arith, length-map (filledCells n table) count)) .1))
 
@@ -208,7 +232,9 @@ module _ (n t : ℕ) (table : List ℕ) (w : Writable n t table) where
   cells-written = rw words-written (part-first (n ∷ t ∷ e ∷ []) (filledCells n table) (filledCounts n table) 3 e refl refl)
 
   pub counts-written : countsOf (sheetBytes n t table) e ≡ filledCounts n table
-  counts-written = rw words-written (part-second (n ∷ t ∷ e ∷ []) (filledCells n table) (filledCounts n table) (3 + e) e refl (length-map (filledCells n table) count))
+  counts-written =
+      rw words-written (part-second (n ∷ t ∷ e ∷ []) (filledCells n table) (filledCounts n table) (3 + e) e refl
+      (length-map (filledCells n table) count))
 
   -- THEOREM. A sheet that was written is accepted, with the N and t that were written and the table's sum.
   pub read-written : readSheet (sheetBytes n t table) ≡ accepted n t e p (limitOf p n t)
@@ -218,8 +244,14 @@ module _ (n t : ℕ) (table : List ℕ) (w : Writable n t table) where
       let l = length-sheet n t table in
       let c : rising (cellFine n) 0 (cellsOf s e) ≡ true = rw cells-written cells-rise in
       let q : runningSum 0 (countsOf s e) ≡ Sum p =
-      rw counts-written (sum-of 0 (filledCounts n table) (omega (arith, cells-total, w .within)) (λ i h. count-at i (omega (arith, length-map (filledCells n table) count)) .0) ∙ ap Sum (omega (arith, cells-total))) in
-      rw (le-ltb (length s) 12 (omega arith), ap (λ (ws : List ℕ). getD ws 0 0) words-written, ap (λ (ws : List ℕ). getD ws 1 0) words-written, ap (λ (ws : List ℕ). getD ws 2 0) words-written)
+      rw counts-written (sum-of 0 (filledCounts n table) (omega (arith, cells-total, w .within))
+      (λ i h. count-at i (omega (arith, length-map (filledCells n table) count)) .0) ∙ ap Sum (omega (arith, cells-total))) in
+      rw (
+        le-ltb (length s) 12 (omega arith),
+        ap (λ (ws : List ℕ). getD ws 0 0) words-written,
+        ap (λ (ws : List ℕ). getD ws 1 0) words-written,
+        ap (λ (ws : List ℕ). getD ws 2 0) words-written,
+      )
       (simp (
         one-to-of maxNodes n (w .n-low) (w .n-high),
         one-to-of maxTolerance t (w .t-low) (w .t-high),
@@ -233,9 +265,11 @@ module _ (n t : ℕ) (table : List ℕ) (w : Writable n t table) where
   pub table-written : tableOf (sheetBytes n t table) e ≡ table
   table-written =
       let s = sheetBytes n t table in
-      let k : Accepted s (accepted n t e p (limitOf p n t)) = rw read-written at (sheet-accepted s (ap (λ (a : SheetAnswer). a .refusal) read-written)) in
+      let k : Accepted s (accepted n t e p (limitOf p n t)) =
+      rw read-written at (sheet-accepted s (ap (λ (a : SheetAnswer). a .refusal) read-written)) in
       ext-getD 0 (tableOf s e) table (length-table s e ∙ sym (w .size))
-      (λ c h. table-at s (accepted n t e p (limitOf p n t)) k c ∙ ap₂ (λ (xs ks : List ℕ). countAt xs ks c) cells-written counts-written ∙ cells-count c)
+      (λ c h. table-at s (accepted n t e p (limitOf p n t)) k c ∙ ap₂ (λ (xs ks : List ℕ). countAt xs ks c) cells-written counts-written
+      ∙ cells-count c)
 
 -- ---- an accepted sheet's table, written again
 
@@ -261,7 +295,8 @@ module _ (table : List ℕ) (ok : ℕ → Bool) where
         | yes z ↦
             from-one table low m (λ y. omega (arith, a low (omega arith), count-here x k xs ks low z, p 0 (omega arith)))
             ∙ ap₂ (λ (y : ℕ) (ys : List ℕ). y ∷ ys) (sym z)
-            (again-cells (low + 1) m xs ks (rising-from ok (x + 1) (low + 1) xs (omega arith) (q .rest)) (λ i h. omega (arith, b (suc i) (omega arith))) (omega arith)
+            (again-cells (low + 1) m xs ks (rising-from ok (x + 1) (low + 1) xs (omega arith) (q .rest))
+            (λ i h. omega (arith, b (suc i) (omega arith))) (omega arith)
             (λ i h. p (suc i) (omega arith)) (λ c h. a c (omega arith) ∙ count-other x k xs ks c (λ y. omega arith)))
         | no d ↦
             let r′ : rising ok (low + 1) (x ∷ xs) ≡ true = rising-more ok (low + 1) x xs (omega (arith, q .above)) (q .passes) ∙ q .rest in
@@ -269,7 +304,8 @@ module _ (table : List ℕ) (ok : ℕ → Bool) where
             ∙ again-cells (low + 1) m (x ∷ xs) (k ∷ ks) r′ (λ i h. omega (arith, b i h)) l p (λ c h. a c (omega arith))
       ]
 
-  again-counts : (low : ℕ) (xs ks : List ℕ) → rising ok low xs ≡ true → length xs ≡ length ks → Holds low xs ks → map (λ c. getD table c 0) xs ≡ ks
+  again-counts : (low : ℕ) (xs ks : List ℕ) → rising ok low xs ≡ true → length xs ≡ length ks → Holds low xs ks
+      → map (λ c. getD table c 0) xs ≡ ks
   again-counts low [] [] r l a = refl
   again-counts low [] (k ∷ ks) r l a = absurd (omega arith)
   again-counts low (x ∷ xs) [] r l a = absurd (omega arith)
@@ -283,12 +319,17 @@ module _ (s : List ℕ) (a : SheetAnswer) (k : Accepted s a) where
   cells-again =
       from-all (a .n) (tableOf s (a .e))
       ∙ again-cells (tableOf s (a .e)) (cellFine (a .n)) 0 (64 * a .n) (cellsOf s (a .e)) (countsOf s (a .e)) (k .cells)
-      (λ i h. omega (arith, cell-below (a .n) (getD (cellsOf s (a .e)) i 0) (rising-at (cellFine (a .n)) 0 (cellsOf s (a .e)) (k .cells) i h)))
+      (λ i h. omega (
+        arith,
+        cell-below (a .n) (getD (cellsOf s (a .e)) i 0)
+            (rising-at (cellFine (a .n)) 0 (cellsOf s (a .e)) (k .cells) i h),
+      ))
       (cells-are s a k ∙ sym (counts-are s a k)) (k .sum .positive) (λ c h. table-at s a k c)
 
   counts-again : map (λ c. getD (tableOf s (a .e)) c 0) (cellsOf s (a .e)) ≡ countsOf s (a .e)
   counts-again =
-      again-counts (tableOf s (a .e)) (cellFine (a .n)) 0 (cellsOf s (a .e)) (countsOf s (a .e)) (k .cells) (cells-are s a k ∙ sym (counts-are s a k)) (λ c h. table-at s a k c)
+      again-counts (tableOf s (a .e)) (cellFine (a .n)) 0 (cellsOf s (a .e)) (countsOf s (a .e)) (k .cells)
+      (cells-are s a k ∙ sym (counts-are s a k)) (λ c h. table-at s a k c)
 
   head-again : a .n ∷ a .t ∷ a .e ∷ [] ≡ take 3 (words s)
   head-again = rw (k .n-is, k .t-is, k .e-is) (sym (take-three (words s) (omega (arith, words-are s a k))))

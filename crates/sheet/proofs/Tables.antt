@@ -115,7 +115,8 @@ module _ (n : ℕ) (nodes : n ≤ 64) where
         | no d ↦ omega (arith, ih, getD-set-other table x c k 0 (λ z. d (sym z)), count-other x k xs ks c d)
       ]
 
-  stored-sum : (low : ℕ) (table xs ks : List ℕ) → length table ≡ tableSize → Free low table → rising (cellFine n) low xs ≡ true → length xs ≡ length ks
+  stored-sum : (low : ℕ) (table xs ks : List ℕ) → length table ≡ tableSize → Free low table → rising (cellFine n) low xs ≡ true
+      → length xs ≡ length ks
       → sum tableSize (at (stored table xs ks)) ≡ sum tableSize (at table) + total ks
   unfolding stored total
   stored-sum low table [] [] l f e m = omega arith

@@ -72,7 +72,8 @@ digits-short (suc k) d x h =
           rw (digits-more k x l, length-append (digits k (x / 10)) (digit (x % 10) ∷ [])) (fewer d h l (λ e. digits-short k e (x / 10)))
     ]
   where
-    fewer : (e : ℕ) → x < 10 ^ suc e → 10 ≤ x → ((f : ℕ) → x / 10 < 10 ^ suc f → length (digits k (x / 10)) ≤ suc f) → length (digits k (x / 10)) + 1 ≤ suc e
+    fewer : (e : ℕ) → x < 10 ^ suc e → 10 ≤ x → ((f : ℕ) → x / 10 < 10 ^ suc f → length (digits k (x / 10)) ≤ suc f)
+        → length (digits k (x / 10)) + 1 ≤ suc e
     fewer zero h l ih = absurd (omega arith)
     fewer (suc e) h l ih = omega (arith, ih e (shorter e x h))
 
@@ -99,7 +100,8 @@ read-digits (suc k) x h =
       | yes l ↦ rw (digits-one (suc k) x l) (read-one x)
       | no m ↦
           let l : 10 ≤ x = omega arith in
-          rw (digits-more (suc k) x l, read-last 0 (digits (suc k) (x / 10)) (digit (x % 10)), read-digits k (x / 10) (shorter k x h)) (omega arith)
+          rw (digits-more (suc k) x l, read-last 0 (digits (suc k) (x / 10)) (digit (x % 10)), read-digits k (x / 10) (shorter k x h))
+          (omega arith)
     ]
 
 -- ---- each of them, and the first
@@ -114,7 +116,8 @@ digits-bytes (suc k) x i h =
       | no m ↦
           let l : 10 ≤ x = omega arith in
           rw (digits-more k x l)
-          (last (digits k (x / 10)) (digits-bytes k (x / 10)) (omega (arith, ap length (digits-more k x l) ∙ length-append (digits k (x / 10)) (digit (x % 10) ∷ []))))
+          (last (digits k (x / 10)) (digits-bytes k (x / 10))
+          (omega (arith, ap length (digits-more k x l) ∙ length-append (digits k (x / 10)) (digit (x % 10) ∷ []))))
     ]
   where
     last : (ds : List ℕ) → ((j : ℕ) → j < length ds → (48 ≤ getD ds j 0) × (getD ds j 0 ≤ 57)) → i < length ds + 1

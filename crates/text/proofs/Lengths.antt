@@ -8,7 +8,8 @@ use lib.ListN.{length, getD, length-append}
 use Rattle.fold.specs.Collect.{collect}
 use Rattle.limit.specs.Limit.{maxNodes}
 use Rattle.moves.specs.Moves.{subdomain, sender, receiver}
-use Rattle.text.specs.Text.{decimal, blank, newline, ascii, field, headLine, nodeLine, nodesText, moveLine, movesText, stepText, refusedText}
+use Rattle.text.specs.Text.{decimal, blank, newline, ascii, field, headLine, nodeLine, nodesText, moveLine, movesText, stepText}
+use Rattle.text.specs.Text.{refusedText}
 use Rattle.text.proofs.Digits.{digits-le, digits-short}
 
 pub decimal-le : (x : ℕ) → length (decimal x) ≤ 10
@@ -35,13 +36,25 @@ pub node-le : (node helpand share own : ℕ) → node < maxNodes → length (nod
 unfolding nodeLine
 node-le node helpand share own h =
     simp length-append
-    (omega (arith, node-field-le node blank h, field-le (ascii "helps") helpand blank, field-le (ascii "share") share blank, field-le (ascii "own") own newline))
+    (omega (
+      arith,
+      node-field-le node blank h,
+      field-le (ascii "helps") helpand blank,
+      field-le (ascii "share") share blank,
+      field-le (ascii "own") own newline,
+    ))
 
 pub move-le : (route count : ℕ) → length (moveLine route count) ≤ 64
 unfolding moveLine
 move-le route count =
     simp length-append
-    (omega (arith, field-le (ascii "move") (subdomain route) blank, field-le (ascii "from") (sender route) blank, field-le (ascii "to") (receiver route) blank, field-le (ascii "count") count newline))
+    (omega (
+      arith,
+      field-le (ascii "move") (subdomain route) blank,
+      field-le (ascii "from") (sender route) blank,
+      field-le (ascii "to") (receiver route) blank,
+      field-le (ascii "count") count newline,
+    ))
 
 pub refused-le : (number : ℕ) → length (refusedText number) ≤ 64
 unfolding refusedText

@@ -66,7 +66,8 @@ module _ (routes counts : List ℕ) where
   from-length c [] = refl
   from-length c (x ∷ table) = ap suc (from-length (c + 1) table)
 
-  pub carried-at : (table : List ℕ) (c : ℕ) → c < length table → at (carried table routes counts) c ≡ at table c - sends routes counts c + receives routes counts c
+  pub carried-at : (table : List ℕ) (c : ℕ) → c < length table
+      → at (carried table routes counts) c ≡ at table c - sends routes counts c + receives routes counts c
   carried-at table c h =
       let e : 0 + c ≡ c = omega arith in
       rw e at (from-at 0 table c h)
@@ -84,16 +85,20 @@ carried-none table =
 -- ---- the test against the table before any move
 
 module _ (routes counts : List ℕ) where
-  from-within : (c : ℕ) (table : List ℕ) → withinFrom routes counts c table ≡ true → (i : ℕ) → i < length table → sends routes counts (c + i) ≤ getD table i 0
+  from-within : (c : ℕ) (table : List ℕ) → withinFrom routes counts c table ≡ true → (i : ℕ) → i < length table
+      → sends routes counts (c + i) ≤ getD table i 0
   unfolding withinFrom
   from-within c [] e i h = absurd (omega arith)
   from-within c (x ∷ table) e zero h =
-      rw (add-zero c) (leb-true (sends routes counts c) x (and-left (leb (sends routes counts c) x) (withinFrom routes counts (c + 1) table) e))
+      rw (add-zero c) (leb-true (sends routes counts c) x
+      (and-left (leb (sends routes counts c) x) (withinFrom routes counts (c + 1) table) e))
   from-within c (x ∷ table) e (suc i) h =
       let q : c + suc i ≡ c + 1 + i = omega arith in
-      rw q (from-within (c + 1) table (and-right (leb (sends routes counts c) x) (withinFrom routes counts (c + 1) table) e) i (omega arith))
+      rw q (from-within (c + 1) table (and-right (leb (sends routes counts c) x) (withinFrom routes counts (c + 1) table) e) i
+      (omega arith))
 
-  within-from : (c : ℕ) (table : List ℕ) → ((i : ℕ) → i < length table → sends routes counts (c + i) ≤ getD table i 0) → withinFrom routes counts c table ≡ true
+  within-from : (c : ℕ) (table : List ℕ) → ((i : ℕ) → i < length table → sends routes counts (c + i) ≤ getD table i 0)
+      → withinFrom routes counts c table ≡ true
   unfolding withinFrom
   within-from c [] h = refl
   within-from c (x ∷ table) h =
@@ -147,7 +152,9 @@ module _ (xs : List ℕ) (i k c : ℕ) where
 
   pub plus-at : i < length xs → at (set xs i (at xs i + k)) c ≡ at xs c + only (eqb i c) k
   plus-at l = elim (ℕ-discrete i c) [
-    | yes e ↦ omega (arith, ap (at (set xs i (at xs i + k))) e, ap (at xs) e, getD-set-same xs i (at xs i + k) 0 l, only-is (eqb i c) k (eq-eqb i c e))
+    | yes e ↦
+        omega
+        (arith, ap (at (set xs i (at xs i + k))) e, ap (at xs) e, getD-set-same xs i (at xs i + k) 0 l, only-is (eqb i c) k (eq-eqb i c e))
     | no d ↦ omega (arith, getD-set-other xs i c (at xs i + k) 0 (λ z. d (sym z)), only-not (eqb i c) k (ne-eqb i c d))
   ]
 
@@ -160,13 +167,15 @@ applied table route count = set (taken table route count) (intoCell route) (at (
 
 -- ---- one move passes the test, or fails it
 
-module _ (table : List ℕ) (route count : ℕ) (routes counts : List ℕ) (size : length table ≡ tableSize) (below : route < 64 * tableSize) where
+module _ (table : List ℕ) (route count : ℕ) (routes counts : List ℕ) (size : length table ≡ tableSize)
+    (below : route < 64 * tableSize) where
   pub within-fails : at table (fromCell route) < count → sendsWithin table (route ∷ routes) (count ∷ counts) ≡ false
   within-fails h =
       within-false table (route ∷ routes) (count ∷ counts) (fromCell route) (omega (arith, from-below route below))
       (omega (arith, moved-here fromCell route count routes counts (fromCell route) refl))
 
-  pub within-more : count ≤ at table (fromCell route) → sendsWithin table (route ∷ routes) (count ∷ counts) ≡ sendsWithin (taken table route count) routes counts
+  pub within-more : count ≤ at table (fromCell route)
+      → sendsWithin table (route ∷ routes) (count ∷ counts) ≡ sendsWithin (taken table route count) routes counts
   within-more h = split (either (sendsWithin (taken table route count) routes counts))
     where
       same : length (taken table route count) ≡ length table
@@ -176,16 +185,27 @@ module _ (table : List ℕ) (route count : ℕ) (routes counts : List ℕ) (size
           → sendsWithin table (route ∷ routes) (count ∷ counts) ≡ sendsWithin (taken table route count) routes counts
       split (inl e) =
           within-of table (route ∷ routes) (count ∷ counts) (λ c l.
-          omega (arith, moved-one fromCell route count routes counts c, less-at table (fromCell route) count c h, within-at (taken table route count) routes counts e c (omega (arith, same))))
+          omega (
+            arith,
+            moved-one fromCell route count routes counts c,
+            less-at table (fromCell route) count c h,
+            within-at (taken table route count) routes counts e c (omega (arith, same)),
+          ))
           ∙ sym e
       split (inr e) = fails (either (sendsWithin table (route ∷ routes) (count ∷ counts)))
         where
-          fails : (sendsWithin table (route ∷ routes) (count ∷ counts) ≡ true) ⊎ (sendsWithin table (route ∷ routes) (count ∷ counts) ≡ false)
+          fails : (sendsWithin table (route ∷ routes) (count ∷ counts) ≡ true)
+              ⊎ (sendsWithin table (route ∷ routes) (count ∷ counts) ≡ false)
               → sendsWithin table (route ∷ routes) (count ∷ counts) ≡ sendsWithin (taken table route count) routes counts
           fails (inr f) = f ∙ sym e
           fails (inl t) =
               absurd (true≢false (sym (within-of (taken table route count) routes counts (λ c l.
-              omega (arith, moved-one fromCell route count routes counts c, less-at table (fromCell route) count c h, within-at table (route ∷ routes) (count ∷ counts) t c (omega (arith, same)))))
+              omega (
+                arith,
+                moved-one fromCell route count routes counts c,
+                less-at table (fromCell route) count c h,
+                within-at table (route ∷ routes) (count ∷ counts) t c (omega (arith, same)),
+              )))
               ∙ e))
 
 -- ---- one move applied
@@ -198,21 +218,29 @@ module _ (table : List ℕ) (route count : ℕ) (size : length table ≡ tableSi
   into-lt = simp length-set (omega (arith, into-below route below))
 
   module _ (enough : count ≤ at table (fromCell route)) where
-    pub applied-at : (c : ℕ) → at (applied table route count) c + only (eqb (fromCell route) c) count ≡ at table c + only (eqb (intoCell route) c) count
-    applied-at c = omega (arith, less-at table (fromCell route) count c enough, plus-at (taken table route count) (intoCell route) count c into-lt)
+    pub applied-at : (c : ℕ)
+        → at (applied table route count) c + only (eqb (fromCell route) c) count ≡ at table c + only (eqb (intoCell route) c) count
+    applied-at c =
+        omega (arith, less-at table (fromCell route) count c enough, plus-at (taken table route count) (intoCell route) count c into-lt)
 
     -- all entries add up to the same
     pub taken-sum : sum tableSize (at (taken table route count)) + count ≡ sum tableSize (at table)
     taken-sum =
         omega (
           arith,
-          sum-set tableSize table (fromCell route) (at table (fromCell route) - count) (from-below route below) (omega (arith, from-below route below)),
+          sum-set tableSize table (fromCell route) (at table (fromCell route) - count) (from-below route below)
+              (omega (arith, from-below route below)),
           enough,
         )
 
     pub applied-sum : sum tableSize (at (applied table route count)) ≡ sum tableSize (at table)
     applied-sum =
-        omega (arith, taken-sum, sum-set tableSize (taken table route count) (intoCell route) (at (taken table route count) (intoCell route) + count) (into-below route below) into-lt)
+        omega (
+          arith,
+          taken-sum,
+          sum-set tableSize (taken table route count) (intoCell route)
+              (at (taken table route count) (intoCell route) + count) (into-below route below) into-lt,
+        )
 
   module _ (routes counts : List ℕ) (within : (c : ℕ) → c < tableSize → sends (route ∷ routes) (count ∷ counts) c ≤ at table c) where
     pub applied-enough : count ≤ at table (fromCell route)
@@ -233,8 +261,12 @@ module _ (table : List ℕ) (route count : ℕ) (size : length table ≡ tableSi
         let lt : c < length table = omega arith in
         let ln : c < length next = omega (arith, applied-length) in
         same (at (carried table (route ∷ routes) (count ∷ counts)) c) (at (carried next routes counts) c) (at table c) (at next c)
-        (sends (route ∷ routes) (count ∷ counts) c) (sends routes counts c) (receives (route ∷ routes) (count ∷ counts) c) (receives routes counts c) (only (eqb (fromCell route) c) count) (only (eqb (intoCell route) c) count)
-        (carried-at (route ∷ routes) (count ∷ counts) table c lt) (carried-at routes counts next c ln) (moved-one fromCell route count routes counts c) (moved-one intoCell route count routes counts c) (applied-at applied-enough c) (within c b))
+        (sends (route ∷ routes) (count ∷ counts) c) (sends routes counts c) (receives (route ∷ routes) (count ∷ counts) c)
+        (receives routes counts c) (only (eqb (fromCell route) c) count) (only (eqb (intoCell route) c) count)
+        (carried-at (route ∷ routes) (count ∷ counts) table c lt) (carried-at routes counts next c ln)
+        (moved-one fromCell route count routes counts c) (moved-one intoCell route count routes counts c) (applied-at applied-enough c)
+        (within c b))
       where
-        same : (u v x y s s′ r r′ out into : ℕ) → u ≡ x - s + r → v ≡ y - s′ + r′ → s ≡ out + s′ → r ≡ into + r′ → y + out ≡ x + into → s ≤ x → u ≡ v
+        same : (u v x y s s′ r r′ out into : ℕ) → u ≡ x - s + r → v ≡ y - s′ + r′ → s ≡ out + s′ → r ≡ into + r′ → y + out ≡ x + into
+            → s ≤ x → u ≡ v
         same u v x y s s′ r r′ out into p q ps pr a w = omega arith

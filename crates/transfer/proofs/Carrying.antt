@@ -41,20 +41,24 @@ use Rattle.sheet.specs.Totals.{totalOf, totalsOf}
 
 -- ---- lists in two parts
 
-rising-append : (ok : ℕ → Bool) (low mid : ℕ) (xs ys : List ℕ) → low ≤ mid → Below mid xs → rising ok low xs ≡ true → rising ok mid ys ≡ true → rising ok low (xs ++ ys) ≡ true
+rising-append : (ok : ℕ → Bool) (low mid : ℕ) (xs ys : List ℕ) → low ≤ mid → Below mid xs → rising ok low xs ≡ true
+    → rising ok mid ys ≡ true → rising ok low (xs ++ ys) ≡ true
 rising-append ok low mid [] ys h b e f = rising-from ok mid low ys h f
 rising-append ok low mid (x ∷ xs) ys h b e f =
     let r = rises ok low x xs e in
-    rising-more ok low x (xs ++ ys) (r .above) (r .passes) ∙ rising-append ok (x + 1) mid xs ys (omega (arith, b 0 (omega arith))) (below-tail mid x xs b) (r .rest) f
+    rising-more ok low x (xs ++ ys) (r .above) (r .passes)
+    ∙ rising-append ok (x + 1) mid xs ys (omega (arith, b 0 (omega arith))) (below-tail mid x xs b) (r .rest) f
 
 every-append : (p : ℕ → Bool) (xs ys : List ℕ) → every p xs ≡ true → every p ys ≡ true → every p (xs ++ ys) ≡ true
 unfolding every
 every-append p [] ys e f = f
-every-append p (x ∷ xs) ys e f = and-both (p x) (every p (xs ++ ys)) (and-left (p x) (every p xs) e) (every-append p xs ys (and-right (p x) (every p xs) e) f)
+every-append p (x ∷ xs) ys e f =
+    and-both (p x) (every p (xs ++ ys)) (and-left (p x) (every p xs) e) (every-append p xs ys (and-right (p x) (every p xs) e) f)
 
 -- ---- cells: each names two nodes, or does not
 
-each-cell : (nodes : ℕ) (Q : ℕ → Type 0) → ((k n : ℕ) → k < nodes → n < nodes → Q (cell k n)) → ((c : ℕ) → cellFine nodes c ≡ false → Q c) → (c : ℕ) → Q c
+each-cell : (nodes : ℕ) (Q : ℕ → Type 0) → ((k n : ℕ) → k < nodes → n < nodes → Q (cell k n)) → ((c : ℕ) → cellFine nodes c ≡ false → Q c)
+    → (c : ℕ) → Q c
 each-cell nodes Q p q c = split (either (cellFine nodes c))
   where
     split : (cellFine nodes c ≡ true) ⊎ (cellFine nodes c ≡ false) → Q c
@@ -75,7 +79,9 @@ module _ (nodes : ℕ) (table : List ℕ) (due : ℕ → ℕ → ℕ) (h64 : nod
 
   -- ---- the record
 
-  routes-all : (n : ℕ) → n ≤ nodes → (rising (routeFine nodes) 0 (collect n (routesIn nodes table due)) ≡ true) × Below (n * tableSize) (collect n (routesIn nodes table due))
+  routes-all : (n : ℕ) → n ≤ nodes
+      → (rising (routeFine nodes) 0 (collect n (routesIn nodes table due)) ≡ true)
+      × Below (n * tableSize) (collect n (routesIn nodes table due))
   unfolding collect
   routes-all zero h = (rising-none (routeFine nodes) 0, below-none 0)
   routes-all (suc n) h =
@@ -83,7 +89,8 @@ module _ (nodes : ℕ) (table : List ℕ) (due : ℕ → ℕ → ℕ) (h64 : nod
       let new : Below (suc n * tableSize) (routesIn nodes table due n) =
       λ i l. omega (arith, routes-in nodes (above n) (lacks n) n h64 i l) in
       let up : Below (suc n * tableSize) (collect n (routesIn nodes table due)) = λ i l. omega (arith, ih .1 i l) in (
-        rising-append (routeFine nodes) 0 (n * tableSize) (collect n (routesIn nodes table due)) (routesIn nodes table due n) (omega arith) (ih .1) (ih .0)
+        rising-append (routeFine nodes) 0 (n * tableSize) (collect n (routesIn nodes table due)) (routesIn nodes table due n) (omega arith)
+            (ih .1) (ih .0)
             (routes-rise nodes (above n) (lacks n) (λ k. surplus-apart (held table k n) (due n k)) n (omega arith) h64),
         below-append (suc n * tableSize) (collect n (routesIn nodes table due)) (routesIn nodes table due n) up new,
       )
@@ -93,7 +100,8 @@ module _ (nodes : ℕ) (table : List ℕ) (due : ℕ → ℕ → ℕ) (h64 : nod
   counts-all small zero h = unfold every in refl
   counts-all small (suc n) h =
       every-append countFine (collect n (countsIn nodes table due)) (countsIn nodes table due n) (counts-all small n (omega arith))
-      (counts-fine nodes (above n) (lacks n) (λ k l. most (held table k n) (due n k) (sum tableSize (at table)) (sum-term tableSize (at table) (cell k n) (omega arith)) small))
+      (counts-fine nodes (above n) (lacks n)
+      (λ k l. most (held table k n) (due n k) (sum tableSize (at table)) (sum-term tableSize (at table) (cell k n) (omega arith)) small))
     where
       most : (x d p : ℕ) → x ≤ p → p ≤ maxTotal → surplusOf x d ≤ maxTotal
       most x d p a b = omega arith
@@ -110,8 +118,10 @@ module _ (nodes : ℕ) (table : List ℕ) (due : ℕ → ℕ → ℕ) (h64 : nod
   -- ---- what each cell sends and receives
 
   -- a cell of subdomain n is met in subdomain n alone
-  module _ (end : ℕ → ℕ) (k n : ℕ) (hn : n < nodes) (own : (route : ℕ) → subdomain route < 64 → end route ≡ cell k n → subdomain route ≡ n) where
-    moved-own : moved end (allRoutes nodes table due) (allCounts nodes table due) (cell k n) ≡ moved end (routesIn nodes table due n) (countsIn nodes table due n) (cell k n)
+  module _ (end : ℕ → ℕ) (k n : ℕ) (hn : n < nodes)
+      (own : (route : ℕ) → subdomain route < 64 → end route ≡ cell k n → subdomain route ≡ n) where
+    moved-own : moved end (allRoutes nodes table due) (allCounts nodes table due) (cell k n)
+        ≡ moved end (routesIn nodes table due n) (countsIn nodes table due n) (cell k n)
     moved-own =
         moved-collect end nodes (routesIn nodes table due) (countsIn nodes table due) (cell k n) (lengths-in nodes table due) .1
         ∙ sum-eq nodes part (λ j. only (eqb j n) (part j)) (λ j l. elim (ℕ-discrete j n) [
@@ -149,7 +159,8 @@ module _ (nodes : ℕ) (table : List ℕ) (due : ℕ → ℕ → ℕ) (h64 : nod
         moved-own fromCell k n hn (λ route b e. omega (arith, e, b))
         ∙ sends-surplus nodes (above n) (lacks n) (equal n hn) n k h64 (omega arith) hk
 
-    receives-lacks : (k n : ℕ) → k < nodes → n < nodes → receives (allRoutes nodes table due) (allCounts nodes table due) (cell k n) ≡ lacks n k
+    receives-lacks : (k n : ℕ) → k < nodes → n < nodes
+        → receives (allRoutes nodes table due) (allCounts nodes table due) (cell k n) ≡ lacks n k
     receives-lacks k n hk hn =
         moved-own intoCell k n hn (λ route b e. omega (arith, e, b))
         ∙ receives-shortage nodes (above n) (lacks n) (equal n hn) n k h64 (omega arith) hk
@@ -180,10 +191,12 @@ module _ (nodes : ℕ) (table : List ℕ) (due : ℕ → ℕ → ℕ) (h64 : nod
           less : (x d : ℕ) → surplusOf x d ≤ x
           less x d = omega arith
 
-      pub due-reached : (k n : ℕ) → k < nodes → n < nodes → held (carried table (allRoutes nodes table due) (allCounts nodes table due)) k n ≡ due n k
+      pub due-reached : (k n : ℕ) → k < nodes → n < nodes
+          → held (carried table (allRoutes nodes table due) (allCounts nodes table due)) k n ≡ due n k
       due-reached k n hk hn =
           let l : cell k n < length table = omega arith in
-          carried-at (allRoutes nodes table due) (allCounts nodes table due) table (cell k n) l ∙ rw (sends-above k n hk hn, receives-lacks k n hk hn) (evens (held table k n) (due n k))
+          carried-at (allRoutes nodes table due) (allCounts nodes table due) table (cell k n) l
+          ∙ rw (sends-above k n hk hn, receives-lacks k n hk hn) (evens (held table k n) (due n k))
         where
           evens : (x d : ℕ) → x - surplusOf x d + shortageOf x d ≡ d
           evens x d = omega arith
@@ -199,18 +212,25 @@ pub record Carries (nodes : ℕ) (table : List ℕ) (due : ℕ → ℕ → ℕ) 
   -- there are at most N - 1 in one subdomain
   pub few : (n : ℕ) → length (subdomainMoves nodes table due n) ≤ nodes - 1
   -- nobody sends and receives the same subdomain
-  pub apart : (c : ℕ) → min (sends (allRoutes nodes table due) (allCounts nodes table due) c) (receives (allRoutes nodes table due) (allCounts nodes table due) c) ≡ 0
+  pub apart : (c : ℕ) →
+      let routes = allRoutes nodes table due in
+      let counts = allCounts nodes table due in
+      min (sends routes counts c) (receives routes counts c) ≡ 0
   -- they are not refused with 42
   pub within : sendsWithin table (allRoutes nodes table due) (allCounts nodes table due) ≡ true
   -- and after them each node holds its due amount of each subdomain
-  pub reached : (k n : ℕ) → k < nodes → n < nodes → held (carried table (allRoutes nodes table due) (allCounts nodes table due)) k n ≡ due n k
+  pub reached : (k n : ℕ) → k < nodes → n < nodes
+      → held (carried table (allRoutes nodes table due) (allCounts nodes table due)) k n ≡ due n k
 
 -- THEOREM 5. The moves that are computed from a table of counts and a plan's helpands and shares carry out its due amounts.
-pub carries : (nodes : ℕ) (table : List ℕ) (h total share : ℕ → ℕ) → nodes ≤ maxNodes → length table ≡ tableSize → sum tableSize (at table) ≤ maxTotal
-    → ((n : ℕ) → n < nodes → total n ≡ totalOf nodes table n) → Allotted nodes h total share → Carries nodes table (dueOf nodes h total share)
+pub carries : (nodes : ℕ) (table : List ℕ) (h total share : ℕ → ℕ) → nodes ≤ maxNodes → length table ≡ tableSize
+    → sum tableSize (at table) ≤ maxTotal
+    → ((n : ℕ) → n < nodes → total n ≡ totalOf nodes table n) → Allotted nodes h total share
+    → Carries nodes table (dueOf nodes h total share)
 carries nodes table h total share h64 size small totals a =
     let due = dueOf nodes h total share in
-    let even : (n : ℕ) → n < nodes → sum nodes (due n) ≡ totalOf nodes table n = λ n l. due-sum nodes h total share n l (a .enough n l) ∙ totals n l in
+    let even : (n : ℕ) → n < nodes → sum nodes (due n) ≡ totalOf nodes table n =
+    λ n l. due-sum nodes h total share n l (a .enough n l) ∙ totals n l in
     record {
       adds-up = even;
       accepted = acceptable nodes table due h64 small;
@@ -221,7 +241,9 @@ carries nodes table h total share h64 size small totals a =
     }
 
 -- the same for the array of all totals
-pub carries-totals : (nodes : ℕ) (table totals : List ℕ) (h share : ℕ → ℕ) → nodes ≤ maxNodes → length table ≡ tableSize → sum tableSize (at table) ≤ maxTotal
+pub carries-totals : (nodes : ℕ) (table totals : List ℕ) (h share : ℕ → ℕ) → nodes ≤ maxNodes → length table ≡ tableSize
+    → sum tableSize (at table) ≤ maxTotal
     → totals ≡ totalsOf nodes table → Allotted nodes h (at totals) share → Carries nodes table (dueOf nodes h (at totals) share)
 carries-totals nodes table totals h share h64 size small e =
-    carries nodes table h (at totals) share h64 size small (λ n l. ap (λ (xs : List ℕ). at xs n) e ∙ tabulate-at nodes (totalOf nodes table) n l)
+    carries nodes table h (at totals) share h64 size small
+    (λ n l. ap (λ (xs : List ℕ). at xs n) e ∙ tabulate-at nodes (totalOf nodes table) n l)

@@ -34,14 +34,16 @@ module _ (end : ℕ → ℕ) where
       omega (arith, moved-one route count routes counts c, only-not (eqb (end route) c) count (ne-eqb (end route) c d))
 
   -- no move ends at the cell
-  pub moved-absent : (routes counts : List ℕ) (c : ℕ) → ((i : ℕ) → i < length routes → end (getD routes i 0) ≢ c) → moved end routes counts c ≡ 0
+  pub moved-absent : (routes counts : List ℕ) (c : ℕ) → ((i : ℕ) → i < length routes → end (getD routes i 0) ≢ c)
+      → moved end routes counts c ≡ 0
   unfolding moved
   moved-absent [] counts c h = refl
   moved-absent (route ∷ routes) [] c h = refl
   moved-absent (route ∷ routes) (count ∷ counts) c h =
       moved-other route count routes counts c (h 0 (omega arith)) ∙ moved-absent routes counts c (λ i l. h (suc i) (omega arith))
 
-  pub moved-append : (xs ys ks ls : List ℕ) (c : ℕ) → length xs ≡ length ks → moved end (xs ++ ys) (ks ++ ls) c ≡ moved end xs ks c + moved end ys ls c
+  pub moved-append : (xs ys ks ls : List ℕ) (c : ℕ) → length xs ≡ length ks
+      → moved end (xs ++ ys) (ks ++ ls) c ≡ moved end xs ks c + moved end ys ls c
   unfolding moved
   moved-append [] ys [] ls c e = omega arith
   moved-append [] ys (k ∷ ks) ls c e = absurd (omega arith)

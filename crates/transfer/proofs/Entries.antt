@@ -15,7 +15,8 @@ use Rattle.transfer.proofs.Next.{next-none, next-some}
 use Rattle.transfer.proofs.Turns.{turn-stop, rest-sender, rest-receiver, rest, senders-passed, receivers-passed}
 
 -- `rest` is left of `whole`, which began at entry e of the arrays routes₀ and counts₀
-pub record Left (n : ℕ) (routes₀ counts₀ : List ℕ) (e : ℕ) (whole : List Move) (routes counts : List ℕ) (entries : ℕ) (rest : List Move) : Type 0 where
+pub record Left (n : ℕ) (routes₀ counts₀ : List ℕ) (e : ℕ) (whole : List Move) (routes counts : List ℕ) (entries : ℕ)
+    (rest : List Move) : Type 0 where
   pub routes-long : length routes ≡ length routes₀
   pub counts-long : length counts ≡ length counts₀
   pub routes-left : sets routes entries (map (routeOf n) rest) ≡ sets routes₀ e (map (routeOf n) whole)
@@ -29,7 +30,8 @@ module _ (n : ℕ) (routes₀ counts₀ : List ℕ) (e : ℕ) (whole : List Move
   -- a part of it is written
   left-part : (routes counts : List ℕ) (entries : ℕ) (part rest : List Move) (routes′ counts′ : List ℕ) (entries′ : ℕ)
       → Left n routes₀ counts₀ e whole routes counts entries (part ++ rest)
-      → routes′ ≡ sets routes entries (map (routeOf n) part) → counts′ ≡ sets counts entries (map countOf part) → entries′ ≡ entries + length part
+      → routes′ ≡ sets routes entries (map (routeOf n) part) → counts′ ≡ sets counts entries (map countOf part)
+      → entries′ ≡ entries + length part
       → Left n routes₀ counts₀ e whole routes′ counts′ entries′ rest
   left-part routes counts entries part rest routes′ counts′ entries′ l er ec ee =
       record {
@@ -40,7 +42,8 @@ module _ (n : ℕ) (routes₀ counts₀ : List ℕ) (e : ℕ) (whole : List Move
         entries-left = omega (arith, l .entries-left, length-append part rest);
       }
     where
-      behind : (f : Move → ℕ) (xs : List ℕ) → sets (sets xs entries (map f part)) (entries + length part) (map f rest) ≡ sets xs entries (map f (part ++ rest))
+      behind : (f : Move → ℕ) (xs : List ℕ)
+          → sets (sets xs entries (map f part)) (entries + length part) (map f rest) ≡ sets xs entries (map f (part ++ rest))
       behind f xs =
           ap (λ (j : ℕ). sets (sets xs entries (map f part)) (entries + j) (map f rest)) (sym (length-map part f))
           ∙ sym (sets-append xs entries (map f part) (map f rest))
@@ -54,7 +57,8 @@ module _ (n : ℕ) (routes₀ counts₀ : List ℕ) (e : ℕ) (whole : List Move
 -- ---- a turn of the matching: the moves of the remaining turns are what is left
 
 -- sender s can still send `left` and receiver r still lacks `missing`
-pub record Pending (nodes : ℕ) (surplus shortage : ℕ → ℕ) (n : ℕ) (routes₀ counts₀ : List ℕ) (e : ℕ) (whole : List Move) (routes counts : List ℕ) (entries s left r missing : ℕ) : Type 0 where
+pub record Pending (nodes : ℕ) (surplus shortage : ℕ → ℕ) (n : ℕ) (routes₀ counts₀ : List ℕ) (e : ℕ) (whole : List Move)
+    (routes counts : List ℕ) (entries s left r missing : ℕ) : Type 0 where
   pub sent : ℕ
   pub got : ℕ
   pub s-le : s ≤ nodes
@@ -65,23 +69,30 @@ pub record Pending (nodes : ℕ) (surplus shortage : ℕ → ℕ) (n : ℕ) (rou
 
 module _ (nodes : ℕ) (surplus shortage : ℕ → ℕ) where
   -- the next sender, and the next receiver, have the same moves before them
-  to-sender : (s s′ count r got : ℕ) → r < nodes → NextFrom nodes surplus s s′ count → rest nodes surplus shortage s 0 r got ≡ rest nodes surplus shortage s′ 0 r got
+  to-sender : (s s′ count r got : ℕ) → r < nodes → NextFrom nodes surplus s s′ count
+      → rest nodes surplus shortage s 0 r got ≡ rest nodes surplus shortage s′ 0 r got
   to-sender s s′ count r got hr x =
       let q : s + (s′ - s) ≡ s′ = omega (arith, x .first .from-le) in
-      rw q at (senders-passed nodes surplus shortage (s′ - s) s r got (omega (arith, x .first .from-le, x .first .to-le)) hr (λ k a b. next-none x k a (omega (arith, x .first .from-le))))
+      rw q at (senders-passed nodes surplus shortage (s′ - s) s r got (omega (arith, x .first .from-le, x .first .to-le)) hr
+      (λ k a b. next-none x k a (omega (arith, x .first .from-le))))
 
   to-receiver : (s sent r r′ count : ℕ) → (s < nodes → 0 < surplus s - sent) → NextFrom nodes shortage r r′ count
       → rest nodes surplus shortage s sent r 0 ≡ rest nodes surplus shortage s sent r′ 0
   to-receiver s sent r r′ count h x = elim (decLe nodes s) [
-    | yes l ↦ turn-stop nodes surplus shortage (2 * nodes - (s + r)) s sent r 0 (inl l) ∙ sym (turn-stop nodes surplus shortage (2 * nodes - (s + r′)) s sent r′ 0 (inl l))
+    | yes l ↦
+        turn-stop nodes surplus shortage (2 * nodes - (s + r)) s sent r 0 (inl l)
+        ∙ sym (turn-stop nodes surplus shortage (2 * nodes - (s + r′)) s sent r′ 0 (inl l))
     | no d ↦
         let hs : s < nodes = omega (arith, d) in
         let q : r + (r′ - r) ≡ r′ = omega (arith, x .first .from-le) in
-        rw q at (receivers-passed nodes surplus shortage (r′ - r) s sent r hs (h hs) (omega (arith, x .first .from-le, x .first .to-le)) (λ k a b. next-none x k a (omega (arith, x .first .from-le))))
+        rw q at (receivers-passed nodes surplus shortage (r′ - r) s sent r hs (h hs) (omega (arith, x .first .from-le, x .first .to-le))
+        (λ k a b. next-none x k a (omega (arith, x .first .from-le))))
   ]
 
-  pub begin : (n : ℕ) (routes counts : List ℕ) (e s left r missing : ℕ) → 0 < nodes → NextFrom nodes surplus 0 s left → NextFrom nodes shortage 0 r missing
-      → Pending nodes surplus shortage n routes counts e (matched nodes surplus shortage (2 * nodes) 0 0 0 0) routes counts e s left r missing
+  pub begin : (n : ℕ) (routes counts : List ℕ) (e s left r missing : ℕ) → 0 < nodes → NextFrom nodes surplus 0 s left
+      → NextFrom nodes shortage 0 r missing
+      → Pending nodes surplus shortage n routes counts e
+      (matched nodes surplus shortage (2 * nodes) 0 0 0 0) routes counts e s left r missing
   begin n routes counts e s left r missing some x y =
       let z : 2 * nodes - 0 ≡ 2 * nodes = omega arith in
       let all : matched nodes surplus shortage (2 * nodes) 0 0 0 0 ≡ rest nodes surplus shortage 0 0 0 0 = rw z in
@@ -102,17 +113,22 @@ module _ (nodes : ℕ) (surplus shortage : ℕ → ℕ) where
     pub finish : (nodes ≤ s) ⊎ (nodes ≤ r)
         → (entries ≡ e + length whole) × ((routes ≡ sets routes₀ e (map (routeOf n) whole)) × (counts ≡ sets counts₀ e (map countOf whole)))
     finish h =
-        left-none n routes₀ counts₀ e whole routes counts entries (rw (turn-stop nodes surplus shortage (2 * nodes - (s + r)) s (p .sent) r (p .got) h) at (p .moves))
+        left-none n routes₀ counts₀ e whole routes counts entries
+        (rw (turn-stop nodes surplus shortage (2 * nodes - (s + r)) s (p .sent) r (p .got) h) at (p .moves))
 
     module _ (hs : s < nodes) (hr : r < nodes) (v : ℕ) (is : v ≡ min left missing) where
       is-pair : v ≡ min (surplus s - p .sent) (shortage r - p .got)
       is-pair = omega (arith, p .left-is hs, p .missing-is hr)
 
-      sender-rest : left ≤ missing → rest nodes surplus shortage s (p .sent) r (p .got) ≡ moveOf s r v ++ rest nodes surplus shortage (s + 1) 0 r (p .got + v)
-      sender-rest h = rw is-pair (rest-sender nodes surplus shortage s (p .sent) r (p .got) hs hr (omega (arith, p .left-is hs, p .missing-is hr)))
+      sender-rest : left ≤ missing
+          → rest nodes surplus shortage s (p .sent) r (p .got) ≡ moveOf s r v ++ rest nodes surplus shortage (s + 1) 0 r (p .got + v)
+      sender-rest h =
+          rw is-pair (rest-sender nodes surplus shortage s (p .sent) r (p .got) hs hr (omega (arith, p .left-is hs, p .missing-is hr)))
 
-      receiver-rest : missing < left → rest nodes surplus shortage s (p .sent) r (p .got) ≡ moveOf s r v ++ rest nodes surplus shortage s (p .sent + v) (r + 1) 0
-      receiver-rest h = rw is-pair (rest-receiver nodes surplus shortage s (p .sent) r (p .got) hs hr (omega (arith, p .left-is hs, p .missing-is hr)))
+      receiver-rest : missing < left
+          → rest nodes surplus shortage s (p .sent) r (p .got) ≡ moveOf s r v ++ rest nodes surplus shortage s (p .sent + v) (r + 1) 0
+      receiver-rest h =
+          rw is-pair (rest-receiver nodes surplus shortage s (p .sent) r (p .got) hs hr (omega (arith, p .left-is hs, p .missing-is hr)))
 
       -- there is room for the pair's move
       pub room : entries + length (moveOf s r v) ≤ e + length whole
@@ -121,7 +137,8 @@ module _ (nodes : ℕ) (surplus shortage : ℕ → ℕ) where
         | no d ↦ fits (rest nodes surplus shortage s (p .sent + v) (r + 1) 0) (receiver-rest (omega (arith, d)))
       ]
         where
-          fits : (l : List Move) → rest nodes surplus shortage s (p .sent) r (p .got) ≡ moveOf s r v ++ l → entries + length (moveOf s r v) ≤ e + length whole
+          fits : (l : List Move) → rest nodes surplus shortage s (p .sent) r (p .got) ≡ moveOf s r v ++ l
+              → entries + length (moveOf s r v) ≤ e + length whole
           fits l q = omega (arith, p .moves .entries-left, ap length q, length-append (moveOf s r v) l)
 
       module _ (routes′ counts′ : List ℕ) (entries′ : ℕ)
@@ -129,8 +146,11 @@ module _ (nodes : ℕ) (surplus shortage : ℕ → ℕ) where
           (er : routes′ ≡ sets routes entries (map (routeOf n) (moveOf s r v)))
           (ec : counts′ ≡ sets counts entries (map countOf (moveOf s r v))) where
         -- the moves that are left behind the pair's
-        behind : (l l′ : List Move) → rest nodes surplus shortage s (p .sent) r (p .got) ≡ moveOf s r v ++ l → l ≡ l′ → Left n routes₀ counts₀ e whole routes′ counts′ entries′ l′
-        behind l l′ q same = rw (← same) (left-part n routes₀ counts₀ e whole routes counts entries (moveOf s r v) l routes′ counts′ entries′ (rw q at (p .moves)) er ec ee)
+        behind : (l l′ : List Move) → rest nodes surplus shortage s (p .sent) r (p .got) ≡ moveOf s r v ++ l → l ≡ l′
+            → Left n routes₀ counts₀ e whole routes′ counts′ entries′ l′
+        behind l l′ q same =
+            rw (← same) (left-part n routes₀ counts₀ e whole routes counts entries (moveOf s r v) l routes′ counts′ entries′
+            (rw q at (p .moves)) er ec ee)
 
         pub sender-next : left ≤ missing → (s′ left′ : ℕ) → NextFrom nodes surplus (s + 1) s′ left′
             → Pending nodes surplus shortage n routes₀ counts₀ e whole routes′ counts′ entries′ s′ left′ r (missing - v)
@@ -142,7 +162,9 @@ module _ (nodes : ℕ) (surplus shortage : ℕ → ℕ) where
               r-le = p .r-le;
               left-is = λ l. omega (arith, x .is l);
               missing-is = λ l. omega (arith, p .missing-is hr);
-              moves = behind (rest nodes surplus shortage (s + 1) 0 r (p .got + v)) (rest nodes surplus shortage s′ 0 r (p .got + v)) (sender-rest h) (to-sender (s + 1) s′ left′ r (p .got + v) hr x);
+              moves =
+                  behind (rest nodes surplus shortage (s + 1) 0 r (p .got + v)) (rest nodes surplus shortage s′ 0 r (p .got + v))
+                  (sender-rest h) (to-sender (s + 1) s′ left′ r (p .got + v) hr x);
             }
 
         pub receiver-next : missing < left → (r′ missing′ : ℕ) → NextFrom nodes shortage (r + 1) r′ missing′
@@ -155,6 +177,8 @@ module _ (nodes : ℕ) (surplus shortage : ℕ → ℕ) where
               r-le = y .first .to-le;
               left-is = λ l. omega (arith, p .left-is hs);
               missing-is = λ l. omega (arith, y .is l);
-              moves = behind (rest nodes surplus shortage s (p .sent + v) (r + 1) 0) (rest nodes surplus shortage s (p .sent + v) r′ 0) (receiver-rest h)
+              moves =
+                  behind (rest nodes surplus shortage s (p .sent + v) (r + 1) 0) (rest nodes surplus shortage s (p .sent + v) r′ 0)
+                  (receiver-rest h)
                   (to-receiver s (p .sent + v) (r + 1) r′ missing′ (λ l. omega (arith, p .left-is hs)) y);
             }

@@ -94,7 +94,9 @@ module _ (nodes : ℕ) (surplus shortage : ℕ → ℕ) where
       where
         one : (k : ℕ) → only (ltb 0 (surplus k)) 1 + only (ltb 0 (shortage k)) 1 ≤ 1
         one k = elim (decLt 0 (surplus k)) [
-          | yes h ↦ omega (arith, only-max (ltb 0 (surplus k)) 1, only-not (ltb 0 (shortage k)) 1 (le-ltb 0 (shortage k) (omega (arith, apart k))))
+          | yes h ↦
+              omega
+              (arith, only-max (ltb 0 (surplus k)) 1, only-not (ltb 0 (shortage k)) 1 (le-ltb 0 (shortage k) (omega (arith, apart k))))
           | no d ↦ omega (arith, only-max (ltb 0 (shortage k)) 1, only-not (ltb 0 (surplus k)) 1 (le-ltb 0 (surplus k) (omega (arith, d))))
         ]
 
@@ -128,7 +130,9 @@ module _ (nodes : ℕ) (surplus shortage : ℕ → ℕ) where
           (⊎-elim (λ w. omega (arith, w)) (λ w. omega (arith, w)) (t .next)) p)
           (λ s sent r got m s′ sent′ r′ got′ rest t h p.
           let there = route n s r in
-          let fine = route-fine (record { sender = s; receiver = r; count = m }) (t .s-lt) (t .r-lt) (λ q. omega (arith, apart s, t .surplus-le, t .shortage-le, ap shortage q)) in
+          let fine =
+          route-fine (record { sender = s; receiver = r; count = m }) (t .s-lt) (t .r-lt)
+          (λ q. omega (arith, apart s, t .surplus-le, t .shortage-le, ap shortage q)) in
           rising-more (routeFine nodes) there there (map (routeOf n) rest) (omega arith) fine
           ∙ rising-from (routeFine nodes) (route n s′ r′) (there + 1) (map (routeOf n) rest)
           (⊎-elim (λ w. omega (arith, w)) (λ w. omega (arith, w)) (t .next)) p)
@@ -139,14 +143,16 @@ module _ (nodes : ℕ) (surplus shortage : ℕ → ℕ) where
           rw low at (rise (2 * nodes) 0 0 0 0 (omega arith) (omega arith) (omega arith))
 
   -- each count is some sender's, and not 0
-  counts-every : (most : (k : ℕ) → k < nodes → surplus k ≤ maxTotal) → (turns s sent r got : ℕ) → sent ≤ surplus s → got ≤ shortage r → 2 * nodes ≤ turns + (s + r)
+  counts-every : (most : (k : ℕ) → k < nodes → surplus k ≤ maxTotal) → (turns s sent r got : ℕ) → sent ≤ surplus s → got ≤ shortage r
+      → 2 * nodes ≤ turns + (s + r)
       → every countFine (map countOf (matched nodes surplus shortage turns s sent r got)) ≡ true
   counts-every most =
       walk nodes surplus shortage (λ s sent r got l. every countFine (map countOf l) ≡ true)
       (λ s sent r got e. unfold every in refl)
       (λ s sent r got m s′ sent′ r′ got′ rest t e p. p)
       (λ s sent r got m s′ sent′ r′ got′ rest t h p.
-      every-more countFine m (map countOf rest) (count-of m (record { low = h; high = omega (arith, most s (t .s-lt), t .surplus-le) })) ∙ p)
+      every-more countFine m (map countOf rest) (count-of m (record { low = h; high = omega (arith, most s (t .s-lt), t .surplus-le) }))
+      ∙ p)
 
   pub counts-fine : ((k : ℕ) → k < nodes → surplus k ≤ maxTotal) → every countFine (map countOf all) ≡ true
   counts-fine most = counts-every most (2 * nodes) 0 0 0 0 (omega arith) (omega arith) (omega arith)
@@ -156,7 +162,8 @@ module _ (nodes : ℕ) (surplus shortage : ℕ → ℕ) where
     abbrev In : List Move → Type 0
     In l = (i : ℕ) → i < length (map (routeOf n) l) → subdomain (getD (map (routeOf n) l) i 0) ≡ n
 
-    routes-at : (turns s sent r got : ℕ) → sent ≤ surplus s → got ≤ shortage r → 2 * nodes ≤ turns + (s + r) → In (matched nodes surplus shortage turns s sent r got)
+    routes-at : (turns s sent r got : ℕ) → sent ≤ surplus s → got ≤ shortage r → 2 * nodes ≤ turns + (s + r)
+        → In (matched nodes surplus shortage turns s sent r got)
     routes-at =
         walk nodes surplus shortage (λ s sent r got l. In l)
         (λ s sent r got e i l. absurd (omega arith))
@@ -184,7 +191,8 @@ module _ (nodes : ℕ) (surplus shortage : ℕ → ℕ) where
     left-stop s sent r got h q =
         let us = sum-fewer (k + 1) nodes surplus (omega arith) in
         let ur = sum-fewer (k + 1) nodes shortage (omega arith) in
-        let p : sum nodes surplus ≤ sum s surplus + sent = ⊎-elim (λ l. omega (arith, sum-fewer nodes s surplus l)) (λ l. omega (arith, sum-fewer nodes r shortage l)) h in
+        let p : sum nodes surplus ≤ sum s surplus + sent =
+        ⊎-elim (λ l. omega (arith, sum-fewer nodes s surplus l)) (λ l. omega (arith, sum-fewer nodes r shortage l)) h in
         (omega (arith, moved-none fromCell [] (cell k n)), omega (arith, moved-none intoCell [] (cell k n)))
 
     left-move : (s sent r got m s′ sent′ r′ got′ : ℕ) (rest : List Move) → Turn nodes surplus shortage s sent r got m s′ sent′ r′ got′
@@ -198,12 +206,40 @@ module _ (nodes : ℕ) (surplus shortage : ℕ → ℕ) where
         let es = route-sender n (mv .sender) (mv .receiver) hs hr in
         let er = route-receiver n (mv .sender) (mv .receiver) hs hr in (
           (elim (ℕ-discrete k s) [
-            | yes e ↦ omega (arith, ih .0, t .sends, beyond-here surplus k s sent m (t .surplus-le) e, moved-here fromCell (routeOf n mv) m (map (routeOf n) rest) (map countOf rest) (cell k n) (omega arith))
-            | no d ↦ omega (arith, ih .0, t .sends, beyond-other surplus k s sent m (t .surplus-le) d, moved-other fromCell (routeOf n mv) m (map (routeOf n) rest) (map countOf rest) (cell k n) (λ z. d (omega arith)))
+            | yes e ↦
+                omega (
+                  arith,
+                  ih .0,
+                  t .sends,
+                  beyond-here surplus k s sent m (t .surplus-le) e,
+                  moved-here fromCell (routeOf n mv) m (map (routeOf n) rest) (map countOf rest) (cell k n) (omega arith),
+                )
+            | no d ↦
+                omega (
+                  arith,
+                  ih .0,
+                  t .sends,
+                  beyond-other surplus k s sent m (t .surplus-le) d,
+                  moved-other fromCell (routeOf n mv) m (map (routeOf n) rest) (map countOf rest) (cell k n) (λ z. d (omega arith)),
+                )
           ]),
           (elim (ℕ-discrete k r) [
-            | yes e ↦ omega (arith, ih .1, t .gets, beyond-here shortage k r got m (t .shortage-le) e, moved-here intoCell (routeOf n mv) m (map (routeOf n) rest) (map countOf rest) (cell k n) (omega arith))
-            | no d ↦ omega (arith, ih .1, t .gets, beyond-other shortage k r got m (t .shortage-le) d, moved-other intoCell (routeOf n mv) m (map (routeOf n) rest) (map countOf rest) (cell k n) (λ z. d (omega arith)))
+            | yes e ↦
+                omega (
+                  arith,
+                  ih .1,
+                  t .gets,
+                  beyond-here shortage k r got m (t .shortage-le) e,
+                  moved-here intoCell (routeOf n mv) m (map (routeOf n) rest) (map countOf rest) (cell k n) (omega arith),
+                )
+            | no d ↦
+                omega (
+                  arith,
+                  ih .1,
+                  t .gets,
+                  beyond-other shortage k r got m (t .shortage-le) d,
+                  moved-other intoCell (routeOf n mv) m (map (routeOf n) rest) (map countOf rest) (cell k n) (λ z. d (omega arith)),
+                )
           ]),
         )
 
@@ -221,7 +257,8 @@ module _ (nodes : ℕ) (surplus shortage : ℕ → ℕ) where
     sends-surplus = omega (arith, left-all (omega (arith, sum-none surplus, sum-none shortage)) .0, sum-none surplus, sum-more k surplus)
 
     pub receives-shortage : receives (map (routeOf n) all) (map countOf all) (cell k n) ≡ shortage k
-    receives-shortage = omega (arith, left-all (omega (arith, sum-none surplus, sum-none shortage)) .1, sum-none shortage, sum-more k shortage)
+    receives-shortage =
+        omega (arith, left-all (omega (arith, sum-none surplus, sum-none shortage)) .1, sum-none shortage, sum-more k shortage)
 
 -- ---- surplus and shortage of holdings and due amounts
 

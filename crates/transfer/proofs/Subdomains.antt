@@ -16,10 +16,12 @@ use Rattle.transfer.proofs.Turns.{matched-eq}
 use Rattle.transfer.proofs.Matched.{moves-few}
 
 -- only what nodes hold and are due is looked at
-pub moves-eq : (nodes : ℕ) (holding due holding′ due′ : ℕ → ℕ) → ((k : ℕ) → k < nodes → holding k ≡ holding′ k) → ((k : ℕ) → k < nodes → due k ≡ due′ k)
+pub moves-eq : (nodes : ℕ) (holding due holding′ due′ : ℕ → ℕ) → ((k : ℕ) → k < nodes → holding k ≡ holding′ k)
+    → ((k : ℕ) → k < nodes → due k ≡ due′ k)
     → movesBetween nodes holding due ≡ movesBetween nodes holding′ due′
 moves-eq nodes holding due holding′ due′ h e =
-    matched-eq nodes (λ k. surplusOf (holding k) (due k)) (λ k. shortageOf (holding k) (due k)) (λ k. surplusOf (holding′ k) (due′ k)) (λ k. shortageOf (holding′ k) (due′ k))
+    matched-eq nodes (λ k. surplusOf (holding k) (due k)) (λ k. shortageOf (holding k) (due k)) (λ k. surplusOf (holding′ k) (due′ k))
+    (λ k. shortageOf (holding′ k) (due′ k))
     (λ k l. ap₂ surplusOf (h k l) (e k l)) (λ k l. ap₂ shortageOf (h k l) (e k l)) (2 * nodes) 0 0 0 0
 
 module _ (nodes : ℕ) (table : List ℕ) (due : ℕ → ℕ → ℕ) where
@@ -63,18 +65,32 @@ module _ (nodes : ℕ) (table : List ℕ) (due : ℕ → ℕ → ℕ) where
       pub counts-long : length counts ≡ length counts₀
       counts-long = ap length (w .counts-are) ∙ length-sets counts₀ 0 (collect n countsIn)
 
-      pub written-more : (moves : List Move) (routes′ counts′ : List ℕ) (e′ : ℕ) → moves ≡ subdomainMoves nodes table due n → e′ ≡ e + length moves
-          → routes′ ≡ sets routes e (map (routeOf n) moves) → counts′ ≡ sets counts e (map countOf moves) → Written routes₀ counts₀ (n + 1) routes′ counts′ e′
+      pub written-more : (moves : List Move) (routes′ counts′ : List ℕ) (e′ : ℕ) → moves ≡ subdomainMoves nodes table due n
+          → e′ ≡ e + length moves
+          → routes′ ≡ sets routes e (map (routeOf n) moves) → counts′ ≡ sets counts e (map countOf moves)
+          → Written routes₀ counts₀ (n + 1) routes′ counts′ e′
       written-more moves routes′ counts′ e′ m ee er ec =
           record {
-            entries = ee ∙ rw (m, collect-more n routesIn) (omega (arith, w .entries, length-append (collect n routesIn) (routesIn n), length-map (subdomainMoves nodes table due n) (routeOf n)));
-            routes-are = er ∙ rw (m, w .routes-are, w .entries, collect-more n routesIn) (sym (sets-append routes₀ 0 (collect n routesIn) (routesIn n) ∙ rw zero-add));
-            counts-are = ec ∙ rw (m, w .counts-are, w .entries ∙ lengths n, collect-more n countsIn) (sym (sets-append counts₀ 0 (collect n countsIn) (countsIn n) ∙ rw zero-add));
+            entries =
+                ee ∙ rw (m, collect-more n routesIn)
+                (omega (
+                  arith,
+                  w .entries,
+                  length-append (collect n routesIn) (routesIn n),
+                  length-map (subdomainMoves nodes table due n) (routeOf n),
+                ));
+            routes-are =
+                er ∙ rw (m, w .routes-are, w .entries, collect-more n routesIn)
+                (sym (sets-append routes₀ 0 (collect n routesIn) (routesIn n) ∙ rw zero-add));
+            counts-are =
+                ec ∙ rw (m, w .counts-are, w .entries ∙ lengths n, collect-more n countsIn)
+                (sym (sets-append counts₀ 0 (collect n countsIn) (countsIn n) ∙ rw zero-add));
           }
 
     pub written-all : (routes counts : List ℕ) (e : ℕ) → Written routes₀ counts₀ nodes routes counts e
         → nodes * (nodes - 1) ≤ length routes₀ → nodes * (nodes - 1) ≤ length counts₀
-        → (e ≡ length (allRoutes nodes table due)) × ((routes ≡ placed (allRoutes nodes table due) routes₀) × (counts ≡ placed (allCounts nodes table due) counts₀))
+        → (e ≡ length (allRoutes nodes table due)) × ((routes ≡ placed (allRoutes nodes table due) routes₀) × (counts ≡ placed
+        (allCounts nodes table due) counts₀))
     written-all routes counts e w hr hc = (
       w .entries,
       (
@@ -87,8 +103,10 @@ module _ (nodes : ℕ) (table : List ℕ) (due : ℕ → ℕ → ℕ) where
 module _ (nodes : ℕ) (table : List ℕ) (due due′ : ℕ → ℕ → ℕ) (same : (n : ℕ) → n < nodes → due n ≡ due′ n) where
   pub all-routes-eq : allRoutes nodes table due ≡ allRoutes nodes table due′
   all-routes-eq =
-      collect-eq nodes (routesIn nodes table due) (routesIn nodes table due′) (λ n l. ap (λ (f : ℕ → ℕ). map (routeOf n) (movesBetween nodes (λ k. held table k n) f)) (same n l))
+      collect-eq nodes (routesIn nodes table due) (routesIn nodes table due′)
+      (λ n l. ap (λ (f : ℕ → ℕ). map (routeOf n) (movesBetween nodes (λ k. held table k n) f)) (same n l))
 
   pub all-counts-eq : allCounts nodes table due ≡ allCounts nodes table due′
   all-counts-eq =
-      collect-eq nodes (countsIn nodes table due) (countsIn nodes table due′) (λ n l. ap (λ (f : ℕ → ℕ). map countOf (movesBetween nodes (λ k. held table k n) f)) (same n l))
+      collect-eq nodes (countsIn nodes table due) (countsIn nodes table due′)
+      (λ n l. ap (λ (f : ℕ → ℕ). map countOf (movesBetween nodes (λ k. held table k n) f)) (same n l))

@@ -48,7 +48,8 @@ module _ (nodes : ℕ) (surplus shortage : ℕ → ℕ) where
 
     pub rest-receiver : shortage r - got < surplus s - sent
         → matched nodes surplus shortage (2 * nodes - (s + r)) s sent r got
-        ≡ moveOf s r (pair s sent r got) ++ matched nodes surplus shortage (2 * nodes - (s + (r + 1))) s (sent + pair s sent r got) (r + 1) 0
+        ≡ moveOf s r (pair s sent r got) ++ matched nodes surplus shortage (2 * nodes - (s + (r + 1))) s (sent + pair s sent r got)
+        (r + 1) 0
     rest-receiver h =
         let e : 2 * nodes - (s + r) ≡ suc (2 * nodes - (s + (r + 1))) = omega arith in
         rw e (turn-receiver (2 * nodes - (s + (r + 1))) s sent r got hs hr h)
@@ -59,7 +60,8 @@ module _ (nodes : ℕ) (surplus shortage : ℕ → ℕ) where
 
   -- ---- nodes without a surplus or a shortage are passed
 
-  pub senders-passed : (d s r got : ℕ) → s + d ≤ nodes → r < nodes → ((k : ℕ) → s ≤ k → k < s + d → surplus k ≡ 0) → rest s 0 r got ≡ rest (s + d) 0 r got
+  pub senders-passed : (d s r got : ℕ) → s + d ≤ nodes → r < nodes → ((k : ℕ) → s ≤ k → k < s + d → surplus k ≡ 0)
+      → rest s 0 r got ≡ rest (s + d) 0 r got
   senders-passed zero s r got h hr z = rw (add-zero s)
   senders-passed (suc d) s r got h hr z =
       let here : surplus s ≡ 0 = z s (omega arith) (omega arith) in
@@ -69,14 +71,16 @@ module _ (nodes : ℕ) (surplus shortage : ℕ → ℕ) where
       let e : s + suc d ≡ s + 1 + d = omega arith in
       rw e (one ∙ senders-passed d (s + 1) r got (omega arith) hr (λ k a b. z k (omega arith) (omega arith)))
 
-  pub receivers-passed : (d s sent r : ℕ) → s < nodes → 0 < surplus s - sent → r + d ≤ nodes → ((k : ℕ) → r ≤ k → k < r + d → shortage k ≡ 0)
+  pub receivers-passed : (d s sent r : ℕ) → s < nodes → 0 < surplus s - sent → r + d ≤ nodes
+      → ((k : ℕ) → r ≤ k → k < r + d → shortage k ≡ 0)
       → rest s sent r 0 ≡ rest s sent (r + d) 0
   receivers-passed zero s sent r hs h l z = rw (add-zero r)
   receivers-passed (suc d) s sent r hs h l z =
       let here : shortage r ≡ 0 = z r (omega arith) (omega arith) in
       let v : pair s sent r 0 ≡ 0 = omega (arith, here) in
       let g : sent + 0 ≡ sent = omega arith in
-      let one : rest s sent r 0 ≡ rest s sent (r + 1) 0 = rw g at (rw v at (rest-receiver s sent r 0 hs (omega arith) (omega (arith, here)))) in
+      let one : rest s sent r 0 ≡ rest s sent (r + 1) 0 =
+      rw g at (rw v at (rest-receiver s sent r 0 hs (omega arith) (omega (arith, here)))) in
       let e : r + suc d ≡ r + 1 + d = omega arith in
       rw e (one ∙ receivers-passed d s sent (r + 1) hs h (omega arith) (λ k a b. z k (omega arith) (omega arith)))
 
@@ -120,8 +124,10 @@ module _ (nodes : ℕ) (surplus shortage : ℕ → ℕ) where
 
   module _ (P : ℕ → ℕ → ℕ → ℕ → List Move → Type 0)
       (stop : (s sent r got : ℕ) → (nodes ≤ s) ⊎ (nodes ≤ r) → P s sent r got [])
-      (pass : (s sent r got m s′ sent′ r′ got′ : ℕ) (rest : List Move) → Turn s sent r got m s′ sent′ r′ got′ → m ≡ 0 → P s′ sent′ r′ got′ rest → P s sent r got rest)
-      (move : (s sent r got m s′ sent′ r′ got′ : ℕ) (rest : List Move) → Turn s sent r got m s′ sent′ r′ got′ → 0 < m → P s′ sent′ r′ got′ rest
+      (pass : (s sent r got m s′ sent′ r′ got′ : ℕ) (rest : List Move) → Turn s sent r got m s′ sent′ r′ got′ → m ≡ 0
+      → P s′ sent′ r′ got′ rest → P s sent r got rest)
+      (move : (s sent r got m s′ sent′ r′ got′ : ℕ) (rest : List Move) → Turn s sent r got m s′ sent′ r′ got′ → 0 < m
+      → P s′ sent′ r′ got′ rest
       → P s sent r got (record { sender = s; receiver = r; count = m } ∷ rest)) where
     turn : (s sent r got m s′ sent′ r′ got′ : ℕ) (rest : List Move) → Turn s sent r got m s′ sent′ r′ got′ → P s′ sent′ r′ got′ rest
         → P s sent r got (moveOf s r m ++ rest)
@@ -145,11 +151,16 @@ module _ (nodes : ℕ) (surplus shortage : ℕ → ℕ) where
             let hr : r < nodes = omega (arith, dr) in
             let m = pair s sent r got in
             elim (decLe (surplus s - sent) (shortage r - got)) [
-              | yes h ↦ rw (turn-sender turns s sent r got hs hr h) (turn s sent r got m (s + 1) 0 r (got + m) (matched nodes surplus shortage turns (s + 1) 0 r (got + m)) (sender-done s sent r got hs hr bs br h)
+              | yes h ↦
+                  rw (turn-sender turns s sent r got hs hr h)
+                  (turn s sent r got m (s + 1) 0 r (got + m) (matched nodes surplus shortage turns (s + 1) 0 r (got + m))
+                  (sender-done s sent r got hs hr bs br h)
                   (walk turns (s + 1) 0 r (got + m) (omega arith) (omega arith) (omega arith)))
               | no d ↦
                   let h : shortage r - got < surplus s - sent = omega (arith, d) in
-                  rw (turn-receiver turns s sent r got hs hr h) (turn s sent r got m s (sent + m) (r + 1) 0 (matched nodes surplus shortage turns s (sent + m) (r + 1) 0) (receiver-done s sent r got hs hr bs br h)
+                  rw (turn-receiver turns s sent r got hs hr h)
+                  (turn s sent r got m s (sent + m) (r + 1) 0 (matched nodes surplus shortage turns s (sent + m) (r + 1) 0)
+                  (receiver-done s sent r got hs hr bs br h)
                   (walk turns s (sent + m) (r + 1) 0 (omega arith) (omega arith) (omega arith)))
             ]
       ]
@@ -157,7 +168,8 @@ module _ (nodes : ℕ) (surplus shortage : ℕ → ℕ) where
 
 -- ---- only what stands below the number of nodes is looked at
 
-pub matched-eq : (nodes : ℕ) (surplus shortage surplus′ shortage′ : ℕ → ℕ) → ((k : ℕ) → k < nodes → surplus k ≡ surplus′ k) → ((k : ℕ) → k < nodes → shortage k ≡ shortage′ k)
+pub matched-eq : (nodes : ℕ) (surplus shortage surplus′ shortage′ : ℕ → ℕ) → ((k : ℕ) → k < nodes → surplus k ≡ surplus′ k)
+    → ((k : ℕ) → k < nodes → shortage k ≡ shortage′ k)
     → (turns s sent r got : ℕ) → matched nodes surplus shortage turns s sent r got ≡ matched nodes surplus′ shortage′ turns s sent r got
 matched-eq nodes f g f′ g′ ef eg zero s sent r got = unfold matched in refl
 matched-eq nodes f g f′ g′ ef eg (suc turns) s sent r got = elim (decLe nodes s) [

@@ -53,7 +53,8 @@ pub fn sends_within(table: &[u32; TABLE_SIZE], moves: &[u8], e: usize) -> bool
 // Applies moves that passed this test, in place: no cell has less than it sends, and none comes to more than the table's sum.
 pub fn apply_moves(table: &mut [u32; TABLE_SIZE], moves: &[u8], e: usize)
     requires { ⌜ Ready (now table) (now moves) e × (sendsWithin (now table) (routesOf (now moves) e) (countsOf (now moves) e) ≡ true) ⌝ }
-    ensures { λ _. ⌜ now (table .exit) ≡ carried (now (table .entry)) (routesOf (now (moves .entry)) e) (countsOf (now (moves .entry)) e) ⌝ }
+    ensures { λ _. ⌜
+        now (table .exit) ≡ carried (now (table .entry)) (routesOf (now (moves .entry)) e) (countsOf (now (moves .entry)) e) ⌝ }
 {
     let mut i = 0;
     while i < e {

@@ -23,7 +23,8 @@ pub put-sets : (l : List ℕ) (i w : ℕ) → putWord l i w ≡ sets l i (bytesO
 put-sets l i w = rw (add-one i, add-two i, add-three i)
 
 -- a word right behind a run of words
-pub put-behind : (l : List ℕ) (i : ℕ) (ws : List ℕ) (w : ℕ) → putWord (sets l i (encode ws)) (i + 4 * length ws) w ≡ sets l i (encode ws ++ bytesOf w)
+pub put-behind : (l : List ℕ) (i : ℕ) (ws : List ℕ) (w : ℕ)
+    → putWord (sets l i (encode ws)) (i + 4 * length ws) w ≡ sets l i (encode ws ++ bytesOf w)
 put-behind l i ws w =
     put-sets (sets l i (encode ws)) (i + 4 * length ws) w
     ∙ ap (λ (j : ℕ). sets (sets l i (encode ws)) (i + j) (bytesOf w)) (sym (length-encode ws))
@@ -58,7 +59,8 @@ record-placed out h xs ys a b ea eb fits =
     let hb : b ≡ 0 + length (encode h ++ encode xs) = simp (length-append, length-encode) (omega arith) in
     let le : length (encode h ++ encode xs ++ encode ys) ≤ length out = simp (length-append, length-encode) (omega arith) in
     rw (ha, ← sets-append out 0 (encode h) (encode xs), hb, ← sets-append out 0 (encode h ++ encode xs) (encode ys))
-    (sets-placed (encode h ++ encode xs ++ encode ys) out le ∙ ap (λ (r : List ℕ). placed r out) (sym (encode-append (h ++ xs) ys ∙ ap (λ (l : List ℕ). l ++ encode ys) (encode-append h xs))))
+    (sets-placed (encode h ++ encode xs ++ encode ys) out le
+    ∙ ap (λ (r : List ℕ). placed r out) (sym (encode-append (h ++ xs) ys ∙ ap (λ (l : List ℕ). l ++ encode ys) (encode-append h xs))))
 
 -- ---- a record of k bytes, in a buffer that is too short for it, and in one that is not
 

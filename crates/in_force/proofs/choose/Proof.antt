@@ -6,12 +6,14 @@ use denote.Ref.{now}
 use Rattle.plan.specs.declared.PlanReading.the-variants.{Accepted}
 use Rattle.plan.specs.Plan.{answerOf, readPlan}
 use Rattle.plan.proofs.Accepted.{reading-accepted}
-use Rattle.in_force.proofs.Laws.{force-old-refused, force-new-refused, force-nodes, force-new, force-primary, force-kept, force-other}
+use Rattle.in_force.proofs.Laws.{force-old-refused, force-new-refused, force-nodes, force-new, force-primary, force-kept}
+use Rattle.in_force.proofs.Laws.{force-other}
 use Rattle.in_force.proofs.choose.Statement.{statement}
 use Rattle.in_force.proofs.choose.Tie as tie
 
 -- what was read of the old plan, and of the new
-old-read : (c : tie.After-a) → answerOf (Accepted (c .a .given .0 .0)) ≡ readPlan (now (c .before .before .before .before .before .args .old))
+old-read : (c : tie.After-a)
+    → answerOf (Accepted (c .a .given .0 .0)) ≡ readPlan (now (c .before .before .before .before .before .args .old))
 old-read c = ap answerOf (sym (c .a .given .1)) ∙ c .before .before .read-plan .ensures
 
 new-read : (c : tie.After-b) →
@@ -20,10 +22,14 @@ new-read : (c : tie.After-b) →
 new-read c = ap answerOf (sym (c .b .given .1)) ∙ c .before .before .read-plan2 .ensures
 
 returns : tie.Need-returns
-returns c = sym (force-old-refused _ _ (c .enum-told .given .0 .0) (ap answerOf (sym (c .enum-told .given .1)) ∙ c .before .before .read-plan .ensures))
+returns c =
+    sym (force-old-refused _ _ (c .enum-told .given .0 .0)
+    (ap answerOf (sym (c .enum-told .given .1)) ∙ c .before .before .read-plan .ensures))
 
 returns-2 : tie.Need-returns-2
-returns-2 c = sym (force-new-refused _ _ (c .enum-told2 .given .0 .0) (ap answerOf (sym (c .enum-told2 .given .1)) ∙ c .before .before .read-plan2 .ensures))
+returns-2 c =
+    sym (force-new-refused _ _ (c .enum-told2 .given .0 .0)
+    (ap answerOf (sym (c .enum-told2 .given .1)) ∙ c .before .before .read-plan2 .ensures))
 
 returns-3 : tie.Need-returns-3
 returns-3 c =
@@ -62,7 +68,8 @@ returns-6 c =
     let c1 = c2 .before .before in
     let b = c1 .before .before .before .before in
     let a = b .before .before .before .before in
-    sym (force-kept _ _ _ _ _ (old-read a) _ _ _ (new-read b) (c1 .if1 .left) (c2 .if2 .left) (c3 .if3 .left) (sym (c .before .same-helpands .ensures) ∙ c .if4 .taken))
+    sym (force-kept _ _ _ _ _ (old-read a) _ _ _ (new-read b) (c1 .if1 .left) (c2 .if2 .left) (c3 .if3 .left)
+    (sym (c .before .same-helpands .ensures) ∙ c .if4 .taken))
 
 returns-7 : tie.Need-returns-7
 returns-7 c =
@@ -71,7 +78,8 @@ returns-7 c =
     let c1 = c2 .before .before in
     let b = c1 .before .before .before .before in
     let a = b .before .before .before .before in
-    sym (force-other _ _ _ _ _ (old-read a) _ _ _ (new-read b) (c1 .if1 .left) (c2 .if2 .left) (c3 .if3 .left) (sym (c .before .same-helpands .ensures) ∙ c .if4 .left))
+    sym (force-other _ _ _ _ _ (old-read a) _ _ _ (new-read b) (c1 .if1 .left) (c2 .if2 .left) (c3 .if3 .left)
+    (sym (c .before .same-helpands .ensures) ∙ c .if4 .left))
 
 pub choose-spec : {M : Type 1} → statement M
 choose-spec =

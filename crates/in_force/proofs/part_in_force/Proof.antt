@@ -25,9 +25,9 @@ part-in-force-spec =
     (tie.spec
     (λ c κs. search needs)  -- choose-requires
     (λ c. search needs)  -- enum-known-chosen
-    (λ c. omega (arith, inside (c .before .before .before) (Old (c .before .chosen .given .0 .0)) (c .before .chosen .given .1)))  -- mul-t7
+    (λ c. omega (arith, inside (c .before .before .before) (Old _) (c .before .chosen .given .1)))  -- mul-t7
     (λ c. search needs)  -- enum-known-chosen-2
-    (λ c. omega (arith, inside (c .before .before .before) (New (c .before .chosen2 .given .0 .0)) (c .before .chosen2 .given .1)))  -- mul-t8
+    (λ c. omega (arith, inside (c .before .before .before) (New _) (c .before .chosen2 .given .1)))  -- mul-t8
     (λ c. search needs)  -- enum-told
     (λ c. ap partOf (found (c .before .before .before) _ (c .before .chosen .given .1)))  -- returns
     (λ c. ap partOf (found (c .before .before .before) _ (c .before .chosen2 .given .1)))  -- returns-2

@@ -27,7 +27,8 @@ read : (c : tie.After-word-number2 Inv-loop μ-loop) →
     let l = c .before .before .before in
     let a = l .before .before .before .args in
     let k = l .loop .k in
-    eqb (at (helpandsOf (now (a .old)) (a .nodes)) k) (at (helpandsOf (now (a .new)) (a .nodes)) k) ≡ eqb (c .before .word-number .result) (c .word-number2 .result)
+    eqb (at (helpandsOf (now (a .old)) (a .nodes)) k) (at (helpandsOf (now (a .new)) (a .nodes)) k) ≡ eqb (c .before .word-number .result)
+    (c .word-number2 .result)
 read c =
     let l = c .before .before .before in
     let a = l .before .before .before .args in

@@ -33,7 +33,8 @@ here : (c : tie.After-word-number Inv-loop μ-loop) →
 here c =
     let l = c .before .before in
     let a = l .before .before .args in
-    l .loop .inv .1 ∙ rw (part-more (now (a .s)) (2 + a .e) (a .e) (l .loop .i) (c .before .loop-test .taken) (omega arith), ← c .word-number .ensures)
+    l .loop .inv .1
+    ∙ rw (part-more (now (a .s)) (2 + a .e) (a .e) (l .loop .i) (c .before .loop-test .taken) (omega arith), ← c .word-number .ensures)
 
 -- a count above the bound is not fine
 over : (c : tie.Then2 Inv-loop μ-loop) → countFine (c .before .before .word-number .result) ≡ false

@@ -33,7 +33,8 @@ here : (c : tie.After-word-number Inv-loop μ-loop) →
 here c =
     let l = c .before .before in
     let a = l .before .before .args in
-    l .loop .inv .1 ∙ rw (part-more (now (a .s)) 2 (a .e) (l .loop .i) (c .before .loop-test .taken) (omega arith), ← c .word-number .ensures)
+    l .loop .inv .1
+    ∙ rw (part-more (now (a .s)) 2 (a .e) (l .loop .i) (c .before .loop-test .taken) (omega arith), ← c .word-number .ensures)
 
 -- past both tests the route is fine
 passes : (c : tie.Else2 Inv-loop μ-loop) →
@@ -46,6 +47,10 @@ add-low : tie.Need-add-low Inv-loop μ-loop
 add-low c =
     let r = c .before .before .before in
     omega (arith, route-is (r .before .before .before .before .args .n) (r .word-number .result) (passes c) .subdomain-below)
+
+returns-2 : tie.Need-returns-2 Inv-loop μ-loop
+returns-2 c =
+    sym (here (c .before .before .before) ∙ rising-not _ _ _ _ (sym (c .before .route-fine .ensures) ∙ not-true _ (c .if2 .taken)))
 
 returns-3 : tie.Need-returns-3 Inv-loop μ-loop
 returns-3 c =
@@ -66,7 +71,7 @@ routes-fine-spec =
     (λ c κs. search needs)  -- word-number-requires
     (λ c. sym (here (c .before) ∙ rising-low _ _ _ _ (omega arith)))  -- returns
     (λ c κs. search needs)  -- route-fine-requires
-    (λ c. sym (here (c .before .before .before) ∙ rising-not _ _ _ _ (sym (c .before .route-fine .ensures) ∙ not-true _ (c .if2 .taken))))  -- returns-2
+    returns-2
     add-low
     (λ c. search needs)  -- add-i
     (λ c. search needs)  -- loop-less

@@ -40,10 +40,12 @@ shape c =
     c .check-shape .ensures ∙ ap (λ (h : ℕ → ℕ). checkedOf (shapeFine (a .n) (a .kind) h)) (same w)
 
 fine : (c : tie.After-shares-fine) →
-    let a = c .before .before .before .before .before .before .before .before .before .args in
+    let checked = c .before .before .before .before in
+    let a = checked .before .before .before .before .before .args in
     c .shares-fine .result ≡ sharesFine (a .n) (a .limit) (at (helpandsOf (now (a .s)) (a .n))) (at (sharesOf (now (a .s)) (a .n)))
 fine c =
-    let w = c .before .before .before .before .before .before .before in
+    let checked = c .before .before .before .before in
+    let w = checked .before .before .before in
     let a = w .before .before .args in
     let x = ap at (c .before .words-642 .ensures) ∙ padded-same (sharesOf (now (a .s)) (a .n)) in
     c .shares-fine .ensures ∙ ap₂ (λ (h x : ℕ → ℕ). sharesFine (a .n) (a .limit) h x) (same w) x
@@ -66,13 +68,15 @@ returns-3 : tie.Need-returns-3
 returns-3 c =
     let m = c .before .before .before in
     let k = m .before .before in
-    sym (arrays-fine _ _ _ _ (passed (k .before)) (checked-passed _ (shape k) (m .enum-told .given .1)) (sym (fine (c .before)) ∙ c .if2 .taken))
+    sym (arrays-fine _ _ _ _ (passed (k .before)) (checked-passed _ (shape k) (m .enum-told .given .1))
+    (sym (fine (c .before)) ∙ c .if2 .taken))
 
 returns-4 : tie.Need-returns-4
 returns-4 c =
     let m = c .before .before .before in
     let k = m .before .before in
-    sym (arrays-share _ _ _ _ (passed (k .before)) (checked-passed _ (shape k) (m .enum-told .given .1)) (sym (fine (c .before)) ∙ c .if2 .left))
+    sym (arrays-share _ _ _ _ (passed (k .before)) (checked-passed _ (shape k) (m .enum-told .given .1))
+    (sym (fine (c .before)) ∙ c .if2 .left))
 
 pub read-arrays-spec : {M : Type 1} → statement M
 read-arrays-spec =

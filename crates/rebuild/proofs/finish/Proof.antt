@@ -24,6 +24,15 @@ Inv-loop nodes s root helpands₀ shares₀ k₀ helpands shares k =
 abbrev μ-loop : tie.MeasureT-loop
 μ-loop nodes s root helpands₀ shares₀ k₀ helpands shares k = nodes - k
 
+-- the points that the facts below speak of: the start, and the loop's turn
+abbrev begun : tie.At-loop Inv-loop μ-loop → tie.Start Inv-loop μ-loop
+begun l =
+    let found = l .before .before .before .before in
+    found .before .before .before .before
+
+abbrev turn-of : tie.After-in-b Inv-loop μ-loop → tie.In-loop Inv-loop μ-loop
+turn-of c = c .before .before .before .before
+
 -- no node is in B
 returns : tie.Need-returns Inv-loop μ-loop
 returns c =
@@ -32,8 +41,8 @@ returns c =
 
 loop-again : tie.Need-loop-again Inv-loop μ-loop
 loop-again c =
-    let l = c .before .before .before .before .before .before in
-    let s = l .before .before .before .before .before .before .before .before .args .t1 in
+    let l = turn-of (c .before) .before in
+    let s = begun l .args .t1 in
     let k = l .loop .k in
     let v = l .loop .inv in
     let o = sym (c .before .in-b .ensures) in
@@ -58,7 +67,7 @@ returns-2 : tie.Need-returns-2 Inv-loop μ-loop
 returns-2 c =
     let l = c .before in
     let v = l .loop .inv in
-    let e : l .loop .k ≡ l .before .before .before .before .before .before .before .before .args .nodes = omega arith in
+    let e : l .loop .k ≡ begun l .args .nodes = omega arith in
     rw (v .2, v .3, e) (sym (finish-at _ _ _ (v .1)))
 
 pub finish-spec : {M : Type 1} → statement M
@@ -71,14 +80,20 @@ finish-spec =
     (λ c. search needs)  -- enum-known-root
     (λ c. search needs)  -- enum-told
     returns
-    (λ c. (search needs, sym (c .before .before .before .lowest-in-b .ensures) ∙ c .before .root .given .1, sym (tabulate-none _), sym (tabulate-none _)))  -- loop-holds
+    (λ c. (
+      search needs,
+      sym (c .before .before .before .lowest-in-b .ensures)
+          ∙ c .before .root .given .1,
+      sym (tabulate-none _),
+      sym (tabulate-none _),
+    ))  -- loop-holds
     (λ c. search needs)  -- mul-in-b
     (λ c. search needs)  -- element-copy-out-in-b
     (λ c. search needs)  -- mul-in-b-2
     (λ c. search needs)  -- element-copy-out-in-b-2
     (λ c. search needs)  -- element-copy-out-in-b-3
     (λ c κs. search needs)  -- in-b-requires
-    (λ c. omega (arith, best-found _ _ _ _ (c .before .before .before .before .before .before .loop .inv .1) .0))  -- cast-helpands
+    (λ c. omega (arith, best-found _ _ _ _ (turn-of (c .before) .before .loop .inv .1) .0))  -- cast-helpands
     (λ c. search needs)  -- mul-helpands
     (λ c. search needs)  -- array-write-helpands
     (λ c. search needs)  -- mul-shares

@@ -16,7 +16,8 @@ use Rattle.arrays.specs.Arrays.{at}
 use Rattle.rebuild.specs.declared.Balance.{Balance}
 use Rattle.rebuild.specs.Target.{targetsOf}
 use Rattle.rebuild.specs.Rebuild.{is, startOf, runOf, finishOf, rebuiltOf, nextL, nextG}
-use Rattle.rebuild.proofs.Loops.{Reached, Served, unfinished, next-l, reached-end, reached-some, reached-served, reached-turn, reached-less, start-sound}
+use Rattle.rebuild.proofs.Loops.{Reached, Served, unfinished, next-l, reached-end, reached-some, reached-served, reached-turn}
+use Rattle.rebuild.proofs.Loops.{reached-less, start-sound}
 use Rattle.rebuild.proofs.rebuild.Statement.{statement}
 use Rattle.rebuild.proofs.rebuild.Tie as tie
 
@@ -53,7 +54,9 @@ loop-holds c =
 -- where l is found
 module _ (c : tie.After-l Inv-loop μ-loop) where
   abbrev head : tie.At-loop Inv-loop μ-loop
-  head = c .before .before .before .before .before .before .before
+  head =
+      let scanned = c .before .before in
+      scanned .before .before .before .before .before
 
   abbrev start : tie.Start Inv-loop μ-loop
   start = head .before .before
@@ -62,26 +65,31 @@ module _ (c : tie.After-l Inv-loop μ-loop) where
   l-is = sym (c .before .before .smallest-in-a .ensures) ∙ c .l .given .1
 
   -- it is a node under its target
-  l-fits : (c .l .given .0 .0 < start .args .nodes) × (is (head .loop .s .finished) (c .l .given .0 .0) ≡ false) × (at (head .loop .s .loads) (c .l .given .0 .0) < at (head .loop .s .targets) (c .l .given .0 .0))
+  l-fits : (c .l .given .0 .0 < start .args .nodes) × (is (head .loop .s .finished) (c .l .given .0 .0) ≡ false)
+      × (at (head .loop .s .loads) (c .l .given .0 .0) < at (head .loop .s .targets) (c .l .given .0 .0))
   l-fits = next-l (start .args .nodes) (start .args .p) (start .pre .1) (at (start .args .totals)) (head .loop .s) (c .l .given .0 .0) l-is
 
   old-fits : at (start .args .t2) (c .l .given .0 .0) < start .args .nodes
   old-fits = old-below start (c .l .given .0 .0) (l-fits .0)
 
 abbrev found-l : tie.After-choose-arg3 Inv-loop μ-loop → tie.After-l Inv-loop μ-loop
-found-l c = c .before .before .before .before .before .before .before
+found-l c =
+    let need = c .before .before .before .before in
+    need .before .before .before
 
 -- where g is found too
 module _ (c : tie.After-g Inv-loop μ-loop) where
   abbrev l-found : tie.After-l Inv-loop μ-loop
   l-found = found-l (c .before .before .before)
 
-  g-is : nextG (start l-found .args .nodes) (start l-found .args .t2) (head l-found .loop .s) (l-found .l .given .0 .0) ≡ At (c .g .given .0 .0)
+  g-is : nextG (start l-found .args .nodes) (start l-found .args .t2) (head l-found .loop .s) (l-found .l .given .0 .0)
+      ≡ At (c .g .given .0 .0)
   g-is = sym (c .before .before .choose .ensures) ∙ c .g .given .1
 
   g-fits : Served (start l-found .args .nodes) (head l-found .loop .s) (l-found .l .given .0 .0) (c .g .given .0 .0)
   g-fits =
-      reached-served (start l-found .args .nodes) (start l-found .args .p) (start l-found .pre .1) (at (start l-found .args .totals)) (start l-found .args .t2) (old-below (start l-found))
+      reached-served (start l-found .args .nodes) (start l-found .args .p) (start l-found .pre .1) (at (start l-found .args .totals))
+      (start l-found .args .t2) (old-below (start l-found))
       _ (head l-found .loop .s) (head l-found .loop .inv) (l-found .l .given .0 .0) (c .g .given .0 .0) (l-is l-found) g-is
 
 loop-less : tie.Need-loop-less Inv-loop μ-loop
@@ -89,14 +97,16 @@ loop-less c =
     let g = c .before .before in
     let b = start (l-found g) in
     rw (c .turn .ensures)
-    (reached-less (b .args .nodes) (b .args .p) (b .pre .1) (at (b .args .totals)) (b .args .t2) (old-below b) _ _ (head (l-found g) .loop .inv) _ _ (l-is (l-found g)) (g-is g))
+    (reached-less (b .args .nodes) (b .args .p) (b .pre .1) (at (b .args .totals)) (b .args .t2) (old-below b) _ _
+    (head (l-found g) .loop .inv) _ _ (l-is (l-found g)) (g-is g))
 
 loop-again : tie.Need-loop-again Inv-loop μ-loop
 loop-again c =
     let g = c .before .before in
     let b = start (l-found g) in
     rw (c .turn .ensures)
-    (reached-turn (b .args .nodes) (b .args .p) (b .pre .1) (at (b .args .totals)) (b .args .t2) (old-below b) _ _ (head (l-found g) .loop .inv) _ _ (l-is (l-found g)) (g-is g))
+    (reached-turn (b .args .nodes) (b .args .p) (b .pre .1) (at (b .args .totals)) (b .args .t2) (old-below b) _ _
+    (head (l-found g) .loop .inv) _ _ (l-is (l-found g)) (g-is g))
 
 returns : tie.Need-returns Inv-loop μ-loop
 unfolding rebuiltOf
@@ -107,8 +117,10 @@ returns c =
     let a = b .args in
     c .finish .ensures
     ∙ ap (finishOf (a .nodes)) (sym (⊎-elim
-    (λ w. absurd (reached-some (a .nodes) (a .p) (b .pre .1) (at (a .totals)) (a .t2) (old-below b) _ _ (h .loop .inv) _ (sym (found .smallest-in-a .ensures) ∙ w .1 .given .1) (sym (w .9 .ensures) ∙ w .11 .given .1)))
-    (λ w. reached-end (a .nodes) (a .p) (b .pre .1) (at (a .totals)) (a .t2) (old-below b) _ _ (h .loop .inv) (sym (found .smallest-in-a .ensures) ∙ w .1 .given .1))
+    (λ w. absurd (reached-some (a .nodes) (a .p) (b .pre .1) (at (a .totals)) (a .t2) (old-below b) _ _ (h .loop .inv) _
+    (sym (found .smallest-in-a .ensures) ∙ w .1 .given .1) (sym (w .9 .ensures) ∙ w .11 .given .1)))
+    (λ w. reached-end (a .nodes) (a .p) (b .pre .1) (at (a .totals)) (a .t2) (old-below b) _ _ (h .loop .inv)
+    (sym (found .smallest-in-a .ensures) ∙ w .1 .given .1))
     (c .before .match .came)))
 
 pub rebuild-spec : {M : Type 1} → statement M

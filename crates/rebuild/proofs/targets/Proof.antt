@@ -24,7 +24,8 @@ loop-again c =
     let a = l .before .args in
     let k = l .loop .k in
     let target : c .if1 .out ≡ targetOf (a .nodes) (a .p) k =
-    ⊎-elim (λ w. w .1 ∙ sym (target-low (a .nodes) (a .p) k (w .0 .taken))) (λ w. w .1 ∙ sym (target-high (a .nodes) (a .p) k (w .0 .left))) (c .if1 .came) in
+    ⊎-elim (λ w. w .1 ∙ sym (target-low (a .nodes) (a .p) k (w .0 .taken))) (λ w. w .1 ∙ sym (target-high (a .nodes) (a .p) k (w .0 .left)))
+    (c .if1 .came) in
     (search needs, rw (target, l .loop .inv .1) (tabulate-more (targetOf (a .nodes) (a .p)) k (omega arith)))
 
 returns : tie.Need-returns Inv-loop μ-loop

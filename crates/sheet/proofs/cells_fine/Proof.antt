@@ -32,26 +32,31 @@ here : (c : tie.After-word-number Inv-loop μ-loop) →
 here c =
     let l = c .before .before in
     let a = l .before .before .args in
-    l .loop .inv .1 ∙ rw (part-more (now (a .s)) 3 (a .e) (l .loop .i) (c .before .loop-test .taken) (omega arith), ← c .word-number .ensures)
+    l .loop .inv .1
+    ∙ rw (part-more (now (a .s)) 3 (a .e) (l .loop .i) (c .before .loop-test .taken) (omega arith), ← c .word-number .ensures)
 
 -- past both tests the cell names two nodes
-module _ (c : tie.Else2 Inv-loop μ-loop) where
-  n : ℕ
-  n = c .before .before .before .before .before .before .before .args .n
+passes : (c : tie.Else2 Inv-loop μ-loop) →
+    let r = c .before .before .before in
+    cellFine (r .before .before .before .before .args .n) (r .word-number .result) ≡ true
+passes c = sym (c .before .cell-fine .ensures) ∙ not-false _ (c .if2 .left)
 
-  passes : cellFine n (c .before .before .before .word-number .result) ≡ true
-  unfolding n
-  passes = sym (c .before .cell-fine .ensures) ∙ not-false _ (c .if2 .left)
+-- so that one more fits a word
+add-low : tie.Need-add-low Inv-loop μ-loop
+add-low c =
+    let r = c .before .before .before in
+    omega (arith, cell-below (r .before .before .before .before .args .n) (r .word-number .result) (passes c))
 
-  small : c .before .before .before .word-number .result < 4096
-  unfolding n
-  small = omega (arith, cell-below n (c .before .before .before .word-number .result) passes)
+returns-2 : tie.Need-returns-2 Inv-loop μ-loop
+returns-2 c =
+    sym (here (c .before .before .before) ∙ rising-not _ _ _ _ (sym (c .before .cell-fine .ensures) ∙ not-true _ (c .if2 .taken)))
 
 returns-3 : tie.Need-returns-3 Inv-loop μ-loop
 returns-3 c =
     let l = c .before in
     let a = l .before .before .args in
-    sym (l .loop .inv .1 ∙ rw (part-end (now (a .s)) 3 (a .e) (l .loop .i) (c .loop-test .left)) (rising-none (cellFine (a .n)) (l .loop .low)))
+    sym (l .loop .inv .1
+    ∙ rw (part-end (now (a .s)) 3 (a .e) (l .loop .i) (c .loop-test .left)) (rising-none (cellFine (a .n)) (l .loop .low)))
 
 pub cells-fine-spec : {M : Type 1} → statement M
 cells-fine-spec =
@@ -64,9 +69,9 @@ cells-fine-spec =
     (λ c κs. search needs)  -- word-number-requires
     (λ c. sym (here (c .before) ∙ rising-low _ _ _ _ (c .if1 .taken)))  -- returns
     (λ c κs. search needs)  -- cell-fine-requires
-    (λ c. sym (here (c .before .before .before) ∙ rising-not _ _ _ _ (sym (c .before .cell-fine .ensures) ∙ not-true _ (c .if2 .taken))))  -- returns-2
-    (λ c. omega (arith, small c))  -- add-low
+    returns-2
+    add-low
     (λ c. search needs)  -- add-i
     (λ c. search needs)  -- loop-less
-    (λ c. (omega arith, here (c .before .before .before) ∙ rising-more _ _ _ _ (c .before .before .if1 .left) (unfold n in passes c)))  -- loop-again
+    (λ c. (omega arith, here (c .before .before .before) ∙ rising-more _ _ _ _ (omega arith) (passes c)))  -- loop-again
     returns-3)

@@ -31,7 +31,8 @@ returns c = simp (lt-ltb _ _ (c .if1 .taken))
 returns-2 : tie.Need-returns-2
 returns-2 c =
     let w = c .before .before in
-    let bad : oneTo maxNodes (w .before .before .word-number .result) ≡ false = sym (c .before .one-to .ensures) ∙ not-true _ (c .if2 .taken) in
+    let bad : oneTo maxNodes (w .before .before .word-number .result) ≡ false =
+    sym (c .before .one-to .ensures) ∙ not-true _ (c .if2 .taken) in
     sym (head w ∙ rw bad)
 
 -- N is in its range
@@ -42,7 +43,8 @@ returns-3 : tie.Need-returns-3
 returns-3 c =
     let nodes = c .before .before in
     let w = nodes .before .before in
-    let bad : oneTo maxTolerance (w .before .word-number2 .result) ≡ false = sym (c .before .one-to2 .ensures) ∙ not-true _ (c .if3 .taken) in
+    let bad : oneTo maxTolerance (w .before .word-number2 .result) ≡ false =
+    sym (c .before .one-to2 .ensures) ∙ not-true _ (c .if3 .taken) in
     sym (head w ∙ rw (nodes-fine nodes, bad))
 
 mul-if4 : tie.Need-mul-if4
@@ -62,7 +64,8 @@ ranges : (c : tie.Else3) →
 ranges c =
     let nodes = c .before .before in
     let w = nodes .before .before in
-    let fine : oneTo maxTolerance (w .before .word-number2 .result) ≡ true = sym (c .before .one-to2 .ensures) ∙ not-false _ (c .if3 .left) in
+    let fine : oneTo maxTolerance (w .before .word-number2 .result) ≡ true =
+    sym (c .before .one-to2 .ensures) ∙ not-false _ (c .if3 .left) in
     head w ∙ rw (nodes-fine nodes, fine)
 
 pub read-header-spec : {M : Type 1} → statement M

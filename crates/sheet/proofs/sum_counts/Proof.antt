@@ -24,7 +24,8 @@ abbrev μ-loop : tie.MeasureT-loop
 here : (c : tie.After-word-number Inv-loop μ-loop) →
     let l = c .before .before in
     let a = l .before .before .args in
-    runningSum 0 (countsOf (now (a .s)) (a .e)) ≡ runningSum (l .loop .sum) (c .word-number .result ∷ drop (l .loop .i + 1) (countsOf (now (a .s)) (a .e)))
+    runningSum 0 (countsOf (now (a .s)) (a .e)) ≡ runningSum (l .loop .sum)
+    (c .word-number .result ∷ drop (l .loop .i + 1) (countsOf (now (a .s)) (a .e)))
 here c =
     let l = c .before .before in
     let a = l .before .before .args in

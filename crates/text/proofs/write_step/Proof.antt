@@ -17,17 +17,22 @@ returns c =
     let head = nodes .before .before .before .before in
     let start = head .before .before .before .before .before in
     let a = start .args in
-    let l = step-le (a .kind) (a .limit) (a .nodes) (a .helpands) (a .shares) (a .own) (a .e) (now (a .routes)) (now (a .counts)) (start .pre .0) in
-    put-front (put-then (put-then (head .put-head .ensures) (nodes .put-nodes .ensures)) (moves .put-moves .ensures)) (omega (arith, start .pre, l))
+    let l =
+    step-le (a .kind) (a .limit) (a .nodes) (a .helpands) (a .shares) (a .own) (a .e) (now (a .routes)) (now (a .counts)) (start .pre .0) in
+    put-front (put-then (put-then (head .put-head .ensures) (nodes .put-nodes .ensures)) (moves .put-moves .ensures))
+    (omega (arith, start .pre, l))
 
 put-nodes-requires : tie.Need-put-nodes-requires
 put-nodes-requires c κs =
-    let a = c .before .before .before .before .before .before .before .before .args in
+    let head = c .before .before .before in
+    let a = head .before .before .before .before .before .args in
     omega (arith, head-le (a .kind) (a .limit))
 
 put-moves-requires : tie.Need-put-moves-requires
 put-moves-requires c κs =
-    let start = c .before .before .before .before .before .before .before .before .before .before .before .before in
+    let nodes = c .before .before .before in
+    let head = nodes .before .before .before .before in
+    let start = head .before .before .before .before .before in
     let a = start .args in
     omega (arith, start .pre, head-le (a .kind) (a .limit), nodes-le (a .nodes) (a .helpands) (a .shares) (a .own) (start .pre .0))
 

@@ -44,7 +44,8 @@ returns c =
     let l = c .before in
     let a = l .before .before .before .args in
     let e : l .loop .i ≡ a .k = omega arith in
-    let n : length (part (a .first) (a .k) (words (now (a .s)))) ≡ a .k = length-part (a .first) (a .k) (words (now (a .s))) (simp length-words (omega arith)) in
+    let n : length (part (a .first) (a .k) (words (now (a .s)))) ≡ a .k =
+    length-part (a .first) (a .k) (words (now (a .s))) (simp length-words (omega arith)) in
     rw e at (l .loop .inv .2) ∙ sets-placed (part (a .first) (a .k) (words (now (a .s)))) (now (a .out)) (omega arith)
 
 pub get-words-spec : {M : Type 1} → statement M

@@ -38,7 +38,8 @@ loop-again c =
     let i = l .loop .i in
     let e = p .put-word .ensures in (
       omega arith,
-      e ∙ ap (λ (o : List ℕ). putWord o (4 * (a .first + i)) (getD (now (a .ws)) i 0)) (l .loop .inv .1) ∙ more (now (a .out)) (now (a .ws)) (a .first) i (omega arith),
+      e ∙ ap (λ (o : List ℕ). putWord o (4 * (a .first + i)) (getD (now (a .ws)) i 0)) (l .loop .inv .1)
+          ∙ more (now (a .out)) (now (a .ws)) (a .first) i (omega arith),
       ap length e ∙ simp length-set (l .loop .inv .2),
     )
 

@@ -8,7 +8,8 @@ use Rattle.words.proofs.word_number.Tie as tie
 
 returns : tie.Need-returns
 returns c =
-    let start = c .before .before .before .before .before .before in
+    let read = c .before in
+    let start = read .before .before .before .before .before in
     c .join .ensures ∙ sym (words-at (now (start .args .s)) (start .args .k) (start .pre))
 
 pub word-number-spec : {M : Type 1} → statement M

@@ -57,7 +57,8 @@ returns-2 : tie.Need-returns-2 Inv-steps μ-steps Inv-nodes μ-nodes
 returns-2 c =
     let l = c .before .before in
     ap checkedOf
-    (sym (all-fails _ _ _ (l .before .nodes-test .taken) (l .steps .inv .2 ∙ reaches-none _ _ _ (c .before .steps-test .left) (c .if1 .taken))))
+    (sym (all-fails _ _ _ (l .before .nodes-test .taken)
+    (l .steps .inv .2 ∙ reaches-none _ _ _ (c .before .steps-test .left) (c .if1 .taken))))
 
 pub check-chains-spec : {M : Type 1} → statement M
 check-chains-spec =

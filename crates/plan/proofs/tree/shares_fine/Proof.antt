@@ -37,7 +37,8 @@ loop-again c =
     let a = l .before .args in (
       search needs,
       all-more _ _ (l .loop .inv .1)
-          (share-fine _ (at (a .t1)) (at (a .t2)) _ (c .before .if1 .left) (λ e. ⊎-elim (λ w. w .1 .left) (λ w. absurd (w .left e)) (c .if2 .came))),
+          (share-fine _ (at (a .t1)) (at (a .t2)) _ (c .before .if1 .left)
+          (λ e. ⊎-elim (λ w. w .1 .left) (λ w. absurd (w .left e)) (c .if2 .came))),
     )
 
 returns-3 : tie.Need-returns-3 Inv-loop μ-loop

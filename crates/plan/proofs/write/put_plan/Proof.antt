@@ -26,7 +26,8 @@ returns c =
     p₂ .put-words2 .ensures
     ∙ ap (λ (o : List ℕ). sets o (4 * (3 + a .n)) (encode (take (a .n) (a .t6))))
     (p₁ .put-words .ensures ∙ ap (λ (o : List ℕ). sets o 12 (encode (take (a .n) (a .t5)))) (p₀ .put-head .ensures))
-    ∙ plan-placed (a .n) (a .kind) (a .limit) (a .t5) (a .t6) (omega (arith, sixty-four start)) (omega (arith, sixty-four start)) (now (a .out)) (start .pre .1)
+    ∙ plan-placed (a .n) (a .kind) (a .limit) (a .t5) (a .t6) (omega (arith, sixty-four start)) (omega (arith, sixty-four start))
+    (now (a .out)) (start .pre .1)
 
 pub put-plan-spec : {M : Type 1} → statement M
 put-plan-spec =

@@ -11,7 +11,8 @@ returns : tie.Need-returns
 returns c =
     let b = c .before .before .before in
     let a = b .before .before .before .before .before .args in
-    sym (chosen-old (a .nodes) (now (a .loads)) (now (a .targets)) (now (a .finished)) (a .l) (a .need) (a .old) (b .before .before .before .before .if1 .taken) (sym (b .in-b .ensures) ∙ c .before .before .if2 .taken) (c .if3 .taken))
+    sym (chosen-old (a .nodes) (now (a .loads)) (now (a .targets)) (now (a .finished)) (a .l) (a .need) (a .old)
+    (b .before .before .before .before .if1 .taken) (sym (b .in-b .ensures) ∙ c .before .before .if2 .taken) (c .if3 .taken))
 
 returns-2 : tie.Need-returns-2
 returns-2 c =
@@ -20,7 +21,8 @@ returns-2 c =
     ∙ sym (⊎-elim
     (λ w. chosen-lacks (a .nodes) (now (a .loads)) (now (a .targets)) (now (a .finished)) (a .l) (a .need) (a .old) (w .7 .left))
     (⊎-elim
-    (λ w. chosen-out (a .nodes) (now (a .loads)) (now (a .targets)) (now (a .finished)) (a .l) (a .need) (a .old) (sym (w .4 .ensures) ∙ w .5 .left))
+    (λ w. chosen-out (a .nodes) (now (a .loads)) (now (a .targets)) (now (a .finished)) (a .l) (a .need) (a .old)
+    (sym (w .4 .ensures) ∙ w .5 .left))
     (λ w. chosen-root (a .nodes) (now (a .loads)) (now (a .targets)) (now (a .finished)) (a .l) (a .need) (a .old) (w .left)))
     (c .before .if1 .came))
 

@@ -21,16 +21,20 @@ loop-holds : tie.Need-loop-holds Inv-loop μ-loop
 unfolding best
 loop-holds c = search needs
 
+-- the loop's head, from where a node's group is known
+abbrev head : tie.After-in-b Inv-loop μ-loop → tie.At-loop Inv-loop μ-loop
+head c = c .before .before .before .before .before
+
 -- the best so far is a node
 at-node : (c : tie.After-best Inv-loop μ-loop) → c .best .given .0 .0 < 64
 at-node c =
-    let l = c .before .before .before .before .before .before .before .before in
+    let l = head (c .before .before .before) in
     omega (arith, best-found _ _ (l .loop .k) _ (sym (l .loop .inv .1) ∙ c .best .given .1) .0)
 
 -- one node more: the first in the group, a better one, one that is no better, and one that is not in the group
 loop-again : tie.Need-loop-again Inv-loop μ-loop
 loop-again c =
-    let l = c .before .before .before .before .before .before .loop in
+    let l = head (c .before) .loop in
     let e = sym (l .inv .1) in
     let o = sym (c .before .in-b .ensures) in
     ⊎-elim

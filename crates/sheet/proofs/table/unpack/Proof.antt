@@ -15,7 +15,8 @@ use Rattle.sheet.proofs.table.unpack.Statement.{statement}
 use Rattle.sheet.proofs.table.unpack.Tie as tie
 
 abbrev Inv-loop : tie.InvT-loop
-Inv-loop s e table₀ i₀ table i = (i ≤ e) × (length table ≡ tableSize) × (tableOf s e ≡ stored table (drop i (cellsOf s e)) (drop i (countsOf s e)))
+Inv-loop s e table₀ i₀ table i =
+    (i ≤ e) × (length table ≡ tableSize) × (tableOf s e ≡ stored table (drop i (cellsOf s e)) (drop i (countsOf s e)))
 
 abbrev μ-loop : tie.MeasureT-loop
 μ-loop s e table₀ i₀ table i = e - i
@@ -47,7 +48,8 @@ here : (c : tie.After-word-number2 Inv-loop μ-loop) →
     let a = l .before .before .args in
     let i = l .loop .i in
     tableOf (now (a .s)) (a .e)
-    ≡ stored (set (l .loop .table) (c .before .word-number .result) (c .word-number2 .result)) (drop (i + 1) (cellsOf (now (a .s)) (a .e))) (drop (i + 1) (countsOf (now (a .s)) (a .e)))
+    ≡ stored (set (l .loop .table) (c .before .word-number .result) (c .word-number2 .result)) (drop (i + 1) (cellsOf (now (a .s)) (a .e)))
+    (drop (i + 1) (countsOf (now (a .s)) (a .e)))
 unfolding stored
 here c =
     let l = c .before .before .before in
@@ -55,7 +57,12 @@ here c =
     let h = c .before .before .loop-test .taken in
     let long = l .before .before .pre .1 .long in
     l .loop .inv .2
-    ∙ simp (part-more (now (a .s)) 3 (a .e) (l .loop .i) h (omega (arith, long)), part-more (now (a .s)) (3 + a .e) (a .e) (l .loop .i) h (omega (arith, long)), ← c .before .word-number .ensures, ← c .word-number2 .ensures)
+    ∙ simp (
+      part-more (now (a .s)) 3 (a .e) (l .loop .i) h (omega (arith, long)),
+      part-more (now (a .s)) (3 + a .e) (a .e) (l .loop .i) h (omega (arith, long)),
+      ← c .before .word-number .ensures,
+      ← c .word-number2 .ensures,
+    )
 
 returns : tie.Need-returns Inv-loop μ-loop
 unfolding stored

@@ -27,7 +27,8 @@ loop-again c =
     let k = l .loop .c in
     ⊎-elim
     (λ w.
-    let one : length (collect (k + 1) (filled table)) ≡ length (collect k (filled table)) + 1 = rw (cells-one table k (w .0 .taken)) (length-append (collect k (filled table)) (k ∷ [])) in
+    let one : length (collect (k + 1) (filled table)) ≡ length (collect k (filled table)) + 1 =
+    rw (cells-one table k (w .0 .taken)) (length-append (collect k (filled table)) (k ∷ [])) in
     (omega arith, omega arith, omega arith))
     (λ w. (omega arith, omega arith, w .1 ∙ l .loop .inv .2 ∙ sym (ap length (cells-skip table k (w .0 .left)))))
     (c .if1 .came)

@@ -30,31 +30,42 @@ loop-holds : tie.Need-loop-holds Inv-loop μ-loop
 unfolding collect encode
 loop-holds c = (omega arith, omega arith, refl, refl, refl)
 
+abbrev begun : tie.At-loop Inv-loop μ-loop → tie.Start Inv-loop μ-loop
+begun l =
+    let head = l .before .before .before in
+    head .before .before .before
+
 -- there is room for one more entry
 room : (c : tie.Then1 Inv-loop μ-loop) →
     let l = c .before .before .before in
-    let a = l .before .before .before .before .before .before .args in
-    l .loop .i < a .e
+    l .loop .i < begun l .args .e
 room c =
     let l = c .before .before .before in
-    let start = l .before .before .before .before .before .before in
-    omega (arith, cell-more (now (start .args .table)) (start .args .n) (l .loop .c) (c .before .before .loop-test .taken) (c .if1 .taken), start .pre .1)
+    let start = begun l in
+    omega (
+      arith,
+      cell-more (now (start .args .table)) (start .args .n) (l .loop .c) (c .before .before .loop-test .taken) (c .if1 .taken),
+      start .pre .1,
+    )
 
 loop-again : tie.Need-loop-again Inv-loop μ-loop
 loop-again c =
     let l = c .before .before .before in
-    let a = l .before .before .before .before .before .before .args in
+    let a = begun l .args in
     let k = l .loop .c in
     let table = now (a .table) in
     ⊎-elim
     (λ w.
     let new = w .5 ∙ w .2 .ensures in
-    let one : length (collect (k + 1) (filled table)) ≡ length (collect k (filled table)) + 1 = rw (cells-one table k (w .0 .taken)) (length-append (collect k (filled table)) (k ∷ [])) in (
+    let one : length (collect (k + 1) (filled table)) ≡ length (collect k (filled table)) + 1 =
+    rw (cells-one table k (w .0 .taken)) (length-append (collect k (filled table)) (k ∷ [])) in (
       omega arith,
       omega arith,
       omega arith,
-      new ∙ ap (λ (o : List ℕ). putWord (putWord o (4 * (3 + l .loop .i)) k) (4 * (3 + a .e + l .loop .i)) (getD table k 0)) (l .loop .inv .3)
-          ∙ store-one (l .before .before .before .put-head .last .0) table (a .e) (l .loop .i) k (w .0 .taken) (l .loop .inv .2) (room (record { before = c .before; if1 = w .0 })),
+      new ∙ ap (λ (o : List ℕ). putWord (putWord o (4 * (3 + l .loop .i)) k) (4 * (3 + a .e + l .loop .i)) (getD table k 0))
+          (l .loop .inv .3)
+          ∙ store-one (l .before .before .before .put-head .last .0) table (a .e) (l .loop .i) k (w .0 .taken) (l .loop .inv .2)
+          (room (record { before = c .before; if1 = w .0 })),
       ap length new ∙ simp length-set (l .loop .inv .4),
     ))
     (λ w. (
@@ -79,7 +90,8 @@ returns c =
     let m : length (counts table (64 * a .n)) ≡ length xs = length-map xs (λ c. getD table c 0) in
     rw k at (l .loop .inv .3)
     ∙ rw (p .put-head .ensures, start .pre .1)
-    (record-placed (now (a .out)) (a .n ∷ a .t ∷ length xs ∷ []) xs (counts table (64 * a .n)) 12 (4 * (3 + length xs)) refl (omega arith) (omega (arith, start .pre .1, start .pre .2)))
+    (record-placed (now (a .out)) (a .n ∷ a .t ∷ length xs ∷ []) xs (counts table (64 * a .n)) 12 (4 * (3 + length xs)) refl (omega arith)
+    (omega (arith, start .pre .1, start .pre .2)))
 
 pub put-sheet-spec : {M : Type 1} → statement M
 put-sheet-spec =

@@ -15,7 +15,8 @@ returns c =
     let third = fourth .before .before .before .before .before in
     let second = third .before .before .before .before .before in
     let first = second .before .before .before .before .before in
-    put-then (put-then (put-then (first .put-field .ensures) (second .put-field2 .ensures)) (third .put-field3 .ensures)) (fourth .put-field4 .ensures)
+    put-then (put-then (put-then (first .put-field .ensures) (second .put-field2 .ensures)) (third .put-field3 .ensures))
+    (fourth .put-field4 .ensures)
 
 put-field-requires-2 : tie.Need-put-field-requires-2
 put-field-requires-2 c κs =
@@ -36,7 +37,12 @@ put-field-requires-4 c κs =
     let second = third .before .before .before .before .before in
     let first = second .before .before .before .before .before in
     let a = first .before .before .before .before .args in
-    omega (arith, field-le (ascii "move") (subdomain (a .route)) blank, field-le (ascii "from") (sender (a .route)) blank, field-le (ascii "to") (receiver (a .route)) blank)
+    omega (
+      arith,
+      field-le (ascii "move") (subdomain (a .route)) blank,
+      field-le (ascii "from") (sender (a .route)) blank,
+      field-le (ascii "to") (receiver (a .route)) blank,
+    )
 
 pub put-move-spec : {M : Type 1} → statement M
 put-move-spec =

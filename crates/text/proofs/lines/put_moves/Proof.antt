@@ -14,7 +14,8 @@ use Rattle.text.proofs.lines.put_moves.Statement.{statement}
 use Rattle.text.proofs.lines.put_moves.Tie as tie
 
 abbrev Inv-loop : tie.InvT-loop
-Inv-loop out₀ at routes counts e next₀ i₀ out next i = (i ≤ e) × Put out₀ at (movesText i routes counts) out next × (length out ≡ length out₀)
+Inv-loop out₀ at routes counts e next₀ i₀ out next i =
+    (i ≤ e) × Put out₀ at (movesText i routes counts) out next × (length out ≡ length out₀)
 
 abbrev μ-loop : tie.MeasureT-loop
 μ-loop out₀ at routes counts e next₀ i₀ out next i = e - i

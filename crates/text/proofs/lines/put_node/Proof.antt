@@ -14,7 +14,8 @@ returns c =
     let third = fourth .before .before .before .before .before in
     let second = third .before .before .before .before .before in
     let first = second .before .before .before .before .before in
-    put-then (put-then (put-then (first .put-field .ensures) (second .put-field2 .ensures)) (third .put-field3 .ensures)) (fourth .put-field4 .ensures)
+    put-then (put-then (put-then (first .put-field .ensures) (second .put-field2 .ensures)) (third .put-field3 .ensures))
+    (fourth .put-field4 .ensures)
 
 put-field-requires-2 : tie.Need-put-field-requires-2
 put-field-requires-2 c κs =
@@ -27,7 +28,8 @@ put-field-requires-3 c κs =
     let second = c .before .before .before .before in
     let first = second .before .before .before .before .before in
     let a = first .before .before .before .before .args in
-    omega (arith, node-field-le (a .node) blank (first .before .before .before .before .pre .0), field-le (ascii "helps") (a .helpand) blank)
+    omega
+    (arith, node-field-le (a .node) blank (first .before .before .before .before .pre .0), field-le (ascii "helps") (a .helpand) blank)
 
 put-field-requires-4 : tie.Need-put-field-requires-4
 put-field-requires-4 c κs =
@@ -35,7 +37,12 @@ put-field-requires-4 c κs =
     let second = third .before .before .before .before .before in
     let first = second .before .before .before .before .before in
     let a = first .before .before .before .before .args in
-    omega (arith, node-field-le (a .node) blank (first .before .before .before .before .pre .0), field-le (ascii "helps") (a .helpand) blank, field-le (ascii "share") (a .share) blank)
+    omega (
+      arith,
+      node-field-le (a .node) blank (first .before .before .before .before .pre .0),
+      field-le (ascii "helps") (a .helpand) blank,
+      field-le (ascii "share") (a .share) blank,
+    )
 
 pub put-node-spec : {M : Type 1} → statement M
 put-node-spec =

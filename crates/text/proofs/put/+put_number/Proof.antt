@@ -27,27 +27,56 @@ abbrev put-number-below : ℕ → In 1 put-number-kinds.ps
 put-number-below t =
     and 1 put-number-kinds.ps (falls 1 put-number-kinds.ps _<_ μ-put-number t) put-number.Pre
 
-returns : (t : ℕ) → put-number-lts.Need-returns (put-byte-reads.Asked, put-byte-reads.Learnt, put-number-below t, put-number.Post) (put-number-at t) put-number.Post
+returns : (t : ℕ) → put-number-lts.Need-returns (
+  put-byte-reads.Asked,
+  put-byte-reads.Learnt,
+  put-number-below t,
+  put-number.Post,
+) (put-number-at t) put-number.Post
 returns t c =
     let byte = c .before .before in
     rw (decimal-one (byte .before .before .before .before .args .x) (omega arith)) (byte .put-byte .ensures)
 
-returns-2 : (t : ℕ) → put-number-lts.Need-returns-2 (put-byte-reads.Asked, put-byte-reads.Learnt, put-number-below t, put-number.Post) (put-number-at t) put-number.Post
+returns-2 : (t : ℕ) → put-number-lts.Need-returns-2 (
+  put-byte-reads.Asked,
+  put-byte-reads.Learnt,
+  put-number-below t,
+  put-number.Post,
+) (put-number-at t) put-number.Post
 returns-2 t c =
     let byte = c .before .before in
     let number = byte .before .before .before .before in
     let start = number .before .before .before .before in
-    rw (decimal-more (start .args .x) (omega arith) (start .fits .x .fits)) (put-then (number .put-number .ensures) (byte .put-byte2 .ensures))
+    rw
+    (decimal-more (start .args .x) (omega arith) (start .fits .x .fits)) (put-then (number .put-number .ensures) (byte .put-byte2 .ensures))
 
-put-byte-requires : (t : ℕ) → put-number-lts.Need-put-byte-requires (put-byte-reads.Asked, put-byte-reads.Learnt, put-number-below t, put-number.Post) (put-number-at t) put-number.Post
+put-byte-requires : (t : ℕ)
+    → put-number-lts.Need-put-byte-requires (
+      put-byte-reads.Asked,
+      put-byte-reads.Learnt,
+      put-number-below t,
+      put-number.Post,
+    ) (put-number-at t) put-number.Post
 put-byte-requires t c κs = omega (arith, ap length (decimal-one (c .before .before .before .args .x) (omega arith)))
 
-put-number-requires : (t : ℕ) → put-number-lts.Need-put-number-requires (put-byte-reads.Asked, put-byte-reads.Learnt, put-number-below t, put-number.Post) (put-number-at t) put-number.Post
+put-number-requires : (t : ℕ)
+    → put-number-lts.Need-put-number-requires (
+      put-byte-reads.Asked,
+      put-byte-reads.Learnt,
+      put-number-below t,
+      put-number.Post,
+    ) (put-number-at t) put-number.Post
 put-number-requires t c κs =
     let start = c .before .before .before in
     omega (arith, length-more (start .args .x) (omega arith) (start .fits .x .fits))
 
-put-byte-requires-2 : (t : ℕ) → put-number-lts.Need-put-byte-requires-2 (put-byte-reads.Asked, put-byte-reads.Learnt, put-number-below t, put-number.Post) (put-number-at t) put-number.Post
+put-byte-requires-2 : (t : ℕ)
+    → put-number-lts.Need-put-byte-requires-2 (
+      put-byte-reads.Asked,
+      put-byte-reads.Learnt,
+      put-number-below t,
+      put-number.Post,
+    ) (put-number-at t) put-number.Post
 put-byte-requires-2 t c κs =
     let number = c .before .before .before in
     let start = number .before .before .before .before in

@@ -14,10 +14,14 @@ returns c =
     let number = last .before .before .before .before in
     let blank = number .before .before .before .before in
     let name = blank .before .before .before .before in
-    put-then (name .put-text .ensures) (put-then (blank .put-byte .ensures) (put-then (number .put-number .ensures) (last .put-byte2 .ensures)))
+    put-then (name .put-text .ensures)
+    (put-then (blank .put-byte .ensures) (put-then (number .put-number .ensures) (last .put-byte2 .ensures)))
 
 put-number-requires : tie.Need-put-number-requires
-put-number-requires c κs = omega (arith, decimal-le (c .before .before .before .before .before .before .before .before .before .before .before .args .x))
+put-number-requires c κs =
+    let blank = c .before .before .before in
+    let name = blank .before .before .before .before in
+    omega (arith, decimal-le (name .before .before .before .before .args .x))
 
 put-byte-requires-2 : tie.Need-put-byte-requires-2
 put-byte-requires-2 c κs =
@@ -25,7 +29,14 @@ put-byte-requires-2 c κs =
     let blank = number .before .before .before .before in
     let name = blank .before .before .before .before in
     let start = name .before .before .before .before in
-    omega (arith, decimal-le (start .args .x), number .put-number .ensures .index, blank .put-byte .ensures .index, name .put-text .ensures .index, start .pre)
+    omega (
+      arith,
+      decimal-le (start .args .x),
+      number .put-number .ensures .index,
+      blank .put-byte .ensures .index,
+      name .put-text .ensures .index,
+      start .pre,
+    )
 
 pub put-field-spec : {M : Type 1} → statement M
 put-field-spec =

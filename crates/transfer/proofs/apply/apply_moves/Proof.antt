@@ -14,7 +14,8 @@ use Rattle.words.proofs.Words.{part-end}
 use Rattle.arrays.specs.Arrays.{at}
 use Rattle.moves.specs.Moves.{routesOf, countsOf}
 use Rattle.transfer.specs.Apply.{fromCell, intoCell, sends, carried}
-use Rattle.transfer.proofs.Applied.{into-below, Entry, entry-read, within-at, taken, applied-length, taken-sum, applied-sum, applied-enough, applied-within, carried-none, carried-more}
+use Rattle.transfer.proofs.Applied.{into-below, Entry, entry-read, within-at, taken, applied-length, taken-sum, applied-sum}
+use Rattle.transfer.proofs.Applied.{applied-enough, applied-within, carried-none, carried-more}
 use Rattle.transfer.proofs.apply.apply_moves.Statement.{statement}
 use Rattle.transfer.proofs.apply.apply_moves.Tie as tie
 
@@ -86,8 +87,11 @@ module _ (c : tie.After-into-cell Inv-loop μ-loop) where
   abbrev start : tie.Start Inv-loop μ-loop
   start = turn .before .before .before
 
-  read : Entry (now (start .args .moves)) (start .args .e) (turn .before .loop .i) (count-read .before .word-number .result) (count-read .word-number2 .result)
-  read = entry-read _ _ _ _ (start .pre .0) (turn .loop-test .taken) _ _ (count-read .before .word-number .ensures) (count-read .word-number2 .ensures)
+  read : let a = start .args in
+      Entry (now (a .moves)) (a .e) (turn .before .loop .i) (count-read .before .word-number .result) (count-read .word-number2 .result)
+  read =
+      entry-read _ _ _ _ (start .pre .0) (turn .loop-test .taken) _ _ (count-read .before .word-number .ensures)
+      (count-read .word-number2 .ensures)
 
   from-lt : c .before .from-cell .result < tableSize
   from-lt = omega (arith, c .before .from-cell .ensures, read .below)
@@ -95,8 +99,10 @@ module _ (c : tie.After-into-cell Inv-loop μ-loop) where
   into-lt : c .into-cell .result < tableSize
   into-lt = omega (arith, c .into-cell .ensures, read .below)
 
-  turned-at : Turned (now (start .args .table)) (now (start .args .moves)) (start .args .e) (turn .before .loop .table) (turn .before .loop .i)
-      (count-read .word-number2 .result) (c .before .from-cell .result) (c .into-cell .result)
+  turned-at : let a = start .args in
+      let l = turn .before .loop in
+      Turned (now (a .table)) (now (a .moves)) (a .e) (l .table) (l .i) (count-read .word-number2 .result) (c .before .from-cell .result)
+      (c .into-cell .result)
   turned-at =
       let l = turn .before .loop in
       let a = start .args in

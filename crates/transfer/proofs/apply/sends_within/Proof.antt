@@ -24,7 +24,8 @@ record Sending (table moves : List ℕ) (e : ℕ) (sent : List ℕ) (i : ℕ) : 
   left-size : length left ≡ tableSize
   sent-size : length sent ≡ tableSize
   parts : (c : ℕ) → c < tableSize → at sent c + at left c ≡ at table c
-  tested : sendsWithin table (routesOf moves e) (countsOf moves e) ≡ sendsWithin left (drop i (routesOf moves e)) (drop i (countsOf moves e))
+  tested : sendsWithin table (routesOf moves e) (countsOf moves e)
+      ≡ sendsWithin left (drop i (routesOf moves e)) (drop i (countsOf moves e))
 
 abbrev Inv-loop : tie.InvT-loop
 Inv-loop table moves e sent₀ i₀ sent i = Sending table moves e sent i
@@ -64,7 +65,13 @@ module _ (table moves : List ℕ) (e : ℕ) (sent : List ℕ) (i : ℕ) (s : Sen
         left = taken (s .left) route count;
         left-size = simp length-set (s .left-size);
         sent-size = simp length-set (s .sent-size);
-        parts = λ c b. omega (arith, s .parts c b, less-at (s .left) cell count c q, plus-at sent cell count c (omega (arith, s .sent-size, from-below route (entry .below))));
+        parts =
+            λ c b. omega (
+              arith,
+              s .parts c b,
+              less-at (s .left) cell count c q,
+              plus-at sent cell count c (omega (arith, s .sent-size, from-below route (entry .below))),
+            );
         tested = here ∙ within-more (s .left) route count routes′ counts′ (s .left-size) (entry .below) q;
       }
 
@@ -83,7 +90,8 @@ module _ (c : tie.After-word-number2 Inv-loop μ-loop) where
   abbrev from : ℕ
   from = c .before .from-cell .result
 
-  read : Entry (now (start .args .moves)) (start .args .e) (turn .before .loop .i) (route-read .word-number .result) (c .word-number2 .result)
+  read : let a = start .args in
+      Entry (now (a .moves)) (a .e) (turn .before .loop .i) (route-read .word-number .result) (c .word-number2 .result)
   read = entry-read _ _ _ _ (start .pre) (turn .loop-test .taken) _ _ (route-read .word-number .ensures) (c .word-number2 .ensures)
 
   from-lt : from < tableSize

@@ -13,7 +13,8 @@ use Rattle.arrays.proofs.Tabulate.{tabulate-none, tabulate-more}
 use Rattle.transfer.proofs.due.due_amounts.Tie as tie
 
 abbrev Inv-loop : tie.InvT-loop
-Inv-loop helpands shares own nodes n due₀ k₀ due k = (k ≤ nodes) × (length due ≡ 64) × (due ≡ tabulate k (dueWith (at helpands) (at shares) own n))
+Inv-loop helpands shares own nodes n due₀ k₀ due k =
+    (k ≤ nodes) × (length due ≡ 64) × (due ≡ tabulate k (dueWith (at helpands) (at shares) own n))
 
 abbrev μ-loop : tie.MeasureT-loop
 μ-loop helpands shares own nodes n due₀ k₀ due k = nodes - k

@@ -23,6 +23,13 @@ Inv-loop nodes helpands shares own₀ k₀ own k =
 abbrev μ-loop : tie.MeasureT-loop
 μ-loop nodes helpands shares own₀ k₀ own k = nodes - k
 
+loop-holds : tie.Need-loop-holds Inv-loop μ-loop
+loop-holds c = (
+  omega arith,
+  search needs,
+  λ n. omega (arith, sum-none (λ j. only (helps (at (c .args .t2)) n j) (at (c .args .t3) j))),
+)
+
 -- a helpand is a node
 inside : (c : tie.In-loop Inv-loop μ-loop) → getD (c .before .before .args .t2) (c .before .loop .k) 0 < 64
 inside c =
@@ -59,9 +66,18 @@ loop-again c =
     (λ w.
     let then : tie.Then1 Inv-loop μ-loop = record { before = c .before; if1 = w .0 } in
     let long : h k < length own = omega (arith, inside (c .before), l .loop .inv .1) in
-    rw (w .1)
-    (omega (arith, test), simp length-set (l .loop .inv .1), λ n. off h share k own (h k) refl (w .0 .taken) long (room then) n ∙ l .loop .inv .2 n))
-    (λ w. rw (w .1) (omega (arith, test), l .loop .inv .1, λ n. ap (λ (x : ℕ). at own n + x) (helpers-root h share k (w .0 .left) n) ∙ l .loop .inv .2 n))
+    rw (w .1) (
+      omega (arith, test),
+      simp length-set (l .loop .inv .1),
+      λ n. off h share k own (h k) refl (w .0 .taken) long (room then) n
+          ∙ l .loop .inv .2 n,
+    ))
+    (λ w. rw (w .1) (
+      omega (arith, test),
+      l .loop .inv .1,
+      λ n. ap (λ (x : ℕ). at own n + x) (helpers-root h share k (w .0 .left) n)
+          ∙ l .loop .inv .2 n,
+    ))
     (c .if1 .came)
 
 returns : tie.Need-returns Inv-loop μ-loop
@@ -82,7 +98,7 @@ own-amounts-spec =
     (tie.spec
     Inv-loop
     μ-loop
-    (λ c. (omega arith, search needs, λ n. omega (arith, sum-none (λ j. only (helps (at (c .args .t2)) n j) (at (c .args .t3) j)))))  -- loop-holds
+    loop-holds
     (λ c. search needs)  -- mul-owner
     (λ c. search needs)  -- array-read-owner
     (λ c. omega (arith, inside c))  -- cast-owner

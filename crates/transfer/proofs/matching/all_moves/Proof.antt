@@ -12,7 +12,8 @@ use Rattle.sheet.specs.Table.{held}
 use Rattle.tree.specs.Division.{ownOf}
 use Rattle.transfer.specs.Due.{dueWith, dueOf}
 use Rattle.transfer.specs.Matching.{movesBetween, subdomainMoves}
-use Rattle.transfer.proofs.Subdomains.{moves-eq, few-all, Written, written-none, routes-long, counts-long, written-more, written-all, all-routes-eq, all-counts-eq}
+use Rattle.transfer.proofs.Subdomains.{moves-eq, few-all, Written, written-none, routes-long, counts-long, written-more, written-all}
+use Rattle.transfer.proofs.Subdomains.{all-routes-eq, all-counts-eq}
 use Rattle.transfer.proofs.matching.all_moves.Statement.{statement}
 use Rattle.arrays.proofs.Tabulate.{tabulate-at, tabulate-behind}
 use Rattle.sheet.specs.Totals.{totalOf}
@@ -37,7 +38,8 @@ fits nodes n e long long₀ h b l q =
 
 put-subdomain-requires : tie.Need-put-subdomain-requires Inv-loop μ-loop
 put-subdomain-requires c κs =
-    let t = c .before .before .before .before .before .before .before .before in
+    let due = c .before .before .before .before in
+    let t = due .before .before .before .before in
     let l = t .before .loop in
     let start = t .before .before .before .before .before in
     let a = start .args in
@@ -47,8 +49,10 @@ put-subdomain-requires c κs =
     let few : l .e ≤ l .n * (a .nodes - 1) = rw (w .entries) (few-all (a .nodes) (now (a .table)) d (l .n)) in (
       p .0,
       t .loop-test .taken,
-      fits (a .nodes) (l .n) (l .e) (length (l .routes)) (length (now (a .routes))) (t .loop-test .taken) few (p .3) (routes-long (a .nodes) (now (a .table)) d (now (a .routes)) (now (a .counts)) (l .n) (l .routes) (l .counts) (l .e) w),
-      fits (a .nodes) (l .n) (l .e) (length (l .counts)) (length (now (a .counts))) (t .loop-test .taken) few (p .4) (counts-long (a .nodes) (now (a .table)) d (now (a .routes)) (now (a .counts)) (l .n) (l .routes) (l .counts) (l .e) w),
+      fits (a .nodes) (l .n) (l .e) (length (l .routes)) (length (now (a .routes))) (t .loop-test .taken) few (p .3)
+          (routes-long (a .nodes) (now (a .table)) d (now (a .routes)) (now (a .counts)) (l .n) (l .routes) (l .counts) (l .e) w),
+      fits (a .nodes) (l .n) (l .e) (length (l .counts)) (length (now (a .counts))) (t .loop-test .taken) few (p .4)
+          (counts-long (a .nodes) (now (a .table)) d (now (a .routes)) (now (a .counts)) (l .n) (l .routes) (l .counts) (l .e) w),
     )
 
 loop-again : tie.Need-loop-again Inv-loop μ-loop
@@ -62,6 +66,7 @@ loop-again c =
     let a = head .before .before .before .before .args in
     let d = dues (a .t3) (a .t4) (head .before .own-amounts .result) in
     let r = put .put-subdomain in
+    let arrays = r .last .1 .1 in
     let holding : ℕ → ℕ = λ k. held (now (a .table)) k (l .n) in
     let moves = movesBetween (a .nodes) (at (held-by .holdings .result)) (at (due .due-amounts .result)) in
     let same : moves ≡ subdomainMoves (a .nodes) (now (a .table)) d (l .n) =
@@ -70,7 +75,7 @@ loop-again c =
     (λ k b. ap (λ (xs : List ℕ). at xs k) (due .due-amounts .ensures) ∙ tabulate-at (a .nodes) (d (l .n)) k b) in (
       omega (arith, turn .loop-test .taken),
       written-more (a .nodes) (now (a .table)) d (now (a .routes)) (now (a .counts)) (l .n) (l .routes) (l .counts) (l .e) (l .inv .1) moves
-          (r .last .1 .1 .1 .1 .0) (r .last .1 .1 .1 .1 .1 .0) (r .result) same (r .ensures .0) (r .ensures .1 .0) (r .ensures .1 .1),
+          (arrays .1 .1 .0) (arrays .1 .1 .1 .0) (r .result) same (r .ensures .0) (r .ensures .1 .0) (r .ensures .1 .1),
     )
 
 returns : tie.Need-returns Inv-loop μ-loop
@@ -84,10 +89,12 @@ returns c =
     let d = dues (a .t3) (a .t4) (own .result) in
     let d′ = dueOf (a .nodes) h (at (a .totals)) share in
     let same : (n : ℕ) → n < a .nodes → d n ≡ d′ n =
-    λ n b. ap (λ (x : ℕ). dueWith h share x n) (ap (λ (xs : List ℕ). at xs n) (own .ensures) ∙ tabulate-at (a .nodes) (ownOf (a .nodes) h (at (a .totals)) share) n b) in
+    λ n b. ap (λ (x : ℕ). dueWith h share x n)
+    (ap (λ (xs : List ℕ). at xs n) (own .ensures) ∙ tabulate-at (a .nodes) (ownOf (a .nodes) h (at (a .totals)) share) n b) in
     let e : l .n ≡ a .nodes = omega arith in
     rw (← all-routes-eq (a .nodes) (now (a .table)) d d′ same, ← all-counts-eq (a .nodes) (now (a .table)) d d′ same)
-    (written-all (a .nodes) (now (a .table)) d (now (a .routes)) (now (a .counts)) (l .routes) (l .counts) (l .e) (rw e at (l .inv .1)) (start .pre .3) (start .pre .4))
+    (written-all (a .nodes) (now (a .table)) d (now (a .routes)) (now (a .counts)) (l .routes) (l .counts) (l .e) (rw e at (l .inv .1))
+    (start .pre .3) (start .pre .4))
 
 -- the totals end where the nodes do
 own-amounts-requires : tie.Need-own-amounts-requires Inv-loop μ-loop

@@ -28,7 +28,8 @@ loop-again c =
     let a = l .before .args in (
       omega arith,
       simp length-set (l .loop .inv .1),
-      tabulate-next (holds (now (a .table)) (a .n)) (l .loop .k) (c .held .result) (l .loop .holding) (omega arith) (l .loop .inv .2) (c .held .ensures),
+      tabulate-next (holds (now (a .table)) (a .n)) (l .loop .k) (c .held .result) (l .loop .holding) (omega arith) (l .loop .inv .2)
+          (c .held .ensures),
     )
 
 returns : tie.Need-returns Inv-loop μ-loop

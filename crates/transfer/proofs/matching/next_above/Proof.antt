@@ -22,15 +22,19 @@ abbrev μ-loop : tie.MeasureT-loop
 
 returns : tie.Need-returns Inv-loop μ-loop
 returns c =
-    let l = c .before .before .before .before .before .loop in
-    let a = c .before .before .before .before .before .before .args in
-    found (a .nodes) (above (now (a .amounts)) (now (a .bounds))) (a .k) (l .j) (l .inv) (c .before .less .result) (c .before .less .ensures) (c .if1 .taken)
+    let head = c .before .before .before .before .before in
+    let l = head .loop in
+    let a = head .before .args in
+    found (a .nodes) (above (now (a .amounts)) (now (a .bounds))) (a .k) (l .j) (l .inv) (c .before .less .result)
+    (c .before .less .ensures) (c .if1 .taken)
 
 loop-again : tie.Need-loop-again Inv-loop μ-loop
 loop-again c =
-    let l = c .before .before .before .before .before .loop in
-    let a = c .before .before .before .before .before .before .args in
-    passing-more (a .nodes) (above (now (a .amounts)) (now (a .bounds))) (a .k) (l .j) (l .inv) (c .before .before .before .before .loop-test .taken) (sym (c .before .less .ensures) ∙ c .if1 .left)
+    let head = c .before .before .before .before .before in
+    let l = head .loop in
+    let a = head .before .args in
+    passing-more (a .nodes) (above (now (a .amounts)) (now (a .bounds))) (a .k) (l .j) (l .inv)
+    (c .before .before .before .before .loop-test .taken) (sym (c .before .less .ensures) ∙ c .if1 .left)
 
 returns-2 : tie.Need-returns-2 Inv-loop μ-loop
 returns-2 c =

@@ -29,15 +29,18 @@ abbrev whole : ℕ → List ℕ → List ℕ → List Move
 whole nodes holding due = movesBetween nodes (at holding) (at due)
 
 -- both are what the one amount is above the other
-sender : {nodes : ℕ} (holding due : List ℕ) {from node count : ℕ} → NextFrom nodes (λ k. at holding k - at due k) from node count → NextFrom nodes (above holding due) from node count
+sender : {nodes : ℕ} (holding due : List ℕ) {from node count : ℕ} → NextFrom nodes (λ k. at holding k - at due k) from node count
+    → NextFrom nodes (above holding due) from node count
 sender holding due x = next-eq (above holding due) (λ k. omega arith) x
 
-receiver : {nodes : ℕ} (holding due : List ℕ) {from node count : ℕ} → NextFrom nodes (λ k. at due k - at holding k) from node count → NextFrom nodes (lacks holding due) from node count
+receiver : {nodes : ℕ} (holding due : List ℕ) {from node count : ℕ} → NextFrom nodes (λ k. at due k - at holding k) from node count
+    → NextFrom nodes (lacks holding due) from node count
 receiver holding due x = next-eq (lacks holding due) (λ k. omega arith) x
 
 abbrev Inv-loop : tie.InvT-loop
 Inv-loop holding due nodes n routes₀ counts₀ e entries₀ s₀ r₀ routes counts entries s r =
-    Pending nodes (above holding due) (lacks holding due) n routes₀ counts₀ e (whole nodes holding due) routes counts entries (s .node) (s .count) (r .node) (r .count)
+    Pending nodes (above holding due) (lacks holding due) n routes₀ counts₀ e (whole nodes holding due) routes counts entries (s .node)
+    (s .count) (r .node) (r .count)
 
 abbrev μ-loop : tie.MeasureT-loop
 μ-loop holding due nodes n routes₀ counts₀ e entries₀ s₀ r₀ routes counts entries s r = 2 * nodes - (s .node + r .node)
@@ -78,12 +81,17 @@ module _ (c : tie.After-smaller Inv-loop μ-loop) where
       let p = start .pre in
       let k = l .entries + length (moveOf (l .s .node) (l .r .node) (c .smaller .result)) in
       let b : k ≤ a .e + length all =
-      room (a .nodes) surplus shortage (a .n) (now (a .routes)) (now (a .counts)) (a .e) all (l .routes) (l .counts) (l .entries) (l .s .node) (l .s .count) (l .r .node) (l .r .count)
+      room (a .nodes) surplus shortage (a .n) (now (a .routes)) (now (a .counts)) (a .e) all (l .routes) (l .counts) (l .entries)
+      (l .s .node) (l .s .count) (l .r .node) (l .r .count)
       (l .inv) sender-lt receiver-lt (c .smaller .result) (c .smaller .ensures) in
       let f : length all ≤ a .nodes - 1 = moves-few (a .nodes) (at (now (a .holding))) (at (now (a .due))) in (
         within k (a .e) (length all) (a .nodes - 1) (length (l .routes)) (length (now (a .routes))) b f (p .2) (l .inv .moves .routes-long),
         within k (a .e) (length all) (a .nodes - 1) (length (l .counts)) (length (now (a .counts))) b f (p .3) (l .inv .moves .counts-long),
       )
+
+-- from after the turn's move, with its two arrays, back to the move
+abbrev put-before : tie.After-slice-known4 Inv-loop μ-loop → tie.After-put-move Inv-loop μ-loop
+put-before c = c .before .before .before .before
 
 put-move-requires : tie.Need-put-move-requires Inv-loop μ-loop
 put-move-requires c κs =
@@ -92,12 +100,14 @@ put-move-requires c κs =
 
 next-above-requires-3 : tie.Need-next-above-requires-3 Inv-loop μ-loop
 next-above-requires-3 c κs =
-    let q = c .before .before .before .before .before .before .before .before .before .before .before .before in
+    let tested = c .before .before in
+    let q = put-before (tested .before .before .before) .before .before .before in
     (start q .pre .0, omega (arith, sender-lt q, receiver-lt q))
 
 next-above-requires-4 : tie.Need-next-above-requires-4 Inv-loop μ-loop
 next-above-requires-4 c κs =
-    let q = c .before .before .before .before .before .before .before .before .before .before .before .before in
+    let tested = c .before .before in
+    let q = put-before (tested .before .before .before) .before .before .before in
     (start q .pre .0, omega (arith, sender-lt q, receiver-lt q))
 
 -- ---- what holds at the loop's head
@@ -106,47 +116,59 @@ loop-holds : tie.Need-loop-holds Inv-loop μ-loop
 loop-holds c =
     let x = c .before in
     let a = x .before .before .before .args in
-    begin (a .nodes) (above (now (a .holding)) (now (a .due))) (lacks (now (a .holding)) (now (a .due))) (a .n) (now (a .routes)) (now (a .counts)) (a .e)
+    begin (a .nodes) (above (now (a .holding)) (now (a .due))) (lacks (now (a .holding)) (now (a .due))) (a .n) (now (a .routes))
+    (now (a .counts)) (a .e)
     (x .next-above .result .node) (x .next-above .result .count) (c .next-above2 .result .node) (c .next-above2 .result .count)
-    (omega (arith, x .before .before .before .pre .1)) (sender (now (a .holding)) (now (a .due)) (x .next-above .ensures)) (receiver (now (a .holding)) (now (a .due)) (c .next-above2 .ensures))
+    (omega (arith, x .before .before .before .pre .1)) (sender (now (a .holding)) (now (a .due)) (x .next-above .ensures))
+    (receiver (now (a .holding)) (now (a .due)) (c .next-above2 .ensures))
 
 loop-again : tie.Need-loop-again Inv-loop μ-loop
 loop-again c =
     let t = c .before .before .before in
-    let p = t .before .before .before .before .before .before .before in
+    let p = put-before (t .before .before .before) in
     let q = p .before .before .before in
     let l = head q .loop in
     let a = start q .args in
-    sender-next (a .nodes) (surplus q) (shortage q) (a .n) (now (a .routes)) (now (a .counts)) (a .e) (all q) (l .routes) (l .counts) (l .entries) (l .s .node) (l .s .count) (l .r .node) (l .r .count)
+    sender-next (a .nodes) (surplus q) (shortage q) (a .n) (now (a .routes)) (now (a .counts)) (a .e) (all q) (l .routes) (l .counts)
+    (l .entries) (l .s .node) (l .s .count) (l .r .node) (l .r .count)
     (l .inv) (sender-lt q) (receiver-lt q) (q .smaller .result) (q .smaller .ensures)
-    (p .put-move .last .0) (p .put-move .last .1 .0) (p .put-move .result) (p .put-move .ensures .0) (p .put-move .ensures .1 .0) (p .put-move .ensures .1 .1)
-    (t .if3 .taken) (c .next-above3 .result .node) (c .next-above3 .result .count) (sender (now (a .holding)) (now (a .due)) (c .next-above3 .ensures))
+    (p .put-move .last .0) (p .put-move .last .1 .0) (p .put-move .result) (p .put-move .ensures .0) (p .put-move .ensures .1 .0)
+    (p .put-move .ensures .1 .1)
+    (t .if3 .taken) (c .next-above3 .result .node) (c .next-above3 .result .count)
+    (sender (now (a .holding)) (now (a .due)) (c .next-above3 .ensures))
 
 loop-again-2 : tie.Need-loop-again-2 Inv-loop μ-loop
 loop-again-2 c =
     let t = c .before .before .before in
-    let p = t .before .before .before .before .before .before .before in
+    let p = put-before (t .before .before .before) in
     let q = p .before .before .before in
     let l = head q .loop in
     let a = start q .args in
-    receiver-next (a .nodes) (surplus q) (shortage q) (a .n) (now (a .routes)) (now (a .counts)) (a .e) (all q) (l .routes) (l .counts) (l .entries) (l .s .node) (l .s .count) (l .r .node) (l .r .count)
+    receiver-next (a .nodes) (surplus q) (shortage q) (a .n) (now (a .routes)) (now (a .counts)) (a .e) (all q) (l .routes) (l .counts)
+    (l .entries) (l .s .node) (l .s .count) (l .r .node) (l .r .count)
     (l .inv) (sender-lt q) (receiver-lt q) (q .smaller .result) (q .smaller .ensures)
-    (p .put-move .last .0) (p .put-move .last .1 .0) (p .put-move .result) (p .put-move .ensures .0) (p .put-move .ensures .1 .0) (p .put-move .ensures .1 .1)
-    (t .if3 .left) (c .next-above4 .result .node) (c .next-above4 .result .count) (receiver (now (a .holding)) (now (a .due)) (c .next-above4 .ensures))
+    (p .put-move .last .0) (p .put-move .last .1 .0) (p .put-move .result) (p .put-move .ensures .0) (p .put-move .ensures .1 .0)
+    (p .put-move .ensures .1 .1)
+    (t .if3 .left) (c .next-above4 .result .node) (c .next-above4 .result .count)
+    (receiver (now (a .holding)) (now (a .due)) (c .next-above4 .ensures))
 
 returns : tie.Need-returns Inv-loop μ-loop
 returns c =
     let l = c .before .before .before .before in
     let a = l .before .before .before .before .before .args in
-    finish (a .nodes) (above (now (a .holding)) (now (a .due))) (lacks (now (a .holding)) (now (a .due))) (a .n) (now (a .routes)) (now (a .counts)) (a .e) (whole (a .nodes) (now (a .holding)) (now (a .due)))
-    (l .loop .routes) (l .loop .counts) (l .loop .entries) (l .loop .s .node) (l .loop .s .count) (l .loop .r .node) (l .loop .r .count) (l .loop .inv) (inr (ltb-false (l .loop .r .node) (a .nodes) (c .if2 .left)))
+    finish (a .nodes) (above (now (a .holding)) (now (a .due))) (lacks (now (a .holding)) (now (a .due))) (a .n) (now (a .routes))
+    (now (a .counts)) (a .e) (whole (a .nodes) (now (a .holding)) (now (a .due)))
+    (l .loop .routes) (l .loop .counts) (l .loop .entries) (l .loop .s .node) (l .loop .s .count) (l .loop .r .node) (l .loop .r .count)
+    (l .loop .inv) (inr (ltb-false (l .loop .r .node) (a .nodes) (c .if2 .left)))
 
 returns-2 : tie.Need-returns-2 Inv-loop μ-loop
 returns-2 c =
     let l = c .before .before in
     let a = l .before .before .before .before .before .args in
-    finish (a .nodes) (above (now (a .holding)) (now (a .due))) (lacks (now (a .holding)) (now (a .due))) (a .n) (now (a .routes)) (now (a .counts)) (a .e) (whole (a .nodes) (now (a .holding)) (now (a .due)))
-    (l .loop .routes) (l .loop .counts) (l .loop .entries) (l .loop .s .node) (l .loop .s .count) (l .loop .r .node) (l .loop .r .count) (l .loop .inv) (inl (c .if1 .left))
+    finish (a .nodes) (above (now (a .holding)) (now (a .due))) (lacks (now (a .holding)) (now (a .due))) (a .n) (now (a .routes))
+    (now (a .counts)) (a .e) (whole (a .nodes) (now (a .holding)) (now (a .due)))
+    (l .loop .routes) (l .loop .counts) (l .loop .entries) (l .loop .s .node) (l .loop .s .count) (l .loop .r .node) (l .loop .r .count)
+    (l .loop .inv) (inl (c .if1 .left))
 
 pub put-subdomain-spec : {M : Type 1} → statement M
 put-subdomain-spec =
