@@ -1,8 +1,8 @@
 -- What is written is read again, and what was read and accepted is written again: the words there and back, and their parts.
 -- Assumes nothing.
-use mathlib.Core.Path.{_≡_, refl, sym, ap, _∙_}
+use mathlib.Core.Path.{_≡_, refl, sym}
 use mathlib.Core.Bool.{true}
-use mathlib.Core.List.{List, [], _∷_, _++_}
+use mathlib.Core.List.{List, [], _∷_}
 use Prim.Native.Nat.{ℕ, _+_, _-_, _*_, _≤_, _<_, _^_}
 use native.Mathlib.Nat.{mul-le-mul}
 use native.Mathlib.Omega.{arith}
@@ -13,9 +13,9 @@ use Rattle.fold.specs.Rising.{rising}
 use Rattle.fold.proofs.Tests.{every-at}
 use Rattle.fold.proofs.Lists.{rising-at}
 use Rattle.limit.specs.Limit.{maxNodes}
-use Rattle.words.specs.Words.{words, encode}
-use Rattle.words.proofs.Words.{Below, below-none, below-cons, below-append, words-encode, encode-words, part-first, part-second, take-two}
-use Rattle.words.proofs.Words.{record-split}
+use Rattle.words.specs.Words.{words}
+use Rattle.words.proofs.Words.{Below}
+use Rattle.words.proofs.Records.{Back, below-two, take-two, record-back, record-again}
 use Rattle.moves.specs.declared.MovesAnswer.{MovesAnswer}
 use Rattle.moves.specs.Moves.{routesOf, countsOf, routeFine, countFine, accepted, readMoves}
 use Rattle.moves.specs.Write.{movesWords, movesBytes}
@@ -43,31 +43,26 @@ pub record Writable (n e : ℕ) (routes counts : List ℕ) : Type 0 where
   pub counts-fine : every countFine (take e counts) ≡ true
 
 module _ (n e : ℕ) (routes counts : List ℕ) (w : Writable n e routes counts) where
-  small : Below (2 ^ 32) (movesWords n e routes counts)
-  small =
+  back : Back (n ∷ e ∷ []) (take e routes) (take e counts) e
+  back =
       let less : n - 1 ≤ maxNodes = omega arith in
       let few : e < 2 ^ 32 = omega (arith, mul-le-mul (w .n-high) less) in
-      below-append (2 ^ 32) ((n ∷ e ∷ []) ++ take e routes) (take e counts)
-      (below-append (2 ^ 32) (n ∷ e ∷ []) (take e routes)
-      (below-cons (2 ^ 32) n (e ∷ []) (omega arith) (below-cons (2 ^ 32) e [] few (below-none (2 ^ 32))))
-      (routes-below n (take e routes) (w .n-high) (w .routes-fine)))
+      record-back (n ∷ e ∷ []) (take e routes) (take e counts) e (simp length-take (omega arith)) (simp length-take (omega arith))
+      (below-two (2 ^ 32) n e (omega arith) few) (routes-below n (take e routes) (w .n-high) (w .routes-fine))
       (counts-below (take e counts) (w .counts-fine))
 
   words-written : words (movesBytes n e routes counts) ≡ movesWords n e routes counts
   unfolding movesBytes
-  words-written = words-encode (movesWords n e routes counts) small
+  words-written = back .all
 
   -- THEOREM. The routes and the counts of moves that were written are those that were handed over.
   pub routes-written : routesOf (movesBytes n e routes counts) e ≡ take e routes
-  routes-written =
-      let l : length (take e routes) ≡ e = simp length-take (omega arith) in
-      rw words-written (part-first (n ∷ e ∷ []) (take e routes) (take e counts) 2 e refl l)
+  unfolding movesBytes
+  routes-written = back .first
 
   pub counts-written : countsOf (movesBytes n e routes counts) e ≡ take e counts
-  counts-written =
-      let l : length (take e routes) ≡ e = simp length-take (omega arith) in
-      let k : length (take e counts) ≡ e = simp length-take (omega arith) in
-      rw words-written (part-second (n ∷ e ∷ []) (take e routes) (take e counts) (2 + e) e (omega arith) k)
+  unfolding movesBytes
+  counts-written = back .second
 
   -- THEOREM. Moves that were written are accepted, with the N and E that were written.
   pub read-written : readMoves (movesBytes n e routes counts) ≡ accepted n e
@@ -88,15 +83,11 @@ module _ (n e : ℕ) (routes counts : List ℕ) (w : Writable n e routes counts)
 -- ---- read, then written
 
 module _ (s : List ℕ) (a : MovesAnswer) (k : Accepted s a) where
-  head-again : a .n ∷ a .e ∷ [] ≡ take 2 (words s)
-  head-again = rw (k .n-is, k .e-is) (sym (take-two (words s) (omega (arith, words-are s a k))))
-
   -- THEOREM. Writing the routes and counts of accepted moves gives the same bytes.
   pub written-read : Below 256 s → movesBytes (a .n) (a .e) (routesOf s (a .e)) (countsOf s (a .e)) ≡ s
   unfolding movesBytes
   written-read b =
       let same : a .e ≤ a .e = omega arith in
       rw (take-take (a .e) (a .e) (drop 2 (words s)) same, take-take (a .e) (a .e) (drop (2 + a .e) (words s)) same)
-      (ap (λ (h : List ℕ). encode (h ++ routesOf s (a .e) ++ countsOf s (a .e))) head-again
-      ∙ ap encode (sym (record-split (words s) 2 (a .e) (words-are s a k)))
-      ∙ encode-words s (2 + 2 * a .e) b (k .size))
+      (record-again s (a .n ∷ a .e ∷ []) 2 (a .e) b (k .size)
+      (rw (k .n-is, k .e-is) (sym (take-two (words s) (omega (arith, words-are s a k))))))

@@ -1,9 +1,8 @@
 -- The checks of n nodes look at the first n helpands and shares alone: two functions that agree below n pass the same of them. A
 -- chain stays below n, so it goes the same way in both. Assumes nothing.
-use mathlib.Core.Path.{_≡_, refl, ap, ap₂, _∙_}
+use mathlib.Core.Path.{_≡_, ap, ap₂, _∙_}
 use mathlib.Core.Bool.{Bool, true, cond, _||_, _&&_, not}
 use Prim.Native.Nat.{ℕ, zero, suc, _<_}
-use native.Mathlib.Omega.{arith}
 use borrow.Author.Tests.{ltb-true}
 use lib.Dec.{ltb, leb, eqb}
 use Rattle.fold.specs.Sum.{only}

@@ -1,15 +1,12 @@
 -- Laws of what a check of the shape answers, and of an array that was read with zeros behind it. Assumes nothing.
-use mathlib.Core.Path.{_≡_, refl, fun-ext}
+use mathlib.Core.Path.{_≡_, refl}
 use mathlib.Core.Bool.{Bool, true, false}
-use mathlib.Core.List.{List}
 use Prim.Native.Nat.{ℕ}
 use native.Mathlib.Omega.{arith}
-use Rattle.arrays.specs.Arrays.{padded, at}
 use Rattle.plan.specs.declared.Checked.{Checked}
 use Rattle.plan.specs.declared.Checked.the-variants.{Passed, Refused}
 use Rattle.plan.specs.declared.PlanRefusal.{PlanRefusal}
 use Rattle.plan.specs.Inner.{checkedOf}
-use Rattle.arrays.proofs.Padded.{padded-at}
 
 pub checked-passed : (b : Bool) {x : Checked} → x ≡ checkedOf b → x ≡ Passed → b ≡ true
 checked-passed true e f = refl

@@ -1,10 +1,10 @@
 -- A plan that was written is read back as what was written, and an accepted plan is written as the same bytes: words to bytes and
 -- back changes nothing, nor does bytes to words and back. Assumes nothing.
-use mathlib.Core.Path.{_≡_, refl, sym, ap, ap₂, _∙_}
+use mathlib.Core.Path.{_≡_, refl, sym, ap, _∙_}
 use mathlib.Core.Logic.{_≢_, _⊎_, inl, inr}
 use mathlib.Core.Bool.{true}
-use mathlib.Core.List.{List, [], _∷_, _++_}
-use Prim.Native.Nat.{ℕ, _+_, _*_, _≤_, _<_, _^_}
+use mathlib.Core.List.{List, [], _∷_}
+use Prim.Native.Nat.{ℕ, _+_, _≤_, _<_, _^_}
 use native.Mathlib.Omega.{arith}
 use borrow.Author.Tests.{ltb-true, lt-ltb, eq-eqb}
 use lib.Dec.{ltb}
@@ -12,9 +12,9 @@ use lib.ListN.{length, getD, take, drop}
 use lib.Seq.{length-take-le, getD-take, take-take}
 use Rattle.fold.proofs.Tests.{all-at, all-of}
 use Rattle.limit.specs.Limit.{maxNodes, maxLimit}
-use Rattle.words.specs.Words.{words, encode}
-use Rattle.words.proofs.Words.{Below, below-none, below-cons, below-append, words-encode, encode-words, part-first, part-second, take-three}
-use Rattle.words.proofs.Words.{record-split}
+use Rattle.words.specs.Words.{words}
+use Rattle.words.proofs.Words.{Below}
+use Rattle.words.proofs.Records.{Back, below-three, take-three, record-back, record-again}
 use Rattle.plan.specs.Tree.{helpandsBelow, isRoot, shapeFine, sharesFine, Tree}
 use Rattle.plan.specs.Plan.{accepted, helpandsOf, sharesOf, readPlan}
 use Rattle.plan.specs.Write.{planWords, planBytes}
@@ -57,31 +57,24 @@ module _ (n kind limit : ℕ) (helpands shares : List ℕ) (w : Writable n kind 
       let k : i < n = omega (arith, length-take-le n shares (w .shares-long)) in
       omega (arith, getD-take n shares i 0 k, share-limit n limit (at helpands) (at shares) (w .shares-right) i k, w .limit-high)
 
+  back : Back (n ∷ kind ∷ limit ∷ []) (take n helpands) (take n shares) n
+  back =
+      record-back (n ∷ kind ∷ limit ∷ []) (take n helpands) (take n shares) n (length-take-le n helpands (w .helpands-long))
+      (length-take-le n shares (w .shares-long))
+      (below-three (2 ^ 32) n kind limit (omega (arith, w .n-high)) (omega (arith, w .kind-high)) (omega (arith, w .limit-high)))
+      helpands-fit shares-fit
+
   words-back : words (planBytes n kind limit helpands shares) ≡ planWords n kind limit helpands shares
   unfolding planBytes
-  words-back =
-      words-encode (planWords n kind limit helpands shares)
-      (below-append (2 ^ 32) ((n ∷ kind ∷ limit ∷ []) ++ take n helpands) (take n shares)
-      (below-append (2 ^ 32) (n ∷ kind ∷ limit ∷ []) (take n helpands) head helpands-fit)
-      shares-fit)
-    where
-      head : Below (2 ^ 32) (n ∷ kind ∷ limit ∷ [])
-      head =
-          below-cons (2 ^ 32) n (kind ∷ limit ∷ []) (omega (arith, w .n-high))
-          (below-cons (2 ^ 32) kind (limit ∷ []) (omega (arith, w .kind-high))
-          (below-cons (2 ^ 32) limit [] (omega (arith, w .limit-high)) (below-none (2 ^ 32))))
+  words-back = back .all
 
   written-helpands : helpandsOf (planBytes n kind limit helpands shares) n ≡ take n helpands
-  written-helpands =
-      rw words-back (part-first (n ∷ kind ∷ limit ∷ []) (take n helpands) (take n shares) 3 n refl
-      (length-take-le n helpands (w .helpands-long)))
+  unfolding planBytes
+  written-helpands = back .first
 
   written-shares : sharesOf (planBytes n kind limit helpands shares) n ≡ take n shares
-  written-shares =
-      rw words-back
-      (part-second (n ∷ kind ∷ limit ∷ []) (take n helpands) (take n shares) (3 + n) n
-      (ap (λ (x : ℕ). 3 + x) (length-take-le n helpands (w .helpands-long)))
-      (length-take-le n shares (w .shares-long)))
+  unfolding planBytes
+  written-shares = back .second
 
   -- the entries that count
   same-helpands : (k : ℕ) → k < n → at helpands k ≡ at (helpandsOf (planBytes n kind limit helpands shares) n) k
@@ -167,10 +160,7 @@ unfolding planBytes
 written-read s b q =
     let a = readPlan s in
     let k = plan-accepted s q in
-    let ws = words s in
-    let l : length ws ≡ 3 + 2 * a .n = words-are s a k in
-    let h : take 3 ws ≡ a .n ∷ a .kind ∷ a .limit ∷ [] =
-    take-three ws (omega arith) ∙ rw (← k .n-is, ← k .kind-is, ← k .limit-is) in
-    let same : (xs : List ℕ) → take (a .n) xs ≡ take (a .n) (take (a .n) xs) = λ xs. sym (take-take (a .n) (a .n) xs (omega arith)) in
-    ap encode (sym (record-split ws 3 (a .n) l ∙ ap₂ _++_ (ap₂ _++_ h (same (drop 3 ws))) (same (drop (3 + a .n) ws))))
-    ∙ encode-words s (3 + 2 * a .n) b (k .size)
+    let same : a .n ≤ a .n = omega arith in
+    rw (take-take (a .n) (a .n) (drop 3 (words s)) same, take-take (a .n) (a .n) (drop (3 + a .n) (words s)) same)
+    (record-again s (a .n ∷ a .kind ∷ a .limit ∷ []) 3 (a .n) b (k .size)
+    (rw (k .n-is, k .kind-is, k .limit-is) (sym (take-three (words s) (omega (arith, words-are s a k))))))

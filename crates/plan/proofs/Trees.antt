@@ -1,8 +1,8 @@
 -- Trees of helpands, for every n: one root that every chain reaches is a tree, and a tree passes the checks of its shape. A chain
 -- that reaches a root stays there, so after n steps it stands at a root, and there is but one. Assumes nothing.
 use mathlib.Core.Path.{_≡_, refl, sym, ap, _∙_}
-use mathlib.Core.Logic.{_≢_}
-use mathlib.Core.Bool.{Bool, true, not, _||_, or-true}
+use mathlib.Core.Logic.{_≢_, _⊎_, inl, inr}
+use mathlib.Core.Bool.{Bool, true, false, not, _||_, or-true}
 use Prim.Native.Nat.{ℕ, zero, suc, _<_}
 use native.Mathlib.Decide.{ℕ-discrete}
 use native.Mathlib.Omega.{arith}
@@ -10,8 +10,8 @@ use borrow.Author.Tests.{ltb-true, lt-ltb, eqb-true, eq-eqb, ne-eqb}
 use lib.Dec.{ltb, eqb}
 use Rattle.fold.specs.Sum.{only}
 use Rattle.fold.specs.All.{all}
-use Rattle.fold.proofs.Tests.{and-left, and-right, and-both, only-is, only-not, only-max, all-at, all-of}
-use Rattle.fold.proofs.Sums.{sum-eq, sum-zero, sum-term, sum-skip, sum-only, sum-lt}
+use Rattle.fold.proofs.Tests.{either, and-left, and-right, and-both, only-is, only-not, only-max, all-at, all-of}
+use Rattle.fold.proofs.Sums.{sum-eq, sum-zero, sum-const, sum-term, sum-skip, sum-only, sum-lt, sum-ones}
 use Rattle.plan.specs.Tree.{helpandsBelow, isRoot, roots, reaches, shapeFine, walk, Tree}
 
 -- ---- chains
@@ -55,6 +55,25 @@ module _ (h : ℕ → ℕ) where
   unfolding walk reaches
   walk-reaches zero k e = eq-eqb (h k) k e
   walk-reaches (suc j) k e = rw (walk-reaches j (h k) e, or-true)
+
+-- ---- roots alone
+
+module _ (n : ℕ) (h : ℕ → ℕ) where
+  pub roots-all : roots n h ≡ n → all n (isRoot h) ≡ true
+  roots-all e = all-of n (isRoot h) (λ k l. root k l (either (isRoot h k)))
+    where
+      root : (k : ℕ) → k < n → (isRoot h k ≡ true) ⊎ (isRoot h k ≡ false) → isRoot h k ≡ true
+      root k l (inl t) = t
+      root k l (inr f) = absurd (omega (arith, sum-ones n (isRoot h) k l f))
+
+  pub roots-not-all : roots n h ≢ n → all n (isRoot h) ≡ false
+  roots-not-all d = by (either (all n (isRoot h)))
+    where
+      by : (all n (isRoot h) ≡ true) ⊎ (all n (isRoot h) ≡ false) → all n (isRoot h) ≡ false
+      by (inr f) = f
+      by (inl t) =
+          let ones = sum-eq n (λ k. only (isRoot h k) 1) (λ k. 1) (λ k l. only-is (isRoot h k) 1 (all-at n (isRoot h) t k l)) in
+          absurd (d (omega (arith, ones, sum-const n 1)))
 
 -- ---- one root
 

@@ -1,7 +1,7 @@
 -- Document 01, *Read plan*: "gives N, kind, L", and its refusals 11 to 18, from the list of a plan's bytes.
 use Prim.Native.Nat.{ℕ, _+_, _*_}
 use mathlib.Core.List.{List}
-use mathlib.Core.Bool.{Bool, cond, _||_, _&&_, not}
+use mathlib.Core.Bool.{Bool, _||_, _&&_, not}
 use lib.ListN.{length, getD}
 use lib.Dec.{ltb, leb, eqb}
 use Rattle.limit.specs.Limit.{maxNodes, maxLimit, oneTo}

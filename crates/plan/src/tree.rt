@@ -6,7 +6,7 @@ ghost use mathlib.Core.Bool.{true};
 ghost use Prim.Native.Nat.{_≤_};
 ghost use Rattle.fold.specs.All.{all};
 ghost use Rattle.limit.specs.Limit.{maxNodes};
-ghost use Rattle.plan.specs.Tree.{helpandsBelow, isRoot, roots, reaches, shapeFine, sharesFine};
+ghost use Rattle.plan.specs.Tree.{helpandsBelow, roots, reaches, shapeFine, sharesFine};
 ghost use Rattle.plan.specs.Inner.{checkedOf};
 ghost use Rattle.arrays.specs.Arrays.{at};
 
@@ -16,21 +16,6 @@ pub fn helpands_below(helpands: [u32; 64], n: u32) -> bool
     ensures { λ r. ⌜ r ≡ helpandsBelow n (at helpands) ⌝ }
 {
     arrays::all_at_most(helpands, n as usize, n - 1)
-}
-
-// Whether each node is a root.
-fn all_roots(helpands: [u32; 64], nodes: usize) -> bool
-    requires { ⌜ nodes ≤ maxNodes ⌝ }
-    ensures { λ r. ⌜ r ≡ all nodes (isRoot (at helpands)) ⌝ }
-{
-    let mut k = 0;
-    while k < nodes {
-        if helpands[k] as usize != k {
-            return false;
-        }
-        k += 1;
-    }
-    true
 }
 
 // How many of the nodes are roots.
@@ -82,13 +67,14 @@ pub fn check_shape(helpands: [u32; 64], nodes: usize, kind: u32) -> Checked
     requires { ⌜ (nodes ≤ maxNodes) × (helpandsBelow nodes (at helpands) ≡ true) ⌝ }
     ensures { λ r. ⌜ r ≡ checkedOf (shapeFine nodes kind (at helpands)) ⌝ }
 {
+    let roots = count_roots(helpands, nodes);
     if kind == 0 {
-        if all_roots(helpands, nodes) {
+        if roots == nodes {
             return Checked::Passed;
         }
         return Checked::Refused(PlanRefusal::Shape);
     }
-    if count_roots(helpands, nodes) != 1 {
+    if roots != 1 {
         return Checked::Refused(PlanRefusal::Shape);
     }
     check_chains(helpands, nodes)

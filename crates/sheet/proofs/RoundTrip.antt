@@ -10,7 +10,7 @@ use native.Mathlib.Nat.{add-zero}
 use native.Mathlib.Omega.{arith}
 use borrow.Author.Tests.{lt-ltb, le-ltb, eq-eqb}
 use lib.Dec.{ltb}
-use lib.ListN.{length, getD, take, length-append, length-map}
+use lib.ListN.{length, getD, length-append, length-map}
 use lib.Seq.{ext-getD}
 use Rattle.fold.specs.Sum.{only, sum, total}
 use Rattle.fold.specs.Collect.{collect}
@@ -20,9 +20,9 @@ use Rattle.fold.proofs.Sums.{sum-none, sum-suc, sum-eq, sum-split, sum-below, s
 use Rattle.fold.proofs.Lists.{rises, rising-more, rising-none, rising-from, rising-at, collect-front, collect-eq, map-at}
 use Rattle.limit.specs.Limit.{maxNodes, maxTolerance, maxTotal, limitOf}
 use Rattle.limit.proofs.Laws.{one-to-of}
-use Rattle.words.specs.Words.{words, encode}
-use Rattle.words.proofs.Words.{Below, below-none, below-cons, below-append, words-encode, encode-words, part-first, part-second, take-three}
-use Rattle.words.proofs.Words.{record-split}
+use Rattle.words.specs.Words.{words}
+use Rattle.words.proofs.Words.{Below, below-none}
+use Rattle.words.proofs.Records.{Back, below-three, take-three, record-back, record-again}
 use Rattle.sheet.specs.declared.CountSum.the-variants.{Sum}
 use Rattle.sheet.specs.declared.SheetAnswer.{SheetAnswer}
 use Rattle.sheet.specs.Sheet.{accepted, cellsOf, countsOf, cellFine, runningSum, readHeader, readSheet}
@@ -214,27 +214,24 @@ module _ (n t : ℕ) (table : List ℕ) (w : Writable n t table) where
       let b : 0 < count (getD (filledCells n table) i 0) = rw (from-all n table) (from-filled 0 (64 * n) i (rw (from-all n table) at h)) in
       (omega arith, omega (arith, sum-term 4096 count (getD (filledCells n table) i 0) (cell-at i h), w .within))
 
-  small : Below (2 ^ 32) (sheetWords n t table)
-  small =
-      below-append (2 ^ 32) ((n ∷ t ∷ e ∷ []) ++ filledCells n table) (filledCounts n table)
-      (below-append (2 ^ 32) (n ∷ t ∷ e ∷ []) (filledCells n table)
-      (below-cons (2 ^ 32) n (t ∷ e ∷ []) (omega (arith, w .n-high))
-      (below-cons (2 ^ 32) t (e ∷ []) (omega (arith, w .t-high))
-      (below-cons (2 ^ 32) e [] (omega (arith, cells-le table (64 * n), w .n-high)) (below-none (2 ^ 32)))))
-      (λ i h. omega (arith, cell-at i h)))
-      (λ i h. omega (arith, count-at i (omega (arith, length-map (filledCells n table) count)) .1))
+  back : Back (n ∷ t ∷ e ∷ []) (filledCells n table) (filledCounts n table) e
+  back =
+      let counted = length-map (filledCells n table) count in
+      record-back (n ∷ t ∷ e ∷ []) (filledCells n table) (filledCounts n table) e refl counted
+      (below-three (2 ^ 32) n t e (omega (arith, w .n-high)) (omega (arith, w .t-high)) (omega (arith, cells-le table (64 * n), w .n-high)))
+      (λ i h. omega (arith, cell-at i h)) (λ i h. omega (arith, count-at i (omega (arith, counted)) .1))
 
   words-written : words (sheetBytes n t table) ≡ sheetWords n t table
   unfolding sheetBytes
-  words-written = words-encode (sheetWords n t table) small
+  words-written = back .all
 
   pub cells-written : cellsOf (sheetBytes n t table) e ≡ filledCells n table
-  cells-written = rw words-written (part-first (n ∷ t ∷ e ∷ []) (filledCells n table) (filledCounts n table) 3 e refl refl)
+  unfolding sheetBytes
+  cells-written = back .first
 
   pub counts-written : countsOf (sheetBytes n t table) e ≡ filledCounts n table
-  counts-written =
-      rw words-written (part-second (n ∷ t ∷ e ∷ []) (filledCells n table) (filledCounts n table) (3 + e) e refl
-      (length-map (filledCells n table) count))
+  unfolding sheetBytes
+  counts-written = back .second
 
   -- THEOREM. A sheet that was written is accepted, with the N and t that were written and the table's sum.
   pub read-written : readSheet (sheetBytes n t table) ≡ accepted n t e p (limitOf p n t)
@@ -331,14 +328,10 @@ module _ (s : List ℕ) (a : SheetAnswer) (k : Accepted s a) where
       again-counts (tableOf s (a .e)) (cellFine (a .n)) 0 (cellsOf s (a .e)) (countsOf s (a .e)) (k .cells)
       (cells-are s a k ∙ sym (counts-are s a k)) (λ c h. table-at s a k c)
 
-  head-again : a .n ∷ a .t ∷ a .e ∷ [] ≡ take 3 (words s)
-  head-again = rw (k .n-is, k .t-is, k .e-is) (sym (take-three (words s) (omega (arith, words-are s a k))))
-
   -- THEOREM. Writing the table of an accepted sheet gives the same bytes.
   pub written-read : Below 256 s → sheetBytes (a .n) (a .t) (tableOf s (a .e)) ≡ s
   unfolding sheetBytes
   written-read b =
       rw (cells-again, counts-again, cells-are s a k)
-      (ap (λ (h : List ℕ). encode (h ++ cellsOf s (a .e) ++ countsOf s (a .e))) head-again
-      ∙ ap encode (sym (record-split (words s) 3 (a .e) (words-are s a k)))
-      ∙ encode-words s (3 + 2 * a .e) b (k .size))
+      (record-again s (a .n ∷ a .t ∷ a .e ∷ []) 3 (a .e) b (k .size)
+      (rw (k .n-is, k .t-is, k .e-is) (sym (take-three (words s) (omega (arith, words-are s a k))))))

@@ -1,6 +1,6 @@
 -- The totals and the sum of the table: a table of 4,096 counts is 64 rows of 64, and a sum over all cells may be taken row by row or
 -- column by column. Assumes nothing.
-use mathlib.Core.Path.{_≡_, sym, ap, _∙_}
+use mathlib.Core.Path.{_≡_, sym, _∙_}
 use mathlib.Core.List.{List}
 use Prim.Native.Nat.{ℕ, zero, suc, _+_, _*_, _≤_, _<_}
 use native.Mathlib.Omega.{arith}

@@ -1,5 +1,5 @@
--- Laws of decimal digits: those of x are those of x / 10 and one more. At the end, that a number is read back from its digits, that
--- they are digits, and that no zero stands in front of them. Assumes nothing.
+-- Laws of decimal digits: those of x are those of x / 10 and one more. At the end, that a number is read back from its digits.
+-- Assumes nothing.
 use mathlib.Core.Path.{_≡_, refl, sym, ap, _∙_}
 use mathlib.Core.List.{List, [], _∷_, _++_}
 use Prim.Native.Nat.{ℕ, zero, suc, _+_, _*_, _-_, _/_, _%_, _^_, _≤_, _<_}
@@ -7,8 +7,7 @@ use native.Mathlib.Decide.{decLt}
 use native.Mathlib.Nat.{pow-suc}
 use native.Mathlib.Omega.{arith}
 use borrow.Author.Tests.{lt-ltb, le-ltb}
-use lib.ListN.{length, getD, length-append, List·getD-append}
-use lib.Seq.{getD-append-seam}
+use lib.ListN.{length, length-append}
 use Rattle.text.specs.Text.{digit, digits, decimal}
 
 -- ---- the two ways of a number
@@ -104,53 +103,6 @@ read-digits (suc k) x h =
           (omega arith)
     ]
 
--- ---- each of them, and the first
-
-digits-bytes : (k x i : ℕ) → i < length (digits k x) → (48 ≤ getD (digits k x) i 0) × (getD (digits k x) i 0 ≤ 57)
-digits-bytes zero x i h = absurd (omega (arith, digits-le 0 x))
-digits-bytes (suc k) x i h =
-    elim (decLt x 10) [
-      | yes l ↦
-          let z : i ≡ 0 = omega (arith, ap length (digits-one k x l)) in
-          rw (z, digits-one k x l) (omega arith, omega arith)
-      | no m ↦
-          let l : 10 ≤ x = omega arith in
-          rw (digits-more k x l)
-          (last (digits k (x / 10)) (digits-bytes k (x / 10))
-          (omega (arith, ap length (digits-more k x l) ∙ length-append (digits k (x / 10)) (digit (x % 10) ∷ []))))
-    ]
-  where
-    last : (ds : List ℕ) → ((j : ℕ) → j < length ds → (48 ≤ getD ds j 0) × (getD ds j 0 ≤ 57)) → i < length ds + 1
-        → (48 ≤ getD (ds ++ (digit (x % 10) ∷ [])) i 0) × (getD (ds ++ (digit (x % 10) ∷ [])) i 0 ≤ 57)
-    last ds ih b =
-        elim (decLt i (length ds)) [
-          | yes l ↦ rw (List·getD-append ds (digit (x % 10) ∷ []) 0 i l) (ih i l)
-          | no m ↦
-              let z : i ≡ length ds = omega arith in
-              rw (z, getD-append-seam ds (digit (x % 10)) [] 0) (omega arith, omega arith)
-        ]
-
-digits-some : (k x : ℕ) → 0 < length (digits (suc k) x)
-digits-some k x =
-    elim (decLt x 10) [
-      | yes l ↦ rw (digits-one k x l) (omega arith)
-      | no m ↦
-          let l : 10 ≤ x = omega arith in
-          rw (digits-more k x l, length-append (digits k (x / 10)) (digit (x % 10) ∷ [])) (omega arith)
-    ]
-
-first-digit : (k x : ℕ) → 0 < x → x < 10 ^ suc k → 48 < getD (digits (suc k) x) 0 0
-first-digit zero x p h = rw (digits-one 0 x h) (omega arith)
-first-digit (suc k) x p h =
-    elim (decLt x 10) [
-      | yes l ↦ rw (digits-one (suc k) x l) (omega arith)
-      | no m ↦
-          let l : 10 ≤ x = omega arith in
-          let some = digits-some k (x / 10) in
-          rw (digits-more (suc k) x l, List·getD-append (digits (suc k) (x / 10)) (digit (x % 10) ∷ []) 0 0 some)
-          (first-digit k (x / 10) (omega arith) (shorter k x h))
-    ]
-
 -- ---- what the digits of a word are
 
 -- THEOREM. A word's digits read back as the word.
@@ -160,11 +112,3 @@ read-decimal x h = read-digits 9 x (omega arith)
 -- THEOREM. No two words print alike.
 pub decimal-injective : (x y : ℕ) → x < 2 ^ 32 → y < 2 ^ 32 → decimal x ≡ decimal y → x ≡ y
 decimal-injective x y h l e = sym (read-decimal x h) ∙ ap (readFrom 0) e ∙ read-decimal y l
-
--- THEOREM. Each byte of a number is one of "0" to "9".
-pub decimal-bytes : (x i : ℕ) → i < length (decimal x) → (48 ≤ getD (decimal x) i 0) × (getD (decimal x) i 0 ≤ 57)
-decimal-bytes x i h = digits-bytes 10 x i h
-
--- THEOREM. No zero stands in front of a number that is not 0.
-pub no-leading-zero : (x : ℕ) → 0 < x → x < 2 ^ 32 → 48 < getD (decimal x) 0 0
-no-leading-zero x p h = first-digit 9 x p (omega arith)

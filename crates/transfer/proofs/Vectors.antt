@@ -2,7 +2,7 @@
 -- cannot be sent. Assumes nothing.
 use mathlib.Core.Path.{_≡_, refl}
 use mathlib.Core.Bool.{false}
-use mathlib.Core.List.{[], _∷_, _++_}
+use mathlib.Core.List.{[], _∷_}
 use lib.ListN.{replicate}
 use Rattle.transfer.specs.Apply.{moved, withinFrom, sendsWithin}
 

@@ -1,12 +1,12 @@
 -- Laws of words: by index, there and back, and in parts. Assumes nothing.
 use mathlib.Core.Path.{_≡_, refl, sym, ap, ap₂, _∙_}
-use mathlib.Core.List.{List, [], _∷_, _++_, append-assoc}
-use Prim.Native.Nat.{ℕ, zero, suc, _+_, _*_, _/_, _%_, _-_, _≤_, _<_, _^_}
+use mathlib.Core.List.{List, [], _∷_, _++_}
+use Prim.Native.Nat.{ℕ, zero, suc, _+_, _*_, _/_, _%_, _≤_, _<_, _^_}
 use native.Mathlib.Nat.{suc-add}
 use native.Mathlib.Numerals.{add-one}
 use native.Mathlib.Omega.{arith}
-use lib.ListN.{length, getD, take, drop, length-append, length-take, length-drop, drop-of-length-le, take-append-drop, List·getD-append}
-use lib.Seq.{take-suc, drop-cons, getD-take, getD-drop, take-at, drop-at, take-all, drop-drop}
+use lib.ListN.{length, getD, take, drop, length-append, length-take, length-drop, drop-of-length-le, List·getD-append}
+use lib.Seq.{take-suc, drop-cons, getD-take, getD-drop}
 use Rattle.words.specs.Words.{word, words, bytesOf, encode, part}
 
 -- ---- lengths
@@ -137,33 +137,3 @@ pub part-suc : (ws : List ℕ) (a n : ℕ) → a + n < length ws → part a (n +
 part-suc ws a n h =
     let l : n < length (drop a ws) = simp length-drop (omega arith) in
     rw (add-one, take-suc (drop a ws) n 0, getD-drop)
-
--- the parts of a record of words: its head, and then its two arrays
-pub part-first : (h xs ys : List ℕ) (a n : ℕ) → length h ≡ a → length xs ≡ n → part a n (h ++ xs ++ ys) ≡ xs
-part-first h xs ys a n e f = rw (append-assoc h xs ys, drop-at h (xs ++ ys) a e) (take-at xs ys n f)
-
-pub part-second : (h xs ys : List ℕ) (a n : ℕ) → length h + length xs ≡ a → length ys ≡ n → part a n (h ++ xs ++ ys) ≡ ys
-part-second h xs ys a n e f =
-    let g : length (h ++ xs) ≡ a = length-append h xs ∙ e in
-    rw (drop-at (h ++ xs) ys a g) (take-all n ys (omega arith))
-
--- a head of two words, and of three
-pub take-two : (ws : List ℕ) → 2 ≤ length ws → take 2 ws ≡ getD ws 0 0 ∷ getD ws 1 0 ∷ []
-take-two [] h = absurd (omega arith)
-take-two (x ∷ []) h = absurd (omega arith)
-take-two (x ∷ y ∷ ws) h = refl
-
-pub take-three : (ws : List ℕ) → 3 ≤ length ws → take 3 ws ≡ getD ws 0 0 ∷ getD ws 1 0 ∷ getD ws 2 0 ∷ []
-take-three [] h = absurd (omega arith)
-take-three (x ∷ []) h = absurd (omega arith)
-take-three (x ∷ y ∷ []) h = absurd (omega arith)
-take-three (x ∷ y ∷ z ∷ ws) h = refl
-
--- a record of words is its head and its two arrays
-pub record-split : (ws : List ℕ) (a n : ℕ) → length ws ≡ a + 2 * n → ws ≡ take a ws ++ part a n ws ++ part (a + n) n ws
-record-split ws a n e =
-    let l : length (drop n (drop a ws)) ≤ n = simp length-drop (omega arith) in
-    sym (append-assoc (take a ws) (part a n ws) (part (a + n) n ws)
-    ∙ ap (λ (l : List ℕ). take a ws ++ l)
-    (rw (← drop-drop n a ws, take-all n (drop n (drop a ws)) l) (take-append-drop n (drop a ws)))
-    ∙ take-append-drop a ws)

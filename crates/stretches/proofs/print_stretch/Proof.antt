@@ -1,6 +1,5 @@
 -- `stretches::print_stretch` is safe: there are so many whole words. Assumes nothing.
 use borrow.Author.Needs.{needs}
-use native.Mathlib.Omega.{arith}
 use Prim.Native.Nat.{_≤_, _-_, _*_}
 use lib.ListN.{length}
 use Rattle.stretches.proofs.print_stretch.Statement.{statement}

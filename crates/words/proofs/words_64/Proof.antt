@@ -1,11 +1,9 @@
 -- `words::words_64` meets its contract: what stands behind the words is zeros. Assumes nothing.
 use borrow.Author.Needs.{needs}
-use mathlib.Core.Path.{_≡_, refl, ap, _∙_}
+use mathlib.Core.Path.{ap, _∙_}
 use mathlib.Core.List.{List, _++_}
-use Prim.Native.Nat.{ℕ, zero, suc, _-_}
-use native.Mathlib.Numerals.{unary-clauses}
-use native.Mathlib.Omega.{arith}
-use lib.ListN.{length, drop, replicate}
+use Prim.Native.Nat.{ℕ}
+use lib.ListN.{length}
 use denote.Ref.{now}
 use Rattle.arrays.proofs.Padded.{drop-zeros}
 use Rattle.words.specs.Words.{words, part}
