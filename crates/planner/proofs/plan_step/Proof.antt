@@ -11,10 +11,9 @@ use Rattle.sheet.specs.declared.SheetAnswer.{SheetAnswer}
 use Rattle.sheet.specs.declared.SheetReading.the-variants.{Accepted}
 use Rattle.sheet.specs.Sheet.{readSheet, answerOf as sheetAnswer}
 use Rattle.planner.specs.declared.OldPlan.{OldPlan}
-use Rattle.planner.specs.declared.OldPlan.the-variants.{Tree, NoTree}
-use Rattle.planner.specs.Step.{numberOf, oldOf, oldRead, readOld}
+use Rattle.planner.specs.Step.{numberOf, oldOf, oldRead}
 use Rattle.planner.specs.Inner.{StepRead}
-use Rattle.planner.proofs.Ways.{Ends, ends-sheet, ends-old, number-more, refusal-more}
+use Rattle.planner.proofs.Ways.{ends-sheet, ends-old, number-more, refusal-more}
 use Rattle.planner.proofs.plan_step.Statement.{statement}
 use Rattle.planner.proofs.plan_step.Tie as tie
 
@@ -70,8 +69,9 @@ returns-2 c =
     let r = c .before .r .given in
     let o = c .before .before .before in
     let f = first o in
+    let refused = ap oldOf (sym (r .1)) ∙ o .read-old .ensures in
     ends-old (sheet f) (old f) (plan f) (moves f) (head o .n) (ap (λ (x : SheetAnswer). x .refusal) (sheet-read o))
-    (ap (λ (x : SheetAnswer). x .n) (sheet-read o)) (numberOf (r .0 .0)) (ap oldOf (sym (r .1)) ∙ o .read-old .ensures) (number-more (r .0 .0))
+    (ap (λ (x : SheetAnswer). x .n) (sheet-read o)) (numberOf (r .0 .0)) refused (number-more (r .0 .0))
 
 pub plan-step-spec : {M : Type 1} → statement M
 plan-step-spec =
@@ -85,9 +85,9 @@ plan-step-spec =
     (λ c κs. search needs)  -- read-old-requires
     (λ c. search needs)  -- enum-known-r
     (λ c. search needs)  -- enum-told-2
-    (λ c κs. let t = c .before .before in both-read (t .before .before) Tree true (t .enum-told2 .given .1) refl)  -- plan-read-requires
+    (λ c κs. let t = c .before .before in both-read (t .before .before) _ true (t .enum-told2 .given .1) refl)  -- plan-read-requires
     (λ c. search needs)  -- enum-told-3
-    (λ c κs. let t = c .before .before in both-read (t .before .before) NoTree false (t .enum-told3 .given .1) refl)  -- plan-read-requires-2
+    (λ c κs. let t = c .before .before in both-read (t .before .before) _ false (t .enum-told3 .given .1) refl)  -- plan-read-requires-2
     returns-2
     (λ c. search needs)  -- same-length
     (λ c. search needs)  -- same-length-2

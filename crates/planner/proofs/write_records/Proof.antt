@@ -55,8 +55,8 @@ returns c =
 returns-2 : tie.Need-returns-2
 returns-2 c =
     let b = c .before .before in
-    writes-moves-short (d b .kind) (limit b) (plan b) (moves b) (plan-out b) (moves-out b) _ (plan-size b) (c .before .if1 .left) _ (moves-size b)
-    (c .if2 .taken)
+    writes-moves-short (d b .kind) (limit b) (plan b) (moves b) (plan-out b) (moves-out b) _ (plan-size b) (c .before .if1 .left) _
+    (moves-size b) (c .if2 .taken)
 
 returns-3 : tie.Need-returns-3
 returns-3 c =
@@ -64,8 +64,8 @@ returns-3 c =
     let e = p .before .before .before in
     let b = e .before .before in
     let put = p .put-records .ensures in
-    let w = writes-both (d b .kind) (limit b) (plan b) (moves b) (plan-out b) (moves-out b) _ (plan-size b) (e .before .if1 .left) _ (moves-size b)
-    (e .if2 .left) in
+    let w = writes-both (d b .kind) (limit b) (plan b) (moves b) (plan-out b) (moves-out b) _ (plan-size b) (e .before .if1 .left) _
+    (moves-size b) (e .if2 .left) in
     (w .0, (put .0 ∙ w .1 .0, put .1 ∙ w .1 .1))
 
 pub write-records-spec : {M : Type 1} → statement M
