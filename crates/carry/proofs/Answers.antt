@@ -21,7 +21,8 @@ use Rattle.carry.specs.Carry.{answerOf}
 -- the refusal of a number
 abbrev refusalOf : ℕ → CarryRefusal
 refusalOf k =
-    cond (leb k 7) (Sheet (sheetRefusal k)) (cond (leb k 36) (Moves (movesRefusal k)) (cond (eqb k 41) NodesDiffer (cond (eqb k 42) Sends Buffer)))
+    cond (leb k 7) (Sheet (sheetRefusal k))
+    (cond (leb k 36) (Moves (movesRefusal k)) (cond (eqb k 41) NodesDiffer (cond (eqb k 42) Sends Buffer)))
 
 -- the carrying out of an answer
 abbrev carryingOf : CarryAnswer → Carrying
@@ -31,10 +32,12 @@ back : (c : Carrying) → carryingOf (answerOf c) ≡ c
 back (Carried bytes) = refl
 back (Refused (Sheet r)) =
     let n = sheet-numbered r in
-    rw (ne-eqb (sheetNumber r) 0 (λ z. omega (arith, n .0)), le-leb (sheetNumber r) 7 (n .1)) (ap (λ (x : SheetRefusal). Refused (Sheet x)) (n .2))
+    rw (ne-eqb (sheetNumber r) 0 (λ z. omega (arith, n .0)), le-leb (sheetNumber r) 7 (n .1))
+    (ap (λ (x : SheetRefusal). Refused (Sheet x)) (n .2))
 back (Refused (Moves r)) =
     let n = moves-numbered r in
-    rw (ne-eqb (movesNumber r) 0 (λ z. omega (arith, n .0)), lt-leb (movesNumber r) 7 (omega (arith, n .0)), le-leb (movesNumber r) 36 (n .1))
+    let more = lt-leb (movesNumber r) 7 (omega (arith, n .0)) in
+    rw (ne-eqb (movesNumber r) 0 (λ z. omega (arith, n .0)), more, le-leb (movesNumber r) 36 (n .1))
     (ap (λ (x : MovesRefusal). Refused (Moves x)) (n .2))
 back (Refused NodesDiffer) = refl
 back (Refused Sends) = refl

@@ -1,13 +1,13 @@
 -- What carrying out needs of a sheet and moves that were accepted, and one law for each way out: the answer, and the buffer as it is
 -- then. Assumes nothing.
-use mathlib.Core.Path.{_≡_, refl, sym, ap, _∙_}
+use mathlib.Core.Path.{_≡_, refl, ap, _∙_}
 use mathlib.Core.Logic.{_≢_}
 use mathlib.Core.Bool.{Bool, true, false, cond}
 use mathlib.Core.List.{List}
 use Prim.Native.Nat.{ℕ, _≤_, _<_}
 use native.Mathlib.Omega.{arith}
 use borrow.Author.Tests.{lt-ltb, le-ltb, ltb-false, ltb-true, eq-eqb, ne-eqb}
-use lib.Dec.{ltb, eqb}
+use lib.Dec.{ltb}
 use lib.ListN.{length}
 use Rattle.words.specs.Buffer.{placed, written, writing}
 use Rattle.words.specs.declared.Written.the-variants.{Bytes, Short}
@@ -28,7 +28,7 @@ use Rattle.carry.specs.Inner.{CarryRead}
 
 -- ---- what the inner functions ask
 
-module _ (s m : List ℕ) (h : Sheet) (q : Moves) (r : CarryRead s m h q) where
+module _ {s m : List ℕ} {h : Sheet} {q : Moves} (r : CarryRead s m h q) where
   pub sheet-facts : AcceptedSheet s (sheetAccepted (h .n) (h .t) (h .e) (h .p) (h .limit))
   sheet-facts = reading-accepted s h (r .sheet)
 
@@ -37,7 +37,7 @@ module _ (s m : List ℕ) (h : Sheet) (q : Moves) (r : CarryRead s m h q) where
 
   -- ---- the sheet's table, as it is unpacked
 
-  module _ (table : List ℕ) (is : table ≡ tableOf s (h .e)) where
+  module _ {table : List ℕ} (is : table ≡ tableOf s (h .e)) where
     -- what testing and applying the moves ask
     pub ready : Ready table m (q .e)
     ready =
@@ -94,37 +94,38 @@ module _ (s m out : List ℕ) where
   unfolding carryAnswer
   ends-moves z k e d = refuses k d (rw (← z, ← e, ne-eqb k 0 d))
 
-  module _ (h : Sheet) (q : Moves) (r : CarryRead s m h q) where
-    pub ends-differ : h .n ≢ q .n → Ends (refused 41) out
+-- the sheet and the moves were read
+module _ {s m : List ℕ} {h : Sheet} {q : Moves} (r : CarryRead s m h q) (out : List ℕ) where
+  pub ends-differ : h .n ≢ q .n → Ends s m out (refused 41) out
+  unfolding carryAnswer
+  ends-differ d = refuses s m out 41 (λ z. omega arith) (rw (← r .sheet, ← r .moves, ne-eqb (h .n) (q .n) d))
+
+  module _ (same : h .n ≡ q .n) where
+    pub ends-sends : withinIn s m ≡ false → Ends s m out (refused 42) out
     unfolding carryAnswer
-    ends-differ d = refuses 41 (λ z. omega arith) (rw (← r .sheet, ← r .moves, ne-eqb (h .n) (q .n) d))
+    ends-sends f = refuses s m out 42 (λ z. omega arith) (rw f (rw (← r .sheet, ← r .moves, eq-eqb (h .n) (q .n) same)))
 
-    module _ (same : h .n ≡ q .n) where
-      pub ends-sends : withinIn s m ≡ false → Ends (refused 42) out
+    -- past 42: the table that follows was handed to the writer
+    module _ (w : withinIn s m ≡ true) {table : List ℕ} (is : table ≡ nextTable s m) where
+      abbrev rec : List ℕ
+      rec = sheetBytes (h .n) (h .t) table
+
+      next-is : rec ≡ nextSheet s m
+      unfolding nextSheet
+      next-is = ap (sheetBytes (h .n) (h .t)) is ∙ ap (λ (a : SheetAnswer). sheetBytes (a .n) (a .t) (nextTable s m)) (r .sheet)
+
+      pub ends-carried : (size : ℕ) → Bytes size ≡ writing rec out → Ends s m out (accepted size) (written rec out)
       unfolding carryAnswer
-      ends-sends f = refuses 42 (λ z. omega arith) (rw f (rw (← r .sheet, ← r .moves, eq-eqb (h .n) (q .n) same)))
+      ends-carried size b =
+          let z = wrote rec out size b in
+          let fits = le-ltb (length out) (length (nextSheet s m)) (rw next-is at (z .1)) in
+          let a : accepted size ≡ carryAnswer s m (length out) =
+          rw (z .0, next-is, w, fits) (rw (← r .sheet, ← r .moves, eq-eqb (h .n) (q .n) same)) in
+          (a, z .2 ∙ ap (λ (x : List ℕ). placed x out) next-is ∙ rw (← a))
 
-      -- past 42: the table that follows was handed to the writer
-      module _ (w : withinIn s m ≡ true) (table : List ℕ) (is : table ≡ nextTable s m) where
-        abbrev rec : List ℕ
-        rec = sheetBytes (h .n) (h .t) table
-
-        next-is : rec ≡ nextSheet s m
-        unfolding nextSheet
-        next-is = ap (sheetBytes (h .n) (h .t)) is ∙ ap (λ (a : SheetAnswer). sheetBytes (a .n) (a .t) (nextTable s m)) (r .sheet)
-
-        pub ends-carried : (size : ℕ) → Bytes size ≡ writing rec out → Ends (accepted size) (written rec out)
-        unfolding carryAnswer
-        ends-carried size b =
-            let z = wrote rec out size b in
-            let fits = le-ltb (length out) (length (nextSheet s m)) (rw next-is at (z .1)) in
-            let a : accepted size ≡ carryAnswer s m (length out) =
-            rw (z .0, next-is, w, fits) (rw (← r .sheet, ← r .moves, eq-eqb (h .n) (q .n) same)) in
-            (a, z .2 ∙ ap (λ (x : List ℕ). placed x out) next-is ∙ rw (← a))
-
-        pub ends-short : Short ≡ writing rec out → Ends (refused 43) (written rec out)
-        unfolding carryAnswer
-        ends-short b =
-            let z = short rec out b in
-            let short = lt-ltb (length out) (length (nextSheet s m)) (rw next-is at (z .0)) in
-            rw (z .1) (refuses 43 (λ z. omega arith) (rw (w, short) (rw (← r .sheet, ← r .moves, eq-eqb (h .n) (q .n) same))))
+      pub ends-short : Short ≡ writing rec out → Ends s m out (refused 43) (written rec out)
+      unfolding carryAnswer
+      ends-short b =
+          let z = short rec out b in
+          let short = lt-ltb (length out) (length (nextSheet s m)) (rw next-is at (z .0)) in
+          rw (z .1) (refuses s m out 43 (λ z. omega arith) (rw (w, short) (rw (← r .sheet, ← r .moves, eq-eqb (h .n) (q .n) same))))

@@ -26,7 +26,8 @@ use Rattle.transfer.proofs.Acceptable.{Acceptable}
 use Rattle.transfer.proofs.Applied.{within-at}
 use Rattle.transfer.proofs.Kept.{acceptable-fine, sum-kept, writable-kept}
 use Rattle.carry.specs.declared.CarryAnswer.{CarryAnswer}
-use Rattle.carry.specs.Carry.{refused, accepted, routesIn, countsIn, withinIn, nextTable, nextSheet, carryAnswer, nextAfter, SheetReadBack}
+use Rattle.carry.specs.Carry.{refused, accepted, routesIn, countsIn, withinIn, nextTable, nextSheet}
+use Rattle.carry.specs.Carry.{carryAnswer, nextAfter, SheetReadBack}
 
 -- ---- accepted: every check passed, so each says its part
 
@@ -62,7 +63,7 @@ module _ (s m : List ℕ) (size : ℕ) where
 
 -- ---- the table that follows
 
-module _ (s m : List ℕ) (d : Carriable s m) where
+module _ {s m : List ℕ} (d : Carriable s m) where
   abbrev n₀ : ℕ
   n₀ = readSheet s .n
 
@@ -145,4 +146,4 @@ next-front s m out q =
 -- THEOREM. After an accepted call the bytes in front of the buffer, of the length given, are read back as what was decided.
 pub sheet-read-back : (s m out : List ℕ) → carryAnswer s m (length out) .refusal ≡ 0
     → SheetReadBack s m (take (carryAnswer s m (length out) .bytes) (nextAfter s m out))
-sheet-read-back s m out q = rw (next-front s m out q) (next-back s m (carried-out s m (length out) q .0))
+sheet-read-back s m out q = rw (next-front s m out q) (next-back (carried-out s m (length out) q .0))

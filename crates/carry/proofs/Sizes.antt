@@ -1,5 +1,4 @@
 -- The size of a buffer that is long enough for every call: 32,780 bytes, the longest sheet of 64 nodes. Assumes nothing.
-use mathlib.Core.Path.{_≡_}
 use mathlib.Core.Logic.{_≢_}
 use mathlib.Core.Bool.{not}
 use mathlib.Core.List.{List}

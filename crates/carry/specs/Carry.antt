@@ -81,6 +81,6 @@ nextAfter s m out = afterCall (carryAnswer s m (length out) .refusal) (nextSheet
 
 -- it is accepted, with the N, t, P and limit of s and as many entries as the table that follows has counts, and with this table
 pub record SheetReadBack (s m next : List ℕ) : Type 0 where
-  pub read : readSheet next
-      ≡ sheetAccepted (readSheet s .n) (readSheet s .t) (length (filledCells (readSheet s .n) (nextTable s m))) (readSheet s .p) (readSheet s .limit)
+  pub read : let entries = length (filledCells (readSheet s .n) (nextTable s m)) in
+      readSheet next ≡ sheetAccepted (readSheet s .n) (readSheet s .t) entries (readSheet s .p) (readSheet s .limit)
   pub table : tableIn next ≡ nextTable s m

@@ -4,7 +4,7 @@ use mathlib.Core.List.{List}
 use native.Mathlib.Omega.{arith}
 use Prim.Native.Nat.{ℕ}
 use lib.ListN.{length, take}
-use Rattle.planner.specs.Step.{movesIn, stepAnswer, planAfter, movesAfter}
+use Rattle.planner.specs.Step.{stepAnswer, planAfter, movesAfter}
 use Rattle.planner.proofs.Sizes.{plan-size, moves-size}
 use Rattle.carry.specs.Carry.{carryAnswer, nextAfter}
 use Rattle.carry.proofs.ReadBack.{next-size}
@@ -18,5 +18,5 @@ pub demand : (s o p m x : List ℕ)
     Demand3 s o p m x a (carryAnswer s moves (length x)) (planAfter s o p (length m)) (nextAfter s moves x)
 demand s o p m x over t long =
     let y = plannable s o over t in
-    exact s o p m x over t (omega (arith, plan-size s o y, long .plan)) (omega (arith, moves-size s o y, long .moves))
-    (omega (arith, next-size s (movesIn s o) (carriable s o over y), long .next))
+    exact s o p m x over t (omega (arith, plan-size y, long .plan)) (omega (arith, moves-size y, long .moves))
+    (omega (arith, next-size (carriable over y), long .next))

@@ -31,12 +31,13 @@ use Rattle.decide.specs.declared.Decision.{Decision}
 use Rattle.decide.proofs.Decided.{KeptFine, RebuiltFine}
 use Rattle.decide.proofs.Demanded.{Demanded, decided-alone, decided-demanded}
 use Rattle.planner.specs.declared.StepAnswer.{StepAnswer}
-use Rattle.planner.specs.Step.{OldAnswer, oldRead, readOld, oldHelpands, decisionIn, planIn, decidedRoutes, decidedCounts, movesIn, stepAnswer, planAfter, movesAfter, StepReadBack}
+use Rattle.planner.specs.Step.{OldAnswer, oldRead, readOld, oldHelpands, decisionIn, planIn, decidedRoutes, decidedCounts, movesIn}
+use Rattle.planner.specs.Step.{stepAnswer, planAfter, movesAfter, StepReadBack}
 use Rattle.planner.proofs.Ways.{old-empty, old-primary, old-tree}
 use Rattle.planner.proofs.Facts.{given, decision}
-use Rattle.planner.proofs.ReadBack.{Plannable, head, was-read, records-back, carries, done-step, plan-front, moves-front}
+use Rattle.planner.proofs.ReadBack.{Plannable, was-read, records-back, carries, done-step, plan-front, moves-front}
 use Rattle.carry.specs.declared.CarryAnswer.{CarryAnswer}
-use Rattle.carry.specs.Carry.{nextTable, nextSheet, carryAnswer, nextAfter, SheetReadBack}
+use Rattle.carry.specs.Carry.{nextTable, nextSheet, carryAnswer, nextAfter}
 use Rattle.carry.proofs.ReadBack.{Carriable, carries-out, next-back, next-front}
 use Rattle.claim.specs.Claim.{Overloaded, AcceptedTree, NoTree, Rival, Balanced, Claim}
 use Rattle.claim.proofs.Agree.{tree-agree, within-agree, target-agree, due-agree}
@@ -68,7 +69,7 @@ plannable s o over t =
 
 -- ---- what was planned
 
-module _ (s o : List ℕ) (over : Overloaded s) (y : Plannable s o) where
+module _ {s o : List ℕ} (over : Overloaded s) (y : Plannable s o) where
   abbrev n₀ : ℕ
   n₀ = readSheet s .n
 
@@ -91,7 +92,7 @@ module _ (s o : List ℕ) (over : Overloaded s) (y : Plannable s o) where
   plan = planIn s o
 
   back : StepReadBack s o plan (movesIn s o)
-  back = records-back s o y
+  back = records-back y
 
   -- a tree is needed
   needed : primary n₀ totals limit ≡ false
@@ -107,16 +108,14 @@ module _ (s o : List ℕ) (over : Overloaded s) (y : Plannable s o) where
 
   with-tree : tree ≡ true → Demanded n₀ (readSheet s .p) limit (totalsIn s) old d
   with-tree e =
-      let h = head s o y in
-      let g = given s o h tree (was-read s o y) in
-      rw (decision s o h tree (was-read s o y), limit-is)
+      let g = given (was-read y) in
+      rw (decision (was-read y), limit-is)
       (decided-demanded n₀ (readSheet s .p) (readSheet s .t) (tableIn s) (totalsIn s) tree old g needed-here e)
 
   without : tree ≡ false → RebuiltFine n₀ (readSheet s .p) (totalsIn s) d
   without e =
-      let h = head s o y in
-      let g = given s o h tree (was-read s o y) in
-      rw (decision s o h tree (was-read s o y), limit-is)
+      let g = given (was-read y) in
+      rw (decision (was-read y), limit-is)
       (decided-alone n₀ (readSheet s .p) (readSheet s .t) (tableIn s) (totalsIn s) tree old g needed-here e)
 
   -- ---- the plan as it is read has the helpands and shares that were decided
@@ -170,7 +169,7 @@ module _ (s o : List ℕ) (over : Overloaded s) (y : Plannable s o) where
         sheet = over .accepted;
         moves = ap (λ (a : MovesAnswer). a .refusal) (back .moves-read);
         nodes = sym (ap (λ (a : MovesAnswer). a .n) (back .moves-read));
-        within = rw (routes-are, counts-are) (carries s o y .within);
+        within = rw (routes-are, counts-are) (carries y .within);
       }
 
   next-table : nextTable s moves ≡ carried (tableIn s) (decidedRoutes s o) (decidedCounts s o)
@@ -192,7 +191,7 @@ module _ (s o : List ℕ) (over : Overloaded s) (y : Plannable s o) where
         let h′ = at (helpandsOf plan n₀) in
         let share = at (d .shares) in
         let share′ = at (sharesOf plan n₀) in
-        let next = next-back s moves carriable in
+        let next = next-back carriable in
         record {
           plan-read = back .plan-read;
           kept = kept-exactly;
@@ -206,7 +205,7 @@ module _ (s o : List ℕ) (over : Overloaded s) (y : Plannable s o) where
           next-read = (ap (λ (a : SheetAnswer). a .refusal) (next .read), ap (λ (a : SheetAnswer). a .n) (next .read));
           amounts = λ k n lk ln.
               ap (λ (xs : List ℕ). held xs k n) (next .table ∙ next-table)
-              ∙ carries s o y .reached k n lk ln
+              ∙ carries y .reached k n lk ln
               ∙ due-agree n₀ h h′ helpands-same totals share share′ shares-same n k lk;
         }
 
@@ -222,11 +221,11 @@ exact s o p m x over t f g h =
     let answer = done-step s o (length p) (length m) y f g in
     let e : stepAnswer s o (length p) (length m) .refusal ≡ 0 = ap (λ (a : StepAnswer). a .refusal) answer in
     let kinds : stepAnswer s o (length p) (length m) .kind ≡ decisionIn s o .kind = ap (λ (a : StepAnswer). a .kind) answer in
-    let carried = carries-out s (movesIn s o) (length x) (carriable s o over y) h in
+    let carried = carries-out s (movesIn s o) (length x) (carriable over y) h in
     let q : carryAnswer s (movesIn s o) (length x) .refusal ≡ 0 = ap (λ (c : CarryAnswer). c .refusal) carried in
     rw (moves-front s o p m e)
     (record {
       planned = e;
       carried = q;
-      balanced = rw (plan-front s o p m e, next-front s (movesIn s o) x q, kinds) (balanced s o over y t);
+      balanced = rw (plan-front s o p m e, next-front s (movesIn s o) x q, kinds) (balanced over y t);
     })

@@ -21,9 +21,9 @@ use Rattle.plan.specs.Plan.{arraysAnswer, headAnswer, readPlan}
 use Rattle.planner.specs.Worked.{Worked, step-D, step-E, step-F, step-G, step-H, step-I}
 use Rattle.claim.specs.Claim.{Overloaded, AcceptedTree, NoTree}
 
-overloaded : (s : List ℕ) (n : ℕ) → readSheet s .refusal ≡ 0 → ltb n (readSheet s .n) ≡ true → ltb (readSheet s .limit) (at (totalsIn s) n) ≡ true
-    → Overloaded s
-overloaded s n e f g = record { accepted = e; above = (n, ltb-true n (readSheet s .n) f, ltb-true (readSheet s .limit) (at (totalsIn s) n) g) }
+overloaded : (s : List ℕ) (n : ℕ) → readSheet s .refusal ≡ 0 → ltb n (readSheet s .n) ≡ true
+    → ltb (readSheet s .limit) (at (totalsIn s) n) ≡ true → Overloaded s
+overloaded s n e f g = record { accepted = e; above = (n, ltb-true n _ f, ltb-true (readSheet s .limit) _ g) }
 
 with-tree : (s o : List ℕ) → readPlan o .refusal ≡ 0 → readPlan o .n ≡ readSheet s .n → eqb (readPlan o .kind) 0 ≡ false → AcceptedTree s o
 with-tree s o e f g = record { accepted = e; nodes = f; kind = eqb-false (readPlan o .kind) 0 g }

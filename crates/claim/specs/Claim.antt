@@ -70,6 +70,10 @@ share s plan = at (sharesOf plan (readSheet s .n))
 abbrev pub own : List ℕ → List ℕ → ℕ → ℕ
 own s plan = ownOf (readSheet s .n) (helpand s plan) (at (totalsIn s)) (share s plan)
 
+-- "There is a target for every node"
+abbrev pub target : List ℕ → ℕ → ℕ
+target s = targetOf (readSheet s .n) (readSheet s .p)
+
 -- what node k is due of subdomain n: "due amounts are those of that plan"
 abbrev pub due : List ℕ → List ℕ → ℕ → ℕ → ℕ
 due s plan = dueOf (readSheet s .n) (helpand s plan) (at (totalsIn s)) (share s plan)
@@ -90,7 +94,7 @@ pub record Balanced (s o plan next : List ℕ) (kind : ℕ) : Type 0 where
   -- "in kind 2, one with every load equal to the node's target"
   pub rebuilt-tree : kind ≡ 2 → (r : ℕ) × Tree (readSheet s .n) (helpand s plan) r
   pub rebuilt-division : kind ≡ 2
-      → OnTarget (readSheet s .n) (helpand s plan) (at (totalsIn s)) (targetOf (readSheet s .n) (readSheet s .p)) (own s plan) (share s plan)
+      → OnTarget (readSheet s .n) (helpand s plan) (at (totalsIn s)) (target s) (own s plan) (share s plan)
   -- "in the sheet that it writes, each node's count of each subdomain is its due amount"
   pub next-read : (readSheet next .refusal ≡ 0) × (readSheet next .n ≡ readSheet s .n)
   pub amounts : (k n : ℕ) → k < readSheet s .n → n < readSheet s .n → held (tableIn next) k n ≡ due s plan n k

@@ -30,7 +30,8 @@ pub fn plan_and_carry_out(
         now (moves .exit) ≡ movesAfter (now (sheet .entry)) (now (old .entry)) (now (moves .entry)) (length (now (plan .entry))) ⌝ }
     ensures carry { λ r. ⌜
         r .carry ≡ carryAnswer (now (sheet .entry)) (take (r .step .moves) (now (moves .exit))) (length (now (next .entry))) ⌝ }
-    ensures next { λ r. ⌜ now (next .exit) ≡ nextAfter (now (sheet .entry)) (take (r .step .moves) (now (moves .exit))) (now (next .entry)) ⌝ }
+    ensures next { λ r. ⌜
+        now (next .exit) ≡ nextAfter (now (sheet .entry)) (take (r .step .moves) (now (moves .exit))) (now (next .entry)) ⌝ }
     ensures demand { λ r. ⌜
         Demand3 (now (sheet .entry)) (now (old .entry)) (now (plan .entry)) (now (moves .entry)) (now (next .entry)) (r .step) (r .carry)
         (now (plan .exit)) (now (next .exit)) ⌝ }

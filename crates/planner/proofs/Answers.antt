@@ -27,13 +27,15 @@ refusalOf k =
 -- the step of an answer
 abbrev stepOf : StepAnswer → Step
 stepOf a =
-    cond (eqb (a .refusal) 0) (Planned (record { kind = a .kind; limit = a .limit; plan = a .plan; moves = a .moves })) (Refused (refusalOf (a .refusal)))
+    let planned = Planned (record { kind = a .kind; limit = a .limit; plan = a .plan; moves = a .moves }) in
+    cond (eqb (a .refusal) 0) planned (Refused (refusalOf (a .refusal)))
 
 back : (s : Step) → stepOf (answerOf s) ≡ s
 back (Planned p) = refl
 back (Refused (Sheet r)) =
     let n = sheet-numbered r in
-    rw (ne-eqb (sheetNumber r) 0 (λ z. omega (arith, n .0)), le-leb (sheetNumber r) 7 (n .1)) (ap (λ (x : SheetRefusal). Refused (Sheet x)) (n .2))
+    rw (ne-eqb (sheetNumber r) 0 (λ z. omega (arith, n .0)), le-leb (sheetNumber r) 7 (n .1))
+    (ap (λ (x : SheetRefusal). Refused (Sheet x)) (n .2))
 back (Refused (Plan r)) =
     let n = plan-numbered r in
     rw (ne-eqb (planNumber r) 0 (λ z. omega (arith, n .0)), lt-leb (planNumber r) 7 (omega (arith, n .0)), le-leb (planNumber r) 18 (n .1))

@@ -44,8 +44,10 @@ pub record OldTree (o : List ℕ) (n : ℕ) : Type 0 where
 pub old-tree-read : (o : List ℕ) (n : ℕ) → readOld o n ≡ oldRead true → OldTree o n
 unfolding readOld
 old-tree-read o n e =
-    let b = checks (eqb (length o) 0) (eqb (readPlan o .refusal) 0) (eqb (readPlan o .n) n) (eqb (readPlan o .kind) 0) (readPlan o .refusal) (ap (λ (a : OldAnswer). a .tree) e) in
-    record { accepted = eqb-true (readPlan o .refusal) 0 (b .0); nodes = eqb-true (readPlan o .n) n (b .1); kind = eqb-false (readPlan o .kind) 0 (b .2) }
+    let a = readPlan o in
+    let t = ap (λ (x : OldAnswer). x .tree) e in
+    let b = checks (eqb (length o) 0) (eqb (a .refusal) 0) (eqb (a .n) n) (eqb (a .kind) 0) (a .refusal) t in
+    record { accepted = eqb-true (a .refusal) 0 (b .0); nodes = eqb-true (a .n) n (b .1); kind = eqb-false (a .kind) 0 (b .2) }
   where
     checks : (empty fine same primary : Bool) (k : ℕ)
         → cond empty (oldRead false) (cond (not fine) (oldRefused k) (cond (not same) (oldRefused 21) (oldRead (not primary)))) .tree ≡ true
@@ -58,7 +60,7 @@ old-tree-read o n e =
 
 -- ---- the sheet and the old plan together
 
-module _ (s o : List ℕ) (h : Sheet) (tree : Bool) (r : StepRead s o h tree) where
+module _ {s o : List ℕ} {h : Sheet} {tree : Bool} (r : StepRead s o h tree) where
   abbrev pub table : List ℕ
   table = tableOf s (h .e)
 
@@ -121,7 +123,8 @@ module _ (s o : List ℕ) (h : Sheet) (tree : Bool) (r : StepRead s o h tree) wh
       split (inl e) =
           let p = old-tree-read o (h .n) (r .old ∙ ap oldRead e) in
           let k = plan-accepted o (p .accepted) in
-          let l : length (helpandsOf o (h .n)) ≡ h .n = ap (λ (m : ℕ). length (helpandsOf o m)) (sym (p .nodes)) ∙ helpands-are o (readPlan o) k ∙ p .nodes in
+          let size = helpands-are o (readPlan o) k in
+          let l : length (helpandsOf o (h .n)) ≡ h .n = ap (λ (m : ℕ). length (helpandsOf o m)) (sym (p .nodes)) ∙ size ∙ p .nodes in
           rw e
           (omega (
             arith,

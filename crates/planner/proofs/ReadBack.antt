@@ -19,7 +19,8 @@ use Rattle.sheet.proofs.Accepted.{sheet-accepted}
 use Rattle.moves.proofs.RoundTrip.{Writable, read-written, routes-written, counts-written}
 use Rattle.transfer.proofs.Carrying.{Carries}
 use Rattle.planner.specs.declared.StepAnswer.{StepAnswer}
-use Rattle.planner.specs.Step.{refused, planned, readOld, decisionIn, planIn, dueIn, decidedRoutes, decidedCounts, movesIn, writtenAnswer, stepAnswer, planAfter, movesAfter, StepReadBack}
+use Rattle.planner.specs.Step.{refused, planned, readOld, decisionIn, planIn, dueIn, decidedRoutes, decidedCounts, movesIn}
+use Rattle.planner.specs.Step.{writtenAnswer, stepAnswer, planAfter, movesAfter, StepReadBack}
 use Rattle.planner.specs.Inner.{StepRead}
 use Rattle.planner.proofs.Facts.{decision-fine}
 use Rattle.planner.proofs.Records.{carries-due}
@@ -57,7 +58,7 @@ module _ (s o : List ℕ) (planSize movesSize : ℕ) where
 
 -- ---- a sheet and an old plan that are accepted were read as something
 
-module _ (s o : List ℕ) (d : Plannable s o) where
+module _ {s o : List ℕ} (d : Plannable s o) where
   abbrev pub head : Sheet
   head = let a = readSheet s in record { n = a .n; t = a .t; e = a .e; p = a .p; limit = a .limit }
 
@@ -65,11 +66,15 @@ module _ (s o : List ℕ) (d : Plannable s o) where
   tree = readOld o (readSheet s .n) .tree
 
   pub was-read : StepRead s o head tree
-  was-read = record { sheet = sym (sheet-accepted s (d .sheet) .answer); old = ap (λ (k : ℕ). record { refusal = k; tree = tree }) (d .old) }
+  was-read =
+      record {
+        sheet = sym (sheet-accepted s (d .sheet) .answer);
+        old = ap (λ (k : ℕ). record { refusal = k; tree = tree }) (d .old);
+      }
 
   -- the moves that are decided carry out what is due
   pub carries : Carries (readSheet s .n) (tableIn s) (dueIn (readSheet s .n) (totalsIn s) (decisionIn s o))
-  carries = carries-due s o head tree was-read
+  carries = carries-due was-read
 
   abbrev routes : List ℕ
   routes = decidedRoutes s o
@@ -98,7 +103,7 @@ module _ (s o : List ℕ) (d : Plannable s o) where
   unfolding planIn movesIn
   records-back =
       let n = readSheet s .n in
-      let plan = decision-fine s o head tree was-read .read-back in
+      let plan = decision-fine was-read .read-back in
       record {
         plan-read = plan .answer;
         helpands = plan .helpands-back;
@@ -121,8 +126,9 @@ module _ (s o p m : List ℕ) (q : stepAnswer s o (length p) (length m) .refusal
   plan-front = ap (λ (x : StepAnswer). take (x .plan) (planAfter s o p (length m))) answer-is ∙ after-front (a .refusal) (planIn s o) p q
 
   pub moves-front : take (a .moves) (movesAfter s o m (length p)) ≡ movesIn s o
-  moves-front = ap (λ (x : StepAnswer). take (x .moves) (movesAfter s o m (length p))) answer-is ∙ after-front (a .refusal) (movesIn s o) m q
+  moves-front =
+      ap (λ (x : StepAnswer). take (x .moves) (movesAfter s o m (length p))) answer-is ∙ after-front (a .refusal) (movesIn s o) m q
 
   -- THEOREM. After an accepted call the bytes in front of the two buffers, of the lengths given, are read back as what was decided.
   pub step-read-back : StepReadBack s o (take (a .plan) (planAfter s o p (length m))) (take (a .moves) (movesAfter s o m (length p)))
-  step-read-back = rw (plan-front, moves-front) (records-back s o (step-done s o (length p) (length m) q .0))
+  step-read-back = rw (plan-front, moves-front) (records-back (step-done s o (length p) (length m) q .0))

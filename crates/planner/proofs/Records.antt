@@ -23,7 +23,7 @@ use Rattle.transfer.proofs.Carrying.{Carries, carries-totals}
 use Rattle.decide.specs.declared.Decision.{Decision}
 use Rattle.decide.specs.Decide.{decided}
 use Rattle.planner.specs.declared.StepAnswer.{StepAnswer}
-use Rattle.planner.specs.Step.{decisionIn, planRecord, planIn, dueIn, movesRecord, movesIn, writtenAnswer}
+use Rattle.planner.specs.Step.{decisionIn, planRecord, planIn, dueIn, movesRecord, movesIn}
 use Rattle.planner.specs.Inner.{StepRead}
 use Rattle.planner.proofs.Ways.{Writes, Ends, ends-written}
 use Rattle.planner.proofs.Facts.{table, totals, old, facts, sum-within, given, decision, decision-fine}
@@ -41,46 +41,46 @@ moves-front n routes counts a b e =
       take-all (length routes) counts (omega (arith, e)),
     )
 
-module _ (s o : List ℕ) (h : Sheet) (tree : Bool) (r : StepRead s o h tree) where
+module _ {s o : List ℕ} {h : Sheet} {tree : Bool} (r : StepRead s o h tree) where
   abbrev d₀ : Decision
   d₀ = decisionIn s o
 
-  pub allotted : Allotted (h .n) (at (d₀ .helpands)) (at (totals s o h tree r)) (at (d₀ .shares))
-  allotted = let f = decision-fine s o h tree r in record { inside = f .inside; enough = f .enough }
+  pub allotted : Allotted (h .n) (at (d₀ .helpands)) (at (totals r)) (at (d₀ .shares))
+  allotted = let f = decision-fine r in record { inside = f .inside; enough = f .enough }
 
   -- the moves carry out what is due
-  pub carries-due : Carries (h .n) (table s o h tree r) (dueIn (h .n) (totals s o h tree r) d₀)
+  pub carries-due : Carries (h .n) (table r) (dueIn (h .n) (totals r) d₀)
   carries-due =
-      carries-totals (h .n) (table s o h tree r) (totals s o h tree r) (at (d₀ .helpands)) (at (d₀ .shares)) (facts s o h tree r .n-high) (length-table s (h .e))
-      (sum-within s o h tree r) refl allotted
+      carries-totals (h .n) (table r) (totals r) (at (d₀ .helpands)) (at (d₀ .shares)) (facts r .n-high) (length-table s (h .e))
+      (sum-within r) refl allotted
 
   -- N × (N−1) is at most the size of the arrays
   pub product-small : h .n * (h .n - 1) ≤ tableSize
   product-small =
-      let l : h .n ≤ 64 = facts s o h tree r .n-high in
+      let l : h .n ≤ 64 = facts r .n-high in
       let m : h .n - 1 ≤ 64 = omega (arith, l) in
       mul-le-mul l m
 
   -- what the code works out before it decides
-  pub before-deciding : (t u v : List ℕ) → t ≡ table s o h tree r → u ≡ totalsOf (h .n) t → v ≡ old s o h tree r
+  pub before-deciding : (t u v : List ℕ) → t ≡ table r → u ≡ totalsOf (h .n) t → v ≡ old r
       → (sum (h .n) (at u) ≡ h .p) × (helpandsBelow (h .n) (at v) ≡ true) × (tree ≡ true → (root : ℕ) × Tree (h .n) (at v) root)
   before-deciding t u v e f i =
-      let g = given s o h tree r in
+      let g = given r in
       (rw (f, e) (g .adds), rw i (g .below), rw i (g .rooted))
 
   -- and then: a table, totals, old helpands and a decision
   pub record Here (t u v : List ℕ) (d : Decision) : Type 0 where
-    pub table-is : t ≡ table s o h tree r
+    pub table-is : t ≡ table r
     pub totals-is : u ≡ totalsOf (h .n) t
-    pub old-is : v ≡ old s o h tree r
+    pub old-is : v ≡ old r
     pub decision-is : d ≡ decided (h .n) (h .p) (h .limit) t u tree v
 
-  module _ (t u v : List ℕ) (d : Decision) (k : Here t u v d) where
-    here-totals : u ≡ totals s o h tree r
+  module _ {t u v : List ℕ} {d : Decision} (k : Here t u v d) where
+    here-totals : u ≡ totals r
     here-totals = k .totals-is ∙ ap (totalsOf (h .n)) (k .table-is)
 
     here-decision : d ≡ d₀
-    here-decision = k .decision-is ∙ rw (here-totals, k .table-is, k .old-is) (sym (decision s o h tree r))
+    here-decision = k .decision-is ∙ rw (here-totals, k .table-is, k .old-is) (sym (decision r))
 
     pub here-allotted : Allotted (h .n) (at (d .helpands)) (at u) (at (d .shares))
     here-allotted = rw (here-decision, here-totals) allotted
@@ -98,7 +98,8 @@ module _ (s o : List ℕ) (h : Sheet) (tree : Bool) (r : StepRead s o h tree) wh
     here-few = omega (arith, here-carries .accepted .few, product-small)
 
     -- the arrays have the moves at their front
-    pub here-long : (e : ℕ) (xs ys a b : List ℕ) → e ≡ length routes → xs ≡ placed routes a → ys ≡ placed counts b → (e ≤ length xs) × (e ≤ length ys)
+    pub here-long : (e : ℕ) (xs ys a b : List ℕ) → e ≡ length routes → xs ≡ placed routes a → ys ≡ placed counts b
+        → (e ≤ length xs) × (e ≤ length ys)
     here-long e xs ys a b i j q = (
       omega (arith, ap length j, length-append routes (drop (length routes) a)),
       omega (arith, ap length q, length-append counts (drop (length counts) b), here-carries .accepted .same),
@@ -108,10 +109,12 @@ module _ (s o : List ℕ) (h : Sheet) (tree : Bool) (r : StepRead s o h tree) wh
     unfolding planIn
     here-plan = rw (← r .sheet, here-decision)
 
-    here-moves : (e : ℕ) (xs ys a b : List ℕ) → e ≡ length routes → xs ≡ placed routes a → ys ≡ placed counts b → movesBytes (h .n) e xs ys ≡ movesIn s o
+    here-moves : (e : ℕ) (xs ys a b : List ℕ) → e ≡ length routes → xs ≡ placed routes a → ys ≡ placed counts b
+        → movesBytes (h .n) e xs ys ≡ movesIn s o
     unfolding movesIn
     here-moves e xs ys a b i j q =
-        rw (i, j, q) (moves-front (h .n) routes counts a b (here-carries .accepted .same) ∙ rw (← r .sheet, here-decision, here-totals, k .table-is))
+        let front = moves-front (h .n) routes counts a b (here-carries .accepted .same) in
+        rw (i, j, q) (front ∙ rw (← r .sheet, here-decision, here-totals, k .table-is))
 
     -- so the answer and the buffers are those of the definitions
     pub here-ends : (e : ℕ) (xs ys a b : List ℕ) → e ≡ length routes → xs ≡ placed routes a → ys ≡ placed counts b

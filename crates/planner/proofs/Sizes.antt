@@ -25,20 +25,21 @@ use Rattle.moves.specs.declared.MovesAnswer.{MovesAnswer}
 use Rattle.moves.specs.Write.{longestMoves}
 use Rattle.moves.proofs.Accepted.{moves-accepted}
 use Rattle.planner.specs.declared.StepAnswer.{StepAnswer}
-use Rattle.planner.specs.Step.{refused, planned, OldAnswer, oldRefused, readOld, decisionIn, planIn, movesIn, writtenAnswer, stepAnswer}
+use Rattle.planner.specs.Step.{refused, planned, OldAnswer, oldRefused, readOld, decisionIn, planIn, movesIn}
+use Rattle.planner.specs.Step.{writtenAnswer, stepAnswer}
 use Rattle.planner.proofs.ReadBack.{Plannable, records-back, done-step}
 
 -- ---- by the sheet's N
 
-module _ (s o : List ℕ) (d : Plannable s o) where
+module _ {s o : List ℕ} (d : Plannable s o) where
   pub plan-size : length (planIn s o) ≡ planLength (readSheet s .n)
   plan-size =
-      let r = records-back s o d .plan-read in
+      let r = records-back d .plan-read in
       omega (arith, plan-accepted (planIn s o) (ap (λ (a : PlanAnswer). a .refusal) r) .size, ap (λ (a : PlanAnswer). a .n) r)
 
   pub moves-size : length (movesIn s o) ≤ longestMoves (readSheet s .n)
   moves-size =
-      let r = records-back s o d .moves-read in
+      let r = records-back d .moves-read in
       let k = moves-accepted (movesIn s o) (ap (λ (a : MovesAnswer). a .refusal) r) in
       omega (arith, k .size, k .e-high, ap (λ (a : MovesAnswer). a .n * (a .n - 1)) r)
 
@@ -96,7 +97,7 @@ module _ (s o : List ℕ) (planSize movesSize : ℕ) (plan-long : 524 ≤ planSi
           | no d ↦ rw (eq-eqb k 0 z, ne-eqb j 0 d) (omega (arith, old-most o (readSheet s .n)))
           | yes y ↦
               let l = largest s z in
-              omega (arith, ap f (enough s o (record { sheet = z; old = y }) planSize movesSize (omega (arith, l .0)) (omega (arith, l .1))))
+              omega (arith, ap f (enough (record { sheet = z; old = y }) planSize movesSize (omega (arith, l .0)) (omega (arith, l .1))))
         ]
       ]
 

@@ -19,7 +19,8 @@ use Rattle.plan.specs.Plan.{readPlan, accepted}
 use Rattle.planner.specs.declared.StepAnswer.{StepAnswer}
 use Rattle.planner.specs.declared.StepRefusal.{StepRefusal}
 use Rattle.planner.specs.declared.StepRefusal.the-variants.{Sheet, Plan, NodesDiffer, PlanBuffer, MovesBuffer}
-use Rattle.planner.specs.Step.{refused, planned, numberOf, oldRefused, oldRead, readOld, decisionIn, planIn, movesIn, writtenAnswer, stepAnswer, planAfter, movesAfter}
+use Rattle.planner.specs.Step.{refused, planned, numberOf, oldRefused, oldRead, readOld, decisionIn, planIn, movesIn}
+use Rattle.planner.specs.Step.{writtenAnswer, stepAnswer, planAfter, movesAfter}
 
 -- ---- the old plan
 
@@ -76,13 +77,15 @@ module _ (kind limit : ℕ) (plan moves planOut movesOut : List ℕ) where
     pub writes-moves-short : (size₂ : ℕ) → length moves ≡ size₂ → length movesOut < size₂ → Writes (refused 23) planOut movesOut
     unfolding writtenAnswer
     writes-moves-short size₂ f l =
-        (rw (le-ltb (length planOut) (length plan) (omega (arith, e)), lt-ltb (length movesOut) (length moves) (omega (arith, f))), (refl, refl))
+        let short = lt-ltb (length movesOut) (length moves) (omega (arith, f)) in
+        (rw (le-ltb (length planOut) (length plan) (omega (arith, e)), short), (refl, refl))
 
     pub writes-both : (size₂ : ℕ) → length moves ≡ size₂ → size₂ ≤ length movesOut
         → Writes (planned kind limit size size₂) (placed plan planOut) (placed moves movesOut)
     unfolding writtenAnswer
     writes-both size₂ f l =
-        (rw (le-ltb (length planOut) (length plan) (omega (arith, e)), le-ltb (length movesOut) (length moves) (omega (arith, f)), e, f), (refl, refl))
+        let fits = le-ltb (length movesOut) (length moves) (omega (arith, f)) in
+        (rw (le-ltb (length planOut) (length plan) (omega (arith, e)), fits, e, f), (refl, refl))
 
 -- ---- the sheet, then the old plan, then both buffers
 
@@ -119,7 +122,7 @@ module _ (s o p m : List ℕ) where
     pub ends-written : (tree : Bool) → readOld o n ≡ oldRead tree → (a : StepAnswer) (p₁ m₁ : List ℕ)
         → Writes (decisionIn s o .kind) (readSheet s .limit) (planIn s o) (movesIn s o) p m a p₁ m₁ → Ends a p₁ m₁
     ends-written tree e a p₁ m₁ w =
-        let q = w .0 ∙ step-decided s o (length p) (length m) n z is tree e in (
-          q,
-          (w .1 .0 ∙ ap (λ (x : StepAnswer). afterCall (x .refusal) (planIn s o) p) q, w .1 .1 ∙ ap (λ (x : StepAnswer). afterCall (x .refusal) (movesIn s o) m) q),
-        )
+        let q = w .0 ∙ step-decided s o (length p) (length m) n z is tree e in
+        let plan = ap (λ (x : StepAnswer). afterCall (x .refusal) (planIn s o) p) q in
+        let moves = ap (λ (x : StepAnswer). afterCall (x .refusal) (movesIn s o) m) q in
+        (q, (w .1 .0 ∙ plan, w .1 .1 ∙ moves))

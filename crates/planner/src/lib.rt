@@ -15,7 +15,8 @@ ghost use Rattle.limit.specs.Limit.{maxNodes, tableSize};
 ghost use Rattle.words.specs.Buffer.{placed, afterCall};
 ghost use Rattle.sheet.specs.Sheet.{answerOf as sheetAnswer};
 ghost use Rattle.moves.specs.Write.{movesBytes};
-ghost use Rattle.planner.specs.Step.{refused, numberOf, answerOf, oldOf, readOld, oldHelpands, planRecord, writtenAnswer, stepAnswer, planAfter, movesAfter};
+ghost use Rattle.planner.specs.Step.{refused, numberOf, answerOf, oldOf, readOld, oldHelpands};
+ghost use Rattle.planner.specs.Step.{planRecord, writtenAnswer, stepAnswer, planAfter, movesAfter};
 ghost use Rattle.planner.specs.Inner.{StepRead};
 
 // Why planning is refused, in the order of the checks.
@@ -222,7 +223,7 @@ pub fn plan_step(sheet: &[u8], old: &[u8], plan: &mut [u8], moves: &mut [u8]) ->
 }
 
 // Document 01's number of a refusal.
-pub fn number(r: StepRefusal) -> u32
+fn number(r: StepRefusal) -> u32
     ensures { λ k. ⌜ k ≡ numberOf r ⌝ }
 {
     match r {

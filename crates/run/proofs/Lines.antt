@@ -5,7 +5,7 @@ use mathlib.Core.List.{List, _++_}
 use Prim.Native.Nat.{ℕ, _+_, _-_, _≤_}
 use native.Mathlib.Nat.{mul-le-mul}
 use native.Mathlib.Omega.{arith}
-use lib.ListN.{length, getD, drop, List·getD-append}
+use lib.ListN.{length, drop, List·getD-append}
 use Rattle.fold.specs.Collect.{collect}
 use Rattle.fold.proofs.Lists.{collect-eq}
 use Rattle.words.specs.Words.{words, part}
@@ -48,7 +48,7 @@ module _ (s p m : List ℕ) (g : Printable s p m) where
       (counts-is : counts ≡ placed (part (2 + e) e (words m)) b) where
     moves-same : movesText e routes counts ≡ movesText e (routesOf m e) (countsOf m e)
     moves-same =
-        collect-eq e (λ i. moveLine (getD routes i 0) (getD counts i 0)) (λ i. moveLine (getD (routesOf m e) i 0) (getD (countsOf m e) i 0)) λ i l.
+        collect-eq e (λ i. moveLine (at routes i) (at counts i)) (λ i. moveLine (at (routesOf m e) i) (at (countsOf m e) i)) λ i l.
         let k = moves-accepted m (g .moves) in
         let x : length (routesOf m e) ≡ e = rw e-is (routes-are m (readMoves m) k) in
         let y : length (countsOf m e) ≡ e = rw e-is (counts-are m (readMoves m) k) in
@@ -68,7 +68,8 @@ module _ (s p m : List ℕ) (g : Printable s p m) where
     own-same = own-is ∙ ap (λ (h : ℕ → ℕ). ownBy s n h (at shares)) helpands-at ∙ ap (ownBy s n (at (helpandsOf p n))) shares-at
 
     -- THEOREM. The text of the arrays is that of the records.
-    pub text-same : kind ≡ readPlan p .kind → limit ≡ readPlan p .limit → stepText kind limit n helpands shares own e routes counts ≡ recordsText s p m
+    pub text-same : kind ≡ readPlan p .kind → limit ≡ readPlan p .limit
+        → stepText kind limit n helpands shares own e routes counts ≡ recordsText s p m
     unfolding stepText recordsText
     text-same kind-is limit-is =
         ap (λ (h : ℕ → ℕ). byIndex kind limit n h (at shares) own (movesText e routes counts)) helpands-at

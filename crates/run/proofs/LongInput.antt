@@ -8,10 +8,9 @@ use Prim.Native.Nat.{ℕ, _+_, _*_, _≤_, _<_}
 use native.Mathlib.Decide.{ℕ-discrete, decLt}
 use native.Mathlib.Nat.{mul-le-mul}
 use native.Mathlib.Omega.{arith}
-use lib.ListN.{length, getD, take, drop, length-append, length-drop, take-append-drop}
+use lib.ListN.{length, take, drop, length-append, length-drop, take-append-drop}
 use lib.Seq.{take-all, take-length, length-take-le, take-append-le, drop-append-le}
 use Rattle.limit.specs.Limit.{maxNodes}
-use Rattle.words.specs.Words.{words}
 use Rattle.sheet.specs.declared.SheetAnswer.{SheetAnswer}
 use Rattle.sheet.specs.Sheet.{HeaderAnswer, readHeader, readSheet, refused}
 use Rattle.sheet.specs.Write.{longestSheet}
@@ -44,7 +43,8 @@ module _ (s o r : List ℕ) (l : planLength maxNodes < length o) where
       let k = readPlan o .refusal in
       let some = longer-refused o l in
       let old = old-refused p (readSheet s .n) full k (sym e) some in
-      text-refused s p k (ap (λ (a : StepAnswer). a .refusal) (step-old s p planSize movesSize (readSheet s .n) (sym z) refl k old some)) some
+      let step = step-old s p planSize movesSize (readSheet s .n) (sym z) refl k old some in
+      text-refused s p k (ap (λ (a : StepAnswer). a .refusal) step) some
 
   same-text : textIn s (o ++ r) ≡ textIn s o
   same-text =
@@ -70,7 +70,7 @@ module _ (f r : List ℕ) (size : length f ≡ frontSize) where
           → textIn (take (splitAt s) s) (drop (splitAt s) s) ≡ refusedText (readHeader f .refusal)
       whole s e =
           let some : readHeader s .refusal ≢ 0 = rw e d in
-          let read : readSheet s ≡ refused (readHeader f .refusal) = header-refuses s some ∙ ap (λ (h : HeaderAnswer). refused (h .refusal)) e in
+          let read = header-refuses s some ∙ ap (λ (h : HeaderAnswer). refused (h .refusal)) e in
           rw (split-whole s some, take-length s)
           (sheet-text s (drop (length s) s) (rw read d) ∙ ap (λ (a : SheetAnswer). refusedText (a .refusal)) read)
 

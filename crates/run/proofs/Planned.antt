@@ -22,14 +22,9 @@ use Rattle.moves.specs.Moves.{readMoves}
 use Rattle.tree.specs.Family.{helps, overHelpers}
 use Rattle.transfer.specs.Due.{Allotted}
 use Rattle.planner.specs.declared.StepAnswer.{StepAnswer}
-use Rattle.planner.specs.declared.PlannedStep.{PlannedStep}
-use Rattle.planner.specs.declared.StepRefusal.{StepRefusal}
-use Rattle.planner.specs.declared.Step as step
-use Rattle.planner.specs.declared.Step.the-variants as step-way
-use Rattle.planner.specs.Step.{refused, numberOf, answerOf, decisionIn, planIn, movesIn, stepAnswer, planAfter, movesAfter}
+use Rattle.planner.specs.Step.{planned, decisionIn, planIn, movesIn, stepAnswer, planAfter, movesAfter}
 use Rattle.planner.proofs.Records.{allotted}
-use Rattle.planner.proofs.ReadBack.{Plannable, head, tree, was-read, records-back, step-done, done-step}
-use Rattle.planner.proofs.Ways.{number-more}
+use Rattle.planner.proofs.ReadBack.{Plannable, was-read, records-back, step-done, done-step}
 use Rattle.text.specs.Text.{refusedText}
 use Rattle.text.proofs.Lengths.{refused-le, step-fits}
 use Rattle.run.specs.Run.{recordsText, answerIn, textIn, planSize, movesSize, textSize}
@@ -50,7 +45,8 @@ module _ (s o : List ℕ) where
 
 -- ---- the front of helpands and shares is enough
 
-allotted-front : (n : ℕ) (h share : List ℕ) (total : ℕ → ℕ) → Allotted n (at h) total (at share) → Allotted n (at (take n h)) total (at (take n share))
+allotted-front : (n : ℕ) (h share : List ℕ) (total : ℕ → ℕ) → Allotted n (at h) total (at share)
+    → Allotted n (at (take n h)) total (at (take n share))
 allotted-front n h share total a =
     record { inside = λ k l. omega (arith, getD-take n h k 0 l, a .inside k l); enough = λ m l. omega (arith, same m, a .enough m l) }
   where
@@ -63,7 +59,7 @@ allotted-front n h share total a =
 -- THEOREM. What is planned can be printed.
 pub printable : (s o : List ℕ) → Plannable s o → Printable s (planIn s o) (movesIn s o)
 printable s o d =
-    let back = records-back s o d in
+    let back = records-back d in
     let nodes = ap (λ (a : PlanAnswer). a .n) (back .plan-read) in
     let h = decisionIn s o .helpands in
     let share = decisionIn s o .shares in
@@ -74,7 +70,7 @@ printable s o d =
       nodes = nodes;
       allotted =
           rw (nodes, back .helpands, back .shares)
-          (allotted-front (readSheet s .n) h share (at (totalsIn s)) (allotted s o (head s o d) (tree s o d) (was-read s o d)));
+          (allotted-front (readSheet s .n) h share (at (totalsIn s)) (allotted (was-read d)));
     }
 
 -- ---- the length of the text
@@ -82,7 +78,8 @@ printable s o d =
 records-fit : (s p m : List ℕ) → Printable s p m → length (recordsText s p m) ≤ textSize
 unfolding recordsText
 records-fit s p m g =
-    step-fits (readPlan p .kind) (readPlan p .limit) (readPlan p .n) _ _ _ (readMoves m .e) _ _ (plan-accepted p (g .plan) .n-high) (moves-few s p m g)
+    step-fits (readPlan p .kind) (readPlan p .limit) (readPlan p .n) _ _ _ (readMoves m .e) _ _ (plan-accepted p (g .plan) .n-high)
+    (moves-few s p m g)
 
 -- THEOREM. No step prints more than 262,208 bytes.
 pub text-fits : (s o : List ℕ) → length (textIn s o) ≤ textSize
@@ -92,43 +89,40 @@ text-fits s o =
       | no d ↦ rw (text-refused s o (answerIn s o .refusal) refl d) (omega (arith, refused-le (answerIn s o .refusal)))
     ]
 
--- ---- both records of a step, at the front of their buffers
-
-pub record Fronts (s o : List ℕ) (x : PlannedStep) (plan moves : List ℕ) : Type 0 where
-  pub answer : answerIn s o .refusal ≡ 0
-  pub plan-front : Front (planIn s o) plan (x .plan)
-  pub moves-front : Front (movesIn s o) moves (x .moves)
-
-module _ (s o : List ℕ) (x : PlannedStep) (plan moves : List ℕ) (f : Fronts s o x plan moves) where
-  pub fronts-printable : Printable s (take (x .plan) plan) (take (x .moves) moves)
-  fronts-printable = rw (f .plan-front .front, f .moves-front .front) (printable s o (step-done s o planSize movesSize (f .answer) .0))
-
-  pub fronts-text : recordsText s (take (x .plan) plan) (take (x .moves) moves) ≡ textIn s o
-  fronts-text = rw (f .plan-front .front, f .moves-front .front) (sym (text-planned s o (f .answer)))
-
 -- ---- the answer and the two buffers, as the code has them
 
-module _ (s o p m : List ℕ) (plan-long : length p ≡ planSize) (moves-long : length m ≡ movesSize) (r : step.Step)
-    (a : answerOf r ≡ stepAnswer s o (length p) (length m)) where
-  sizes : stepAnswer s o (length p) (length m) ≡ answerIn s o
-  sizes = ap (λ (k : ℕ). stepAnswer s o k (length m)) plan-long ∙ ap (stepAnswer s o planSize) moves-long
+pub record Answered (s o : List ℕ) (a : StepAnswer) (p m plan moves : List ℕ) : Type 0 where
+  pub plan-long : length p ≡ planSize
+  pub moves-long : length m ≡ movesSize
+  pub answer : a ≡ stepAnswer s o (length p) (length m)
+  pub plan-after : plan ≡ planAfter s o p (length m)
+  pub moves-after : moves ≡ movesAfter s o m (length p)
+
+module _ {s o : List ℕ} {a : StepAnswer} {p m plan moves : List ℕ} (w : Answered s o a p m plan moves) where
+  answer-is : a ≡ answerIn s o
+  answer-is = w .answer ∙ ap (λ (k : ℕ). stepAnswer s o k (length m)) (w .plan-long) ∙ ap (stepAnswer s o planSize) (w .moves-long)
 
   -- a refusal's text has its number
-  pub number-text : (x : StepRefusal) (k : ℕ) → r ≡ step-way.Refused x → k ≡ numberOf x → refusedText k ≡ textIn s o
-  number-text x k e f =
-      let b : refused (numberOf x) ≡ answerIn s o = ap answerOf (sym e) ∙ a ∙ sizes in
-      ap refusedText f ∙ sym (text-refused s o (numberOf x) (ap (λ (w : StepAnswer). w .refusal) b) (number-more x))
+  pub number-text : a .refusal ≢ 0 → refusedText (a .refusal) ≡ textIn s o
+  number-text d = sym (text-refused s o (a .refusal) (ap (λ (x : StepAnswer). x .refusal) answer-is) d)
 
   -- a planned step's records stand at the front of the buffers
-  pub fronts : (x : PlannedStep) (p₁ m₁ : List ℕ) → r ≡ step-way.Planned x → p₁ ≡ planAfter s o p (length m) → m₁ ≡ movesAfter s o m (length p)
-      → Fronts s o x p₁ m₁
-  fronts x p₁ m₁ e f g =
-      let b : answerOf (step-way.Planned x) ≡ stepAnswer s o (length p) (length m) = ap answerOf (sym e) ∙ a in
-      let z : answerIn s o .refusal ≡ 0 = ap (λ (w : StepAnswer). w .refusal) (sym (b ∙ sizes)) in
-      let d = step-done s o planSize movesSize z in
-      let q = b ∙ sizes ∙ done-step s o planSize movesSize (d .0) (d .1) (d .2) in
-      record {
-        answer = z;
-        plan-front = front-of (planIn s o) p p₁ (x .plan) (ap (λ (w : StepAnswer). w .plan) q) (f ∙ rw (← b));
-        moves-front = front-of (movesIn s o) m m₁ (x .moves) (ap (λ (w : StepAnswer). w .moves) q) (g ∙ rw (← b));
-      }
+  module _ (z : a .refusal ≡ 0) where
+    planned-here : answerIn s o .refusal ≡ 0
+    planned-here = ap (λ (x : StepAnswer). x .refusal) (sym answer-is) ∙ z
+
+    sizes : a ≡ planned (decisionIn s o .kind) (readSheet s .limit) (length (planIn s o)) (length (movesIn s o))
+    sizes = let d = step-done s o planSize movesSize planned-here in answer-is ∙ done-step s o planSize movesSize (d .0) (d .1) (d .2)
+
+    pub plan-front : Front (planIn s o) plan (a .plan)
+    plan-front = front-of (planIn s o) p plan (a .plan) (ap (λ (x : StepAnswer). x .plan) sizes) (w .plan-after ∙ rw (← w .answer, z))
+
+    pub moves-front : Front (movesIn s o) moves (a .moves)
+    moves-front = front-of (movesIn s o) m moves (a .moves) (ap (λ (x : StepAnswer). x .moves) sizes) (w .moves-after ∙ rw (← w .answer, z))
+
+    pub fronts-printable : Printable s (take (a .plan) plan) (take (a .moves) moves)
+    fronts-printable =
+        rw (plan-front .front, moves-front .front) (printable s o (step-done s o planSize movesSize planned-here .0))
+
+    pub fronts-text : recordsText s (take (a .plan) plan) (take (a .moves) moves) ≡ textIn s o
+    fronts-text = rw (plan-front .front, moves-front .front) (sym (text-planned s o planned-here))

@@ -1,5 +1,6 @@
 -- Document 01, 'The bench program': sheet D prints the six lines that it shows. Both sides compute to the same bytes. Assumes nothing.
 use mathlib.Core.Path.{_≡_, refl}
+use mathlib.Core.List.{_++_}
 use Rattle.fold.specs.Sum.{sum}
 use Rattle.fold.specs.All.{all, every}
 use Rattle.fold.specs.Best.{best}
@@ -29,9 +30,10 @@ use Rattle.run.specs.Run.{recordsText, textIn, runText}
 
 -- THEOREM. "Sheet D below prints all of this".
 pub step-d-printed : runText (encode (step-D .sheet))
-    ≡ ascii "kind 2 limit 36\nnode 0 helps 0 share 0 own 34\nnode 1 helps 0 share 27 own 6\nnode 2 helps 0 share 29 own 4\nmove 0 from 0 to 1 count 27\nmove 0 from 0 to 2 count 29\n"
-unfolding words encode rising runningSum limitOf readHeader readSheet splitAt readOld readPlan headAnswer arraysAnswer readMoves all every sum
-    reaches tableOf countsFrom countAt tabulate collect decided leastWithin rebuiltOf startOf runOf turnOf finishOf targetOf best
+    ≡ ascii "kind 2 limit 36\nnode 0 helps 0 share 0 own 34\nnode 1 helps 0 share 27 own 6\nnode 2 helps 0 share 29 own 4\n"
+    ++ ascii "move 0 from 0 to 1 count 27\nmove 0 from 0 to 2 count 29\n"
+unfolding words encode rising runningSum limitOf readHeader readSheet splitAt readOld readPlan headAnswer arraysAnswer readMoves all every
+    sum reaches tableOf countsFrom countAt tabulate collect decided leastWithin rebuiltOf startOf runOf turnOf finishOf targetOf best
     decisionIn planIn planBytes movesIn movesBytes dueWith matched writtenAnswer stepAnswer digits field headLine
     nodeLine moveLine stepText recordsText textIn runText
 step-d-printed = refl

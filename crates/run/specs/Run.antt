@@ -5,7 +5,6 @@ use Prim.Native.Nat.{ℕ, _+_}
 use lib.Dec.{eqb}
 use lib.ListN.{take, drop}
 use Rattle.limit.specs.Limit.{maxNodes}
-use Rattle.sheet.specs.Sheet.{readSheet}
 use Rattle.sheet.specs.Write.{longestSheet}
 use Rattle.plan.specs.Write.{planLength}
 use Rattle.moves.specs.Write.{longestMoves}

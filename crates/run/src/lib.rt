@@ -1,7 +1,6 @@
 // One run of the bench program, document 01, 'The bench program': from the bytes of its input to the text that it prints. Reading and
 // writing are the program's own.
 use limit::TABLE_SIZE;
-use planner::Step;
 ghost use mathlib.Core.Path.{_≡_};
 ghost use Prim.Native.Nat.{_≤_};
 ghost use lib.ListN.{length};
@@ -84,14 +83,13 @@ fn step(sheet: &[u8], old: &[u8], out: &mut [u8]) -> usize
 {
     let mut plan = [0u8; PLAN_SIZE];
     let mut moves = [0u8; MOVES_SIZE];
-    match planner::plan_step(sheet, old, &mut plan, &mut moves) {
-        Step::Refused(r) => text::write_refused(out, planner::number(r)),
-        Step::Planned(p) => {
-            let a = p.plan as usize;
-            let b = p.moves as usize;
-            write_records(sheet, &plan[..a], &moves[..b], out)
-        }
+    let answer = planner::answer(planner::plan_step(sheet, old, &mut plan, &mut moves));
+    if answer.refusal != 0 {
+        return text::write_refused(out, answer.refusal);
     }
+    let a = answer.plan as usize;
+    let b = answer.moves as usize;
+    write_records(sheet, &plan[..a], &moves[..b], out)
 }
 
 // Writes what the bench program prints for this input to the front of out, and gives its length.

@@ -21,7 +21,8 @@ use Rattle.weigh.specs.Weigh.{answerOf}
 -- the refusal of a number
 abbrev refusalOf : ℕ → WeighRefusal
 refusalOf k =
-    cond (leb k 7) (Sheet (sheetRefusal k)) (cond (leb k 18) (Plan (planRefusal k)) (cond (eqb k 21) NodesDiffer (cond (eqb k 24) Primary Buffer)))
+    cond (leb k 7) (Sheet (sheetRefusal k))
+    (cond (leb k 18) (Plan (planRefusal k)) (cond (eqb k 21) NodesDiffer (cond (eqb k 24) Primary Buffer)))
 
 -- the weighing of an answer
 abbrev weighingOf : WeighAnswer → Weighing
@@ -32,7 +33,8 @@ back (Weighed true) = refl
 back (Weighed false) = refl
 back (Refused (Sheet r)) =
     let n = sheet-numbered r in
-    rw (ne-eqb (sheetNumber r) 0 (λ z. omega (arith, n .0)), le-leb (sheetNumber r) 7 (n .1)) (ap (λ (x : SheetRefusal). Refused (Sheet x)) (n .2))
+    rw (ne-eqb (sheetNumber r) 0 (λ z. omega (arith, n .0)), le-leb (sheetNumber r) 7 (n .1))
+    (ap (λ (x : SheetRefusal). Refused (Sheet x)) (n .2))
 back (Refused (Plan r)) =
     let n = plan-numbered r in
     rw (ne-eqb (planNumber r) 0 (λ z. omega (arith, n .0)), lt-leb (planNumber r) 7 (omega (arith, n .0)), le-leb (planNumber r) 18 (n .1))

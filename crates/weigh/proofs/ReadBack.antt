@@ -10,7 +10,7 @@ use lib.Seq.{getD-take}
 use Rattle.fold.specs.Collect.{collect}
 use Rattle.fold.proofs.Tests.{handed}
 use Rattle.limit.specs.Limit.{maxTotal}
-use Rattle.words.specs.Words.{words, encode}
+use Rattle.words.specs.Words.{encode}
 use Rattle.words.proofs.Words.{Below, length-encode, word-front, words-encode}
 use Rattle.arrays.specs.Arrays.{at, tabulate}
 use Rattle.arrays.proofs.Tabulate.{length-row, tabulate-at, take-tabulate}

@@ -71,52 +71,54 @@ module _ (s p out : List ℕ) where
   unfolding weighAnswer
   ends-plan z k e d = refuses k d (rw (← z, ← e, ne-eqb k 0 d))
 
-  module _ (h : Sheet) (q : Plan) (r : WeighRead s p h q) where
-    pub ends-differ : h .n ≢ q .n → Ends (refused 21) out
+-- the sheet and the plan were read
+module _ {s p : List ℕ} {h : Sheet} {q : Plan} (r : WeighRead s p h q) (out : List ℕ) where
+  pub ends-differ : h .n ≢ q .n → Ends s p out (refused 21) out
+  unfolding weighAnswer
+  ends-differ d = refuses s p out 21 (λ z. omega arith) (rw (← r .sheet, ← r .plan, ne-eqb (h .n) (q .n) d))
+
+  module _ (same : h .n ≡ q .n) where
+    pub ends-primary : q .kind ≡ 0 → Ends s p out (refused 24) out
     unfolding weighAnswer
-    ends-differ d = refuses 21 (λ z. omega arith) (rw (← r .sheet, ← r .plan, ne-eqb (h .n) (q .n) d))
+    ends-primary z = refuses s p out 24 (λ z. omega arith) (rw (← r .sheet, ← r .plan, eq-eqb (h .n) (q .n) same, eq-eqb (q .kind) 0 z))
 
-    module _ (same : h .n ≡ q .n) where
-      pub ends-primary : q .kind ≡ 0 → Ends (refused 24) out
+    module _ (tree : q .kind ≢ 0) where
+      pub ends-short : length out < 4 * h .n → Ends s p out (refused 25) out
       unfolding weighAnswer
-      ends-primary z = refuses 24 (λ z. omega arith) (rw (← r .sheet, ← r .plan, eq-eqb (h .n) (q .n) same, eq-eqb (q .kind) 0 z))
+      ends-short l =
+          refuses s p out 25 (λ z. omega arith)
+          (rw (← r .sheet, ← r .plan, eq-eqb (h .n) (q .n) same, ne-eqb (q .kind) 0 tree, lt-ltb (length out) (4 * h .n) l))
 
-      module _ (tree : q .kind ≢ 0) where
-        pub ends-short : length out < 4 * h .n → Ends (refused 25) out
+      pub weighable : Weighable s p h
+      weighable =
+          record {
+            sheet = r .sheet;
+            plan = ap (λ (a : PlanAnswer). a .refusal) (sym (r .plan));
+            nodes = ap (λ (a : PlanAnswer). a .n) (sym (r .plan)) ∙ sym same;
+            kind = λ z. tree (ap (λ (a : PlanAnswer). a .kind) (r .plan) ∙ z);
+          }
+
+      -- the leasts were worked out, and there is room for them
+      module _ (long : 4 * h .n ≤ length out) {leasts : List ℕ} (l : leasts ≡ tabulate (h .n) (leastIn s p)) where
+        answered : weighed (holdsIn s p) ≡ weighAnswer s p (length out)
         unfolding weighAnswer
-        ends-short l =
-            refuses 25 (λ z. omega arith)
-            (rw (← r .sheet, ← r .plan, eq-eqb (h .n) (q .n) same, ne-eqb (q .kind) 0 tree, lt-ltb (length out) (4 * h .n) l))
+        answered =
+            rw (← r .sheet, ← r .plan, eq-eqb (h .n) (q .n) same, ne-eqb (q .kind) 0 tree, le-ltb (length out) (4 * h .n) long)
 
-        pub weighable : Weighable s p h
-        weighable =
-            record {
-              sheet = r .sheet;
-              plan = ap (λ (a : PlanAnswer). a .refusal) (sym (r .plan));
-              nodes = ap (λ (a : PlanAnswer). a .n) (sym (r .plan)) ∙ sym same;
-              kind = λ z. tree (ap (λ (a : PlanAnswer). a .kind) (r .plan) ∙ z);
-            }
+        holding : all (h .n) (λ k. leb (at leasts k) (h .limit)) ≡ holdsIn s p
+        holding =
+            rw (l, ← r .sheet)
+            (holds-tabulated (h .n) (at (helpandsOf p (h .n))) (at (totalsOf (h .n) (tableOf s (h .e)))) (h .limit))
 
-        -- the leasts were worked out, and there is room for them
-        module _ (long : 4 * h .n ≤ length out) (leasts : List ℕ) (l : leasts ≡ tabulate (h .n) (leastIn s p)) where
-          answered : weighed (holdsIn s p) ≡ weighAnswer s p (length out)
-          unfolding weighAnswer
-          answered =
-              rw (← r .sheet, ← r .plan, eq-eqb (h .n) (q .n) same, ne-eqb (q .kind) 0 tree, le-ltb (length out) (4 * h .n) long)
+        placing : sets out 0 (encode (take (h .n) leasts)) ≡ placed (leastBytes s p) out
+        unfolding leastBytes
+        placing =
+            let n : h .n ≡ readSheet s .n = ap (λ (a : SheetAnswer). a .n) (r .sheet) in
+            let size = length-encode (collect (readSheet s .n) (λ k. leastIn s p k ∷ [])) in
+            let row = ap (take (h .n)) l ∙ take-tabulate (h .n) (leastIn s p) ∙ ap (λ (m : ℕ). collect m (λ k. leastIn s p k ∷ [])) n in
+            ap (λ (ws : List ℕ). sets out 0 (encode ws)) row
+            ∙ sets-placed (leastBytes s p) out (omega (arith, size, length-row (leastIn s p) (readSheet s .n)))
 
-          holding : all (h .n) (λ k. leb (at leasts k) (h .limit)) ≡ holdsIn s p
-          holding =
-              rw (l, ← r .sheet)
-              (holds-tabulated (h .n) (at (helpandsOf p (h .n))) (at (totalsOf (h .n) (tableOf s (h .e)))) (h .limit))
-
-          placing : sets out 0 (encode (take (h .n) leasts)) ≡ placed (leastBytes s p) out
-          unfolding leastBytes
-          placing =
-              let n : h .n ≡ readSheet s .n = ap (λ (a : SheetAnswer). a .n) (r .sheet) in
-              let size = length-encode (collect (readSheet s .n) (λ k. leastIn s p k ∷ [])) in
-              let row = ap (take (h .n)) l ∙ take-tabulate (h .n) (leastIn s p) ∙ ap (λ (m : ℕ). collect m (λ k. leastIn s p k ∷ [])) n in
-              ap (λ (ws : List ℕ). sets out 0 (encode ws)) row
-              ∙ sets-placed (leastBytes s p) out (omega (arith, size, length-row (leastIn s p) (readSheet s .n)))
-
-          pub ends-weighed : Ends (weighed (all (h .n) (λ k. leb (at leasts k) (h .limit)))) (sets out 0 (encode (take (h .n) leasts)))
-          ends-weighed = (ap weighed holding ∙ answered, placing ∙ rw (← answered))
+        pub ends-weighed :
+            Ends s p out (weighed (all (h .n) (λ k. leb (at leasts k) (h .limit)))) (sets out 0 (encode (take (h .n) leasts)))
+        ends-weighed = (ap weighed holding ∙ answered, placing ∙ rw (← answered))

@@ -42,12 +42,12 @@ module _ (c : tie.After-struct-known2) where
   given = start .args .m
 
   facts : Accepted sheet (accepted (head .n) (head .t) (head .e) (head .p) (head .limit))
-  facts = sheet-facts sheet moves head given (start .pre)
+  facts = sheet-facts (start .pre)
 
 returns : tie.Need-returns
 returns c =
     let b = c .before in
-    ends-differ (sheet b) (moves b) (next b) (head b) (given b) (start b .pre) (c .if1 .taken)
+    ends-differ (start b .pre) _ (c .if1 .taken)
 
 -- past 41: the table of the sheet, and the test of the moves against it
 module _ (c : tie.After-unpack) where
@@ -61,10 +61,10 @@ module _ (c : tie.After-unpack) where
   e = given begun .e
 
   ready-here : Ready (c .unpack .result) (moves begun) e
-  ready-here = ready (sheet begun) (moves begun) (head begun) (given begun) (start begun .pre) (c .unpack .result) (c .unpack .ensures)
+  ready-here = ready (start begun .pre) (c .unpack .ensures)
 
   within-here : sendsWithin (c .unpack .result) (routesOf (moves begun) e) (countsOf (moves begun) e) ≡ withinIn (sheet begun) (moves begun)
-  within-here = within-is (sheet begun) (moves begun) (head begun) (given begun) (start begun .pre) (c .unpack .result) (c .unpack .ensures)
+  within-here = within-is (start begun .pre) (c .unpack .ensures)
 
 abbrev unpacked : tie.After-sends-within → tie.After-unpack
 unpacked c = c .before .before .before
@@ -74,7 +74,7 @@ returns-2 c =
     let w = c .before in
     let u = unpacked w in
     let b = begun u in
-    ends-sends (sheet b) (moves b) (next b) (head b) (given b) (start b .pre) (same u .if1 .left)
+    ends-sends (start b .pre) _ (same u .if1 .left)
     (sym (within-here u) ∙ sym (w .sends-within .ensures) ∙ not-true _ (c .if2 .taken))
 
 apply-moves-requires : tie.Need-apply-moves-requires
@@ -100,9 +100,7 @@ module _ (c : tie.After-apply-moves) where
   table = c .apply-moves .last .0
 
   table-is : table ≡ nextTable (sheet origin) (moves origin)
-  table-is =
-      c .apply-moves .ensures
-      ∙ carried-is (sheet origin) (moves origin) (head origin) (given origin) (start origin .pre) (read .unpack .result) (read .unpack .ensures)
+  table-is = c .apply-moves .ensures ∙ carried-is (start origin .pre) (read .unpack .ensures)
 
 -- and the table was written
 module _ (c : tie.After-write-sheet) where
@@ -124,8 +122,8 @@ returns-3 c =
     let w = answered (c .before .before .before) in
     let a = applied w in
     let b = b₀ w in
-    let x = ends-carried (sheet b) (moves b) (next b) (head b) (given b) (start b .pre) (same (read a) .if1 .left) (within a) (table a) (table-is a)
-    (size .0 .0) (sym (size .1) ∙ w .write-sheet .ensures .0) in
+    let x = ends-carried (start b .pre) (next b) (same (read a) .if1 .left) (within a) (table-is a) (size .0 .0)
+    (sym (size .1) ∙ w .write-sheet .ensures .0) in
     (x .0, w .write-sheet .ensures .1 ∙ x .1)
 
 returns-4 : tie.Need-returns-4
@@ -133,7 +131,7 @@ returns-4 c =
     let w = answered (c .before .before) in
     let a = applied w in
     let b = b₀ w in
-    let x = ends-short (sheet b) (moves b) (next b) (head b) (given b) (start b .pre) (same (read a) .if1 .left) (within a) (table a) (table-is a)
+    let x = ends-short (start b .pre) (next b) (same (read a) .if1 .left) (within a) (table-is a)
     (sym (c .enum-told .given .1) ∙ w .write-sheet .ensures .0) in
     (x .0, w .write-sheet .ensures .1 ∙ x .1)
 

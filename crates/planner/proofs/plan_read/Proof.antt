@@ -2,7 +2,6 @@
 -- Assumes nothing.
 use borrow.Author.Needs.{needs}
 use mathlib.Core.List.{List}
-use mathlib.Core.Bool.{Bool}
 use Prim.Native.Nat.{ℕ}
 use native.Mathlib.Omega.{arith}
 use denote.Ref.{now}
@@ -26,17 +25,11 @@ module _ (c : tie.After-struct-known2) where
   abbrev sheet : List ℕ
   sheet = now (start .args .sheet)
 
-  abbrev old : List ℕ
-  old = now (start .args .old)
-
   abbrev s : Sheet
   s = start .args .s
 
-  abbrev tree : Bool
-  tree = start .args .tree
-
   known : Accepted sheet (accepted (s .n) (s .t) (s .e) (s .p) (s .limit))
-  known = facts sheet old s tree (start .pre)
+  known = facts (start .pre)
 
 -- the totals were summed
 module _ (c : tie.After-totals) where
@@ -50,10 +43,10 @@ totals-requires : tie.Need-totals-requires
 totals-requires c κs =
     let u = c .before in
     let b = u .before in
-    (known b .n-high, rw (u .unpack .ensures) (sum-within (sheet b) (old b) (s b) (tree b) (start b .pre)))
+    (known b .n-high, rw (u .unpack .ensures) (sum-within (start b .pre)))
 
 old-helpands-requires : tie.Need-old-helpands-requires
-old-helpands-requires c κs = let b = b₀ c in (known b .n-high, old-size (sheet b) (old b) (s b) (tree b) (start b .pre))
+old-helpands-requires c κs = let b = b₀ c in (known b .n-high, old-size (start b .pre))
 
 decide-requires : tie.Need-decide-requires
 decide-requires c κs =
@@ -61,7 +54,7 @@ decide-requires c κs =
     let t = o .before in
     let u = unpacked t in
     let b = b₀ t in
-    let w = before-deciding (sheet b) (old b) (s b) (tree b) (start b .pre) (u .unpack .result) (t .totals .result) (o .old-helpands .result)
+    let w = before-deciding (start b .pre) (u .unpack .result) (t .totals .result) (o .old-helpands .result)
     (u .unpack .ensures) (t .totals .ensures) (o .old-helpands .ensures) in
     (known b .n-low, known b .n-high, t .totals .ensures, w .0, known b .sum .within, w .1, w .2)
 
@@ -79,7 +72,7 @@ module _ (c : tie.After-decide) where
   abbrev table : List ℕ
   table = unpacked summed .unpack .result
 
-  worked : Here (sheet begun) (old begun) (s begun) (tree begun) (start begun .pre) table (summed .totals .result) (read .old-helpands .result)
+  worked : Here (start begun .pre) table (summed .totals .result) (read .old-helpands .result)
       (c .decide .result)
   worked =
       record {
@@ -97,10 +90,10 @@ all-moves-requires : tie.Need-all-moves-requires
 all-moves-requires c κs =
     let d = decided c in
     let b = begun d in
-    let small = product-small (sheet b) (old b) (s b) (tree b) (start b .pre) in (
+    let small = product-small (start b .pre) in (
       known b .n-high,
       worked d .totals-is,
-      here-allotted (sheet b) (old b) (s b) (tree b) (start b .pre) _ _ _ _ (worked d),
+      here-allotted (start b .pre) (worked d),
       small,
       small,
     )
@@ -118,8 +111,8 @@ write-records-requires c κs =
     let d = decided (m .before) in
     let b = begun d in
     let e = m .all-moves .ensures in
-    let few = here-few (sheet b) (old b) (s b) (tree b) (start b .pre) _ _ _ _ (worked d) in
-    let long = here-long (sheet b) (old b) (s b) (tree b) (start b .pre) _ _ _ _ (worked d) _ _ _ _ _ (e .0) (e .1 .0) (e .1 .1) in
+    let few = here-few (start b .pre) (worked d) in
+    let long = here-long (start b .pre) (worked d) _ _ _ _ _ (e .0) (e .1 .0) (e .1 .1) in
     (known b .n-high, omega (arith, few, e .0), long .0, long .1)
 
 returns : tie.Need-returns
@@ -129,7 +122,7 @@ returns c =
     let d = decided (m .before) in
     let b = begun d in
     let e = m .all-moves .ensures in
-    here-ends (sheet b) (old b) (s b) (tree b) (start b .pre) _ _ _ _ (worked d) _ _ _ _ _ (e .0) (e .1 .0) (e .1 .1)
+    here-ends (start b .pre) (worked d) _ _ _ _ _ (e .0) (e .1 .0) (e .1 .1)
     (answerOf (w .write-records .result)) (now (start b .args .plan)) (now (start b .args .moves)) _ _ (w .write-records .ensures)
 
 pub plan-read-spec : {M : Type 1} → statement M

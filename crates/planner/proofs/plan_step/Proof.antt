@@ -11,10 +11,9 @@ use Rattle.sheet.specs.declared.SheetAnswer.{SheetAnswer}
 use Rattle.sheet.specs.declared.SheetReading.the-variants.{Accepted}
 use Rattle.sheet.specs.Sheet.{readSheet, answerOf as sheetAnswer}
 use Rattle.planner.specs.declared.OldPlan.{OldPlan}
-use Rattle.planner.specs.declared.OldPlan.the-variants.{Tree, NoTree}
-use Rattle.planner.specs.Step.{numberOf, oldOf, oldRead, readOld}
+use Rattle.planner.specs.Step.{numberOf, oldOf, oldRead}
 use Rattle.planner.specs.Inner.{StepRead}
-use Rattle.planner.proofs.Ways.{Ends, ends-sheet, ends-old, number-more, refusal-more}
+use Rattle.planner.proofs.Ways.{ends-sheet, ends-old, number-more, refusal-more}
 use Rattle.planner.proofs.plan_step.Statement.{statement}
 use Rattle.planner.proofs.plan_step.Tie as tie
 
@@ -29,12 +28,6 @@ module _ (c : tie.After-read-sheet) where
   abbrev old : List ℕ
   old = now (start .args .old)
 
-  abbrev plan : List ℕ
-  plan = now (start .args .plan)
-
-  abbrev moves : List ℕ
-  moves = now (start .args .moves)
-
 -- it was refused: its number is not 0
 not-zero : (c : tie.After-enum-told) → sheetAnswer (c .before .before .read-sheet .result) .refusal ≢ 0
 not-zero c = refusal-more _ _ (c .enum-told .given .1)
@@ -44,7 +37,7 @@ returns c =
     let f = c .before .before .before in
     let k = sheetAnswer (f .read-sheet .result) .refusal in
     let e = ap (λ (x : SheetAnswer). x .refusal) (f .read-sheet .ensures) in
-    let ends = ends-sheet (sheet f) (old f) (plan f) (moves f) k e (not-zero (c .before)) in
+    let ends = ends-sheet _ _ _ _ k e (not-zero (c .before)) in
     (c .not-read .ensures ∙ ends .0, ends .1)
 
 -- it was accepted, and the old plan read
@@ -70,8 +63,9 @@ returns-2 c =
     let r = c .before .r .given in
     let o = c .before .before .before in
     let f = first o in
-    ends-old (sheet f) (old f) (plan f) (moves f) (head o .n) (ap (λ (x : SheetAnswer). x .refusal) (sheet-read o))
-    (ap (λ (x : SheetAnswer). x .n) (sheet-read o)) (numberOf (r .0 .0)) (ap oldOf (sym (r .1)) ∙ o .read-old .ensures) (number-more (r .0 .0))
+    let refused = ap oldOf (sym (r .1)) ∙ o .read-old .ensures in
+    ends-old _ _ _ _ (head o .n) (ap (λ (x : SheetAnswer). x .refusal) (sheet-read o))
+    (ap (λ (x : SheetAnswer). x .n) (sheet-read o)) (numberOf (r .0 .0)) refused (number-more (r .0 .0))
 
 pub plan-step-spec : {M : Type 1} → statement M
 plan-step-spec =
@@ -85,9 +79,9 @@ plan-step-spec =
     (λ c κs. search needs)  -- read-old-requires
     (λ c. search needs)  -- enum-known-r
     (λ c. search needs)  -- enum-told-2
-    (λ c κs. let t = c .before .before in both-read (t .before .before) Tree true (t .enum-told2 .given .1) refl)  -- plan-read-requires
+    (λ c κs. let t = c .before .before in both-read (t .before .before) _ true (t .enum-told2 .given .1) refl)  -- plan-read-requires
     (λ c. search needs)  -- enum-told-3
-    (λ c κs. let t = c .before .before in both-read (t .before .before) NoTree false (t .enum-told3 .given .1) refl)  -- plan-read-requires-2
+    (λ c κs. let t = c .before .before in both-read (t .before .before) _ false (t .enum-told3 .given .1) refl)  -- plan-read-requires-2
     returns-2
     (λ c. search needs)  -- same-length
     (λ c. search needs)  -- same-length-2

@@ -46,13 +46,13 @@ returns-4 : tie.Need-returns-4
 returns-4 c =
     let e = c .before .before in
     let p = e .before .before .before in
-    old-primary (now (start p .args .old)) (start p .args .n) (full p .if1 .left) (p .p .given .0 .0) (plan-read p) (e .if2 .left) (c .if3 .taken)
+    old-primary (now (start p .args .old)) (start p .args .n) (full p .if1 .left) _ (plan-read p) (e .if2 .left) (c .if3 .taken)
 
 returns-5 : tie.Need-returns-5
 returns-5 c =
     let e = c .before .before in
     let p = e .before .before .before in
-    old-tree (now (start p .args .old)) (start p .args .n) (full p .if1 .left) (p .p .given .0 .0) (plan-read p) (e .if2 .left) (c .if3 .left)
+    old-tree (now (start p .args .old)) (start p .args .n) (full p .if1 .left) _ (plan-read p) (e .if2 .left) (c .if3 .left)
 
 pub read-old-spec : {M : Type 1} → statement M
 read-old-spec =

@@ -64,7 +64,8 @@ returns c =
     let t = c .before in
     let b = t .before .before .before .before .before in
     let a = b .args in
-    c .own-amounts .ensures ∙ ap (λ (xs : List ℕ). tabulate (a .nodes) (ownOf (a .nodes) (at (a .helpands)) (at xs) (at (a .shares)))) (totals-is t)
+    let n = a .nodes in
+    c .own-amounts .ensures ∙ ap (λ (xs : List ℕ). tabulate n (ownOf n (at (a .helpands)) (at xs) (at (a .shares)))) (totals-is t)
 
 pub own-of-spec : {M : Type 1} → statement M
 own-of-spec =

@@ -17,7 +17,9 @@ use Rattle.run.proofs.run.Tie as tie
 -- the parts before and behind the split
 parts-text : (s : List ℕ) (k : ℕ) → k ≡ splitAt s → textIn (take k s) (take (length s - k) (drop k s)) ≡ runText s
 unfolding runText
-parts-text s k e = ap (textIn (take k s)) (take-all (length s - k) (drop k s) (omega (arith, length-drop k s))) ∙ ap (λ (j : ℕ). textIn (take j s) (drop j s)) e
+parts-text s k e =
+    let behind = take-all (length s - k) (drop k s) (omega (arith, length-drop k s)) in
+    ap (textIn (take k s)) behind ∙ ap (λ (j : ℕ). textIn (take j s) (drop j s)) e
 
 -- the split lies within the input
 within : (c : tie.After-split) → c .split .result ≤ length (now (c .before .before .before .args .input))

@@ -1,81 +1,83 @@
 -- `run::step` meets its contract: a refusal is written as its number, and otherwise both buffers begin with the records of the step.
 -- Assumes nothing.
 use borrow.Author.Needs.{needs}
-use mathlib.Core.Path.{_≡_, sym, ap, _∙_}
+use mathlib.Core.Path.{sym, ap, _∙_}
 use mathlib.Core.List.{List}
-use Prim.Native.Nat.{ℕ}
+use Prim.Native.Nat.{ℕ, _≤_}
 use lib.ListN.{length, replicate, length-replicate}
 use lib.Seq.{length-take-le}
 use denote.Ref.{now}
 use Rattle.words.specs.Buffer.{placed}
 use Rattle.run.specs.Run.{planSize, movesSize}
-use Rattle.run.proofs.Planned.{Fronts, fronts, fronts-printable, fronts-text, number-text}
+use Rattle.run.proofs.Planned.{Answered, number-text, plan-front, moves-front, fronts-printable, fronts-text}
 use Rattle.run.proofs.step.Statement.{statement}
 use Rattle.run.proofs.step.Tie as tie
 
-module _ (b : tie.Start) where
-  abbrev sheet : List ℕ
-  sheet = now (b .args .sheet)
+-- the step was planned or refused
+module _ (c : tie.After-answer) where
+  abbrev step : tie.After-plan-step
+  step = c .before .before .before
 
-  abbrev old : List ℕ
-  old = now (b .args .old)
+  abbrev lent : tie.After-plan
+  lent = step .before .before
 
-abbrev planned-at : tie.After-plan-step → tie.Start
-planned-at w = w .before .before .before .before .before .before
-
--- the two buffers begin as zeros
-abbrev plan₀ : List ℕ
-plan₀ = replicate planSize 0
-
-abbrev moves₀ : List ℕ
-moves₀ = replicate movesSize 0
-
-plan-long : length plan₀ ≡ planSize
-plan-long = length-replicate {A = ℕ} planSize 0
-
-moves-long : length moves₀ ≡ movesSize
-moves-long = length-replicate {A = ℕ} movesSize 0
-
--- the step was planned
-module _ (c : tie.After-p) where
   abbrev start : tie.Start
-  start = planned-at (c .before .before .before .before)
+  start = lent .before .before .before .before
 
+  abbrev out : List ℕ
+  out = now (start .args .out)
+
+  -- the two buffers, which began as zeros
   abbrev plan : List ℕ
-  plan = c .before .before .before .before .plan-step .last .1 .1 .0
+  plan = step .plan-step .last .1 .1 .0
 
   abbrev moves : List ℕ
-  moves = c .before .before .before .before .plan-step .last .1 .1 .1 .0
+  moves = let behind = step .plan-step .last .1 .1 in behind .1 .0
 
-  written : Fronts (sheet start) (old start) (c .p .given .0 .0) plan moves
-  written =
-      let w = c .before .before .before .before in
-      let e = w .plan-step .ensures in
-      fronts (sheet start) (old start) plan₀ moves₀ plan-long moves-long (w .plan-step .result) (e .0) (c .p .given .0 .0) plan moves (c .p .given .1) (e .1 .0) (e .1 .1)
+  answered : Answered (now (start .args .sheet)) (now (start .args .old)) (c .answer .result) (replicate planSize 0) (replicate movesSize 0)
+      plan moves
+  answered =
+      let e = step .plan-step .ensures in
+      record {
+        plan-long = length-replicate {A = ℕ} planSize 0;
+        moves-long = length-replicate {A = ℕ} movesSize 0;
+        answer = c .answer .ensures ∙ e .0;
+        plan-after = e .1 .0;
+        moves-after = e .1 .1;
+      }
 
 returns : tie.Need-returns
 returns c =
-    let r = c .before .before in
-    let k = r .before .before .before .before in
-    let w = k .before .before .before .before in
-    let b = planned-at w in
-    let same =
-    number-text (sheet b) (old b) plan₀ moves₀ plan-long moves-long (w .plan-step .result) (w .plan-step .ensures .0) (k .r .given .0 .0) (r .before .number .result) (k .r .given .1)
-    (r .before .number .ensures) in
-    (r .write-refused .ensures .0 ∙ ap length same, r .write-refused .ensures .1 ∙ ap (λ (x : List ℕ). placed x (now (b .args .out))) same)
+    let w = c .before .before in
+    let t = w .before .before in
+    let a = t .before .before in
+    let same = number-text (answered a) (t .if1 .taken) in
+    (w .write-refused .ensures .0 ∙ ap length same, w .write-refused .ensures .1 ∙ ap (λ (x : List ℕ). placed x (out a)) same)
+
+-- it was planned
+abbrev planned : tie.Else1 → tie.After-answer
+planned c = c .before .before
+
+plan-within : (c : tie.Else1) → planned c .answer .result .plan ≤ length (plan (planned c))
+plan-within c = plan-front (answered (planned c)) (c .if1 .left) .within
+
+moves-within : (c : tie.Else1) → planned c .answer .result .moves ≤ length (moves (planned c))
+moves-within c = moves-front (answered (planned c)) (c .if1 .left) .within
+
+abbrev accepted : tie.After-moves3 → tie.Else1
+accepted c = c .before .before .before .before
 
 write-records-requires : tie.Need-write-records-requires
 write-records-requires c κs =
-    let p = c .before .before .before .before .before .before in
-    (fronts-printable (sheet (start p)) (old (start p)) (p .p .given .0 .0) (plan p) (moves p) (written p), start p .pre)
+    let e = accepted (c .before) in
+    (fronts-printable (answered (planned e)) (e .if1 .left), start (planned e) .pre)
 
 returns-2 : tie.Need-returns-2
 returns-2 c =
-    let r = c .before .before in
-    let p = r .before .before .before .before .before .before .before in
-    let b = start p in
-    let same = fronts-text (sheet b) (old b) (p .p .given .0 .0) (plan p) (moves p) (written p) in
-    (r .write-records .ensures .0 ∙ ap length same, r .write-records .ensures .1 ∙ ap (λ (x : List ℕ). placed x (now (b .args .out))) same)
+    let w = c .before .before in
+    let e = accepted (w .before .before) in
+    let same = fronts-text (answered (planned e)) (e .if1 .left) in
+    (w .write-records .ensures .0 ∙ ap length same, w .write-records .ensures .1 ∙ ap (λ (x : List ℕ). placed x (out (planned e))) same)
 
 pub step-spec : {M : Type 1} → statement M
 step-spec =
@@ -84,18 +86,16 @@ step-spec =
     (λ c. search needs)  -- slice-aggregate-plan-step
     (λ c. search needs)  -- slice-aggregate-plan-step-2
     (λ c κs. search needs)  -- plan-step-requires
-    (λ c. search needs)  -- enum-known-r
-    (λ c κs. search needs)  -- number-requires
+    (λ c κs. search needs)  -- answer-requires
     (λ c κs. search needs)  -- write-refused-requires
-    (λ c. search needs)  -- enum-known-p
-    (λ c. search needs)  -- cast-a
-    (λ c. search needs)  -- cast-b
-    (λ c. written (c .before .before .before) .plan-front .within)  -- array-share-prefix-plan
-    (λ c. sym (length-take-le _ _ (written (c .before .before .before .before) .plan-front .within)))  -- slice-aggregate-write-records
-    (λ c. written (c .before .before .before .before) .moves-front .within)  -- array-share-prefix-moves
-    (λ c. sym (length-take-le _ _ (written (c .before .before .before .before .before) .moves-front .within)))  -- slice-aggregate-write-records-2
-    write-records-requires
     (λ c. search needs)  -- same-length
     returns
+    (λ c. search needs)  -- cast-a
+    (λ c. search needs)  -- cast-b
+    (λ c. plan-within (c .before .before))  -- array-share-prefix-plan
+    (λ c. sym (length-take-le _ _ (plan-within (c .before .before .before))))  -- slice-aggregate-write-records
+    (λ c. moves-within (c .before .before .before))  -- array-share-prefix-moves
+    (λ c. sym (length-take-le _ _ (moves-within (accepted c))))  -- slice-aggregate-write-records-2
+    write-records-requires
     (λ c. search needs)  -- same-length-2
     returns-2)

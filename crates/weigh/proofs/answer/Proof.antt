@@ -14,6 +14,9 @@ one : (b : Bool) → boolByte b ≡ only b 1
 one true = refl
 one false = refl
 
+returns : tie.Need-returns
+returns c = let w = c .before .w .given in ap (λ (x : ℕ). record { refusal = 0; holds = x }) (one (w .0 .0)) ∙ sym (ap answerOf (w .1))
+
 pub answer-spec : {M : Type 1} → statement M
 answer-spec =
     tie.close
@@ -22,5 +25,5 @@ answer-spec =
     (λ c. search needs)  -- cast-t5
     (λ c. search needs)  -- enum-known-w-2
     (λ c κs. search needs)  -- number-requires
-    (λ c. ap (λ (x : ℕ). record { refusal = 0; holds = x }) (one (c .before .w .given .0 .0)) ∙ sym (ap answerOf (c .before .w .given .1)))  -- returns
+    returns
     (λ c. ap refused (c .number .ensures) ∙ sym (ap answerOf (c .before .before .w2 .given .1))))  -- returns-2

@@ -10,7 +10,6 @@ use denote.Ref.{now}
 use Rattle.limit.specs.Limit.{maxNodes}
 use Rattle.arrays.proofs.Tabulate.{length-tabulate}
 use Rattle.sheet.specs.declared.Sheet.{Sheet}
-use Rattle.plan.specs.declared.Plan.{Plan}
 use Rattle.weigh.specs.Weigh.{weighed, leastIn}
 use Rattle.weigh.specs.Inner.{Weighable}
 use Rattle.weigh.proofs.Weighed.{facts, ends-differ, ends-primary, ends-short, weighable, ends-weighed}
@@ -28,14 +27,8 @@ module _ (c : tie.After-struct-known2) where
   abbrev plan : List ℕ
   plan = now (start .args .plan)
 
-  abbrev least : List ℕ
-  least = now (start .args .least)
-
   abbrev head : Sheet
   head = start .args .s
-
-  abbrev other : Plan
-  other = start .args .p
 
 -- past 21, and past 24
 abbrev same-nodes : tie.Else2 → tie.Else1
@@ -44,20 +37,20 @@ same-nodes c = c .before .before
 returns : tie.Need-returns
 returns c =
     let b = c .before in
-    ends-differ (sheet b) (plan b) (least b) (head b) (other b) (start b .pre) (c .if1 .taken)
+    ends-differ (start b .pre) _ (c .if1 .taken)
 
 returns-2 : tie.Need-returns-2
 returns-2 c =
     let e = c .before .before in
     let b = e .before in
-    ends-primary (sheet b) (plan b) (least b) (head b) (other b) (start b .pre) (e .if1 .left) (c .if2 .taken)
+    ends-primary (start b .pre) _ (e .if1 .left) (c .if2 .taken)
 
 returns-3 : tie.Need-returns-3
 returns-3 c =
     let t = c .before .before in
     let e = same-nodes t in
     let b = e .before in
-    ends-short (sheet b) (plan b) (least b) (head b) (other b) (start b .pre) (e .if1 .left) (t .if2 .left) (c .if3 .taken)
+    ends-short (start b .pre) _ (e .if1 .left) (t .if2 .left) (c .if3 .taken)
 
 -- past all checks
 module _ (c : tie.Else3) where
@@ -69,7 +62,7 @@ module _ (c : tie.Else3) where
 
   can-weigh : Weighable (sheet begun) (plan begun) (head begun)
   can-weigh =
-      weighable (sheet begun) (plan begun) (least begun) (head begun) (other begun) (start begun .pre) (same-nodes tree .if1 .left) (tree .if2 .left)
+      weighable (start begun .pre) (now (start begun .args .least)) (same-nodes tree .if1 .left) (tree .if2 .left)
 
   few : head begun .n ≤ maxNodes
   few = facts (sheet begun) (plan begun) (head begun) can-weigh .n-high
@@ -80,15 +73,18 @@ long c =
     let b = begun (c .before) in
     ap length (c .leasts-of .ensures) ∙ length-tabulate (head b .n) (leastIn (sheet b) (plan b)) (few (c .before))
 
+abbrev written : tie.After-put-words → tie.After-leasts-of
+written c = c .before .before .before
+
 returns-4 : tie.Need-returns-4
 returns-4 c =
     let w = c .before .before .before in
-    let l = w .before .before .before in
+    let l = written w in
     let t = tree (l .before) in
     let e = same-nodes t in
     let b = e .before in
-    let x = ends-weighed (sheet b) (plan b) (least b) (head b) (other b) (start b .pre) (e .if1 .left) (t .if2 .left) (l .before .if3 .left)
-    (l .leasts-of .result) (l .leasts-of .ensures) in
+    let x = ends-weighed (start b .pre) _ (e .if1 .left) (t .if2 .left) (l .before .if3 .left)
+    (l .leasts-of .ensures) in
     (ap weighed (c .holds .ensures) ∙ x .0, w .put-words .ensures ∙ x .1)
 
 pub weigh-read-spec : {M : Type 1} → statement M
@@ -103,6 +99,6 @@ weigh-read-spec =
     (λ c κs. can-weigh c)  -- leasts-of-requires
     (λ c. search needs)  -- slice-aggregate-put-words
     (λ c κs. let l = c .before .before in omega (arith, long l, few (l .before), l .before .if3 .left))  -- put-words-requires
-    (λ c κs. few (c .before .before .before .before .before .before))  -- holds-requires
+    (λ c κs. few (written (c .before .before) .before))  -- holds-requires
     (λ c. search needs)  -- same-length
     returns-4)
