@@ -14,7 +14,8 @@ pub struct Answers {
     pub carry: CarryAnswer,
 }
 
-// Plans a step, and carries out the moves just written on the same sheet. A refused step hands on no moves, which are refused too.
+// Plans a step, and carries out the moves just written on the same sheet. A refused step gives length 0 for its moves: no bytes are
+// handed on, and carrying out is refused too.
 pub fn plan_and_carry_out(
     sheet: &[u8],
     old: &[u8],

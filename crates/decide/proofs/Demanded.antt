@@ -17,12 +17,12 @@ use Rattle.decide.specs.declared.Decision.{Decision}
 use Rattle.decide.specs.Decide.{decided}
 use Rattle.decide.proofs.Decided.{Given, KeptFine, RebuiltFine, decided-kept, decided-rebuilt}
 
--- a division within the limit along the old tree, "however it was found"
-abbrev pub Rival : ℕ → ℕ → List ℕ → List ℕ → Type 0
-Rival nodes limit totals old = (own : ℕ → ℕ) × (share : ℕ → ℕ) × WithinLimit nodes (at old) (at totals) limit own share
+-- some division within the limit along the old tree, "however it was found"
+abbrev pub SomeDivision : ℕ → ℕ → List ℕ → List ℕ → Type 0
+SomeDivision nodes limit totals old = (own : ℕ → ℕ) × (share : ℕ → ℕ) × WithinLimit nodes (at old) (at totals) limit own share
 
 pub record Demanded (nodes p limit : ℕ) (totals old : List ℕ) (d : Decision) : Type 0 where
-  pub kept : (d .kind ≡ 1) ↔ Rival nodes limit totals old
+  pub kept : (d .kind ≡ 1) ↔ SomeDivision nodes limit totals old
   pub otherwise : (d .kind ≡ 1) ⊎ (d .kind ≡ 2)
   -- "in kind 1, which has the old helpands, a rival's division"
   pub kept-division : d .kind ≡ 1 → KeptFine nodes limit totals old d
@@ -58,7 +58,7 @@ module _ (nodes p t : ℕ) (table totals : List ℕ) (tree : Bool) (old : List �
       holding : Bool
       holding = holds nodes (at old) (at totals) limit
 
-      rival : Rival nodes limit totals old ↔ (holding ≡ true)
+      rival : SomeDivision nodes limit totals old ↔ (holding ≡ true)
       rival = let r = g .rooted e in division-iff-holds nodes (at old) (at totals) limit (r .0) (r .1)
 
       kept : holding ≡ true → KeptFine nodes limit totals old d

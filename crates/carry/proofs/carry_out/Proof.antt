@@ -24,17 +24,11 @@ module _ (c : tie.After-read-sheet) where
   abbrev sheet : List ℕ
   sheet = now (start .args .sheet)
 
-  abbrev moves : List ℕ
-  moves = now (start .args .moves)
-
-  abbrev next : List ℕ
-  next = now (start .args .next)
-
 returns : tie.Need-returns
 returns c =
     let f = c .before .before .before in
     let r = c .before .r .given in
-    ends-sheet (sheet f) (moves f) (next f) (sheetNumber (r .0 .0))
+    ends-sheet _ _ _ (sheetNumber (r .0 .0))
     (ap (λ (x : SheetAnswer). x .refusal) (ap sheetAnswer (sym (r .1)) ∙ f .read-sheet .ensures)) (λ z. omega (arith, sheet-more (r .0 .0)))
 
 -- it was accepted, and the moves were read
@@ -53,7 +47,7 @@ returns-2 c =
     let f = c .before .before .before in
     let b = first f in
     let r = c .before .r2 .given in
-    ends-moves (sheet b) (moves b) (next b) (ap (λ (x : SheetAnswer). x .refusal) (sheet-read f)) (movesNumber (r .0 .0))
+    ends-moves _ _ _ (ap (λ (x : SheetAnswer). x .refusal) (sheet-read f)) (movesNumber (r .0 .0))
     (ap (λ (x : MovesAnswer). x .refusal) (ap movesAnswer (sym (r .1)) ∙ f .read-moves .ensures)) (λ z. omega (arith, moves-more (r .0 .0)))
 
 carry-read-requires : tie.Need-carry-read-requires

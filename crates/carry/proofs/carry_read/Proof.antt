@@ -48,7 +48,7 @@ module _ (c : tie.After-struct-known2) where
 returns : tie.Need-returns
 returns c =
     let b = c .before in
-    ends-differ (start b .pre) (next b) (c .if1 .taken)
+    ends-differ (start b .pre) _ (c .if1 .taken)
 
 -- past 41: the table of the sheet, and the test of the moves against it
 module _ (c : tie.After-unpack) where
@@ -75,7 +75,7 @@ returns-2 c =
     let w = c .before in
     let u = unpacked w in
     let b = begun u in
-    ends-sends (start b .pre) (next b) (same u .if1 .left)
+    ends-sends (start b .pre) _ (same u .if1 .left)
     (sym (within-here u) ∙ sym (w .sends-within .ensures) ∙ not-true _ (c .if2 .taken))
 
 apply-moves-requires : tie.Need-apply-moves-requires

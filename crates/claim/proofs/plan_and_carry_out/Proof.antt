@@ -31,23 +31,14 @@ module _ (c : tie.After-firrozka-plan-step) where
   abbrev start : tie.Start
   start = begun .before .before .before .before .before
 
-  abbrev s : List ℕ
-  s = now (start .args .sheet)
-
-  abbrev o : List ℕ
-  o = now (start .args .old)
-
-  abbrev p : List ℕ
-  p = now (start .args .plan)
-
   abbrev m : List ℕ
   m = now (start .args .moves)
 
-  abbrev x : List ℕ
-  x = now (start .args .next)
-
   size-inside : c .firrozka-plan-step .result .moves ≤ length m
-  size-inside = omega (arith, ap (λ (a : StepAnswer). a .moves) (c .firrozka-plan-step .ensures .0), moves-inside s o (length p) (length m))
+  size-inside =
+      let a = start .args in
+      let sizes = moves-inside (now (a .sheet)) (now (a .old)) (length (now (a .plan))) (length m) in
+      omega (arith, ap (λ (x : StepAnswer). x .moves) (c .firrozka-plan-step .ensures .0), sizes)
 
 abbrev stepped : tie.After-struct-known → tie.After-firrozka-plan-step
 stepped c = c .before .before .before .before .before
@@ -58,7 +49,7 @@ returns c =
     let w = stepped (y .before .before .before) in
     let e = w .firrozka-plan-step .ensures in
     let f = y .firrozka-carry-out .ensures in
-    (e .0, (e .1 .0, (e .1 .1, (f .0, (f .1, handed-on (s w) (o w) (p w) (m w) (x w) _ _ _ _ _ (e .0) (e .1 .0) (e .1 .1) (f .0) (f .1))))))
+    (e .0, (e .1 .0, (e .1 .1, (f .0, (f .1, handed-on _ _ _ _ _ _ _ _ _ _ (e .0) (e .1 .0) (e .1 .1) (f .0) (f .1))))))
 
 pub plan-and-carry-out-spec : {M : Type 1} → statement M
 plan-and-carry-out-spec =

@@ -2,7 +2,6 @@
 -- Assumes nothing.
 use borrow.Author.Needs.{needs}
 use mathlib.Core.List.{List}
-use mathlib.Core.Bool.{Bool}
 use Prim.Native.Nat.{ℕ}
 use native.Mathlib.Omega.{arith}
 use denote.Ref.{now}
@@ -26,14 +25,8 @@ module _ (c : tie.After-struct-known2) where
   abbrev sheet : List ℕ
   sheet = now (start .args .sheet)
 
-  abbrev old : List ℕ
-  old = now (start .args .old)
-
   abbrev s : Sheet
   s = start .args .s
-
-  abbrev tree : Bool
-  tree = start .args .tree
 
   known : Accepted sheet (accepted (s .n) (s .t) (s .e) (s .p) (s .limit))
   known = facts (start .pre)

@@ -28,12 +28,6 @@ module _ (c : tie.After-read-sheet) where
   abbrev old : List ℕ
   old = now (start .args .old)
 
-  abbrev plan : List ℕ
-  plan = now (start .args .plan)
-
-  abbrev moves : List ℕ
-  moves = now (start .args .moves)
-
 -- it was refused: its number is not 0
 not-zero : (c : tie.After-enum-told) → sheetAnswer (c .before .before .read-sheet .result) .refusal ≢ 0
 not-zero c = refusal-more _ _ (c .enum-told .given .1)
@@ -43,7 +37,7 @@ returns c =
     let f = c .before .before .before in
     let k = sheetAnswer (f .read-sheet .result) .refusal in
     let e = ap (λ (x : SheetAnswer). x .refusal) (f .read-sheet .ensures) in
-    let ends = ends-sheet (sheet f) (old f) (plan f) (moves f) k e (not-zero (c .before)) in
+    let ends = ends-sheet _ _ _ _ k e (not-zero (c .before)) in
     (c .not-read .ensures ∙ ends .0, ends .1)
 
 -- it was accepted, and the old plan read
@@ -70,7 +64,7 @@ returns-2 c =
     let o = c .before .before .before in
     let f = first o in
     let refused = ap oldOf (sym (r .1)) ∙ o .read-old .ensures in
-    ends-old (sheet f) (old f) (plan f) (moves f) (head o .n) (ap (λ (x : SheetAnswer). x .refusal) (sheet-read o))
+    ends-old _ _ _ _ (head o .n) (ap (λ (x : SheetAnswer). x .refusal) (sheet-read o))
     (ap (λ (x : SheetAnswer). x .n) (sheet-read o)) (numberOf (r .0 .0)) refused (number-more (r .0 .0))
 
 pub plan-step-spec : {M : Type 1} → statement M

@@ -32,12 +32,6 @@ module _ (c : tie.After-shared-slice-known2) where
   abbrev moves : List ℕ
   moves = movesBytes (start .args .n) (start .args .e) (now (start .args .routes)) (now (start .args .counts))
 
-  abbrev plan-out : List ℕ
-  plan-out = now (start .args .plan)
-
-  abbrev moves-out : List ℕ
-  moves-out = now (start .args .moves)
-
   plan-size : length plan ≡ 4 * (3 + 2 * start .args .n)
   plan-size =
       let few = start .pre .0 in
@@ -50,12 +44,12 @@ module _ (c : tie.After-shared-slice-known2) where
 returns : tie.Need-returns
 returns c =
     let b = c .before in
-    writes-plan-short (d b .kind) (limit b) (plan b) (moves b) (plan-out b) (moves-out b) _ (plan-size b) (c .if1 .taken)
+    writes-plan-short _ _ _ _ _ _ _ (plan-size b) (c .if1 .taken)
 
 returns-2 : tie.Need-returns-2
 returns-2 c =
     let b = c .before .before in
-    writes-moves-short (d b .kind) (limit b) (plan b) (moves b) (plan-out b) (moves-out b) _ (plan-size b) (c .before .if1 .left) _
+    writes-moves-short _ _ _ _ _ _ _ (plan-size b) (c .before .if1 .left) _
     (moves-size b) (c .if2 .taken)
 
 returns-3 : tie.Need-returns-3
@@ -64,7 +58,7 @@ returns-3 c =
     let e = p .before .before .before in
     let b = e .before .before in
     let put = p .put-records .ensures in
-    let w = writes-both (d b .kind) (limit b) (plan b) (moves b) (plan-out b) (moves-out b) _ (plan-size b) (e .before .if1 .left) _
+    let w = writes-both _ _ _ _ _ _ _ (plan-size b) (e .before .if1 .left) _
     (moves-size b) (e .if2 .left) in
     (w .0, (put .0 ∙ w .1 .0, put .1 ∙ w .1 .1))
 

@@ -24,17 +24,11 @@ module _ (c : tie.After-read-sheet) where
   abbrev sheet : List ℕ
   sheet = now (start .args .sheet)
 
-  abbrev plan : List ℕ
-  plan = now (start .args .plan)
-
-  abbrev least : List ℕ
-  least = now (start .args .least)
-
 returns : tie.Need-returns
 returns c =
     let f = c .before .before .before in
     let r = c .before .r .given in
-    ends-sheet (sheet f) (plan f) (least f) (sheetNumber (r .0 .0))
+    ends-sheet _ _ _ (sheetNumber (r .0 .0))
     (ap (λ (x : SheetAnswer). x .refusal) (ap sheetAnswer (sym (r .1)) ∙ f .read-sheet .ensures)) (λ z. omega (arith, sheet-more (r .0 .0)))
 
 -- it was accepted, and the plan was read
@@ -53,7 +47,7 @@ returns-2 c =
     let f = c .before .before .before in
     let b = first f in
     let r = c .before .r2 .given in
-    ends-plan (sheet b) (plan b) (least b) (ap (λ (x : SheetAnswer). x .refusal) (sheet-read f)) (planNumber (r .0 .0))
+    ends-plan _ _ _ (ap (λ (x : SheetAnswer). x .refusal) (sheet-read f)) (planNumber (r .0 .0))
     (ap (λ (x : PlanAnswer). x .refusal) (ap planAnswer (sym (r .1)) ∙ f .read-plan .ensures)) (λ z. omega (arith, plan-more (r .0 .0)))
 
 weigh-read-requires : tie.Need-weigh-read-requires

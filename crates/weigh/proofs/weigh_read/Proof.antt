@@ -10,7 +10,6 @@ use denote.Ref.{now}
 use Rattle.limit.specs.Limit.{maxNodes}
 use Rattle.arrays.proofs.Tabulate.{length-tabulate}
 use Rattle.sheet.specs.declared.Sheet.{Sheet}
-use Rattle.plan.specs.declared.Plan.{Plan}
 use Rattle.weigh.specs.Weigh.{weighed, leastIn}
 use Rattle.weigh.specs.Inner.{Weighable}
 use Rattle.weigh.proofs.Weighed.{facts, ends-differ, ends-primary, ends-short, weighable, ends-weighed}
@@ -28,14 +27,8 @@ module _ (c : tie.After-struct-known2) where
   abbrev plan : List ℕ
   plan = now (start .args .plan)
 
-  abbrev least : List ℕ
-  least = now (start .args .least)
-
   abbrev head : Sheet
   head = start .args .s
-
-  abbrev other : Plan
-  other = start .args .p
 
 -- past 21, and past 24
 abbrev same-nodes : tie.Else2 → tie.Else1
@@ -44,20 +37,20 @@ same-nodes c = c .before .before
 returns : tie.Need-returns
 returns c =
     let b = c .before in
-    ends-differ (start b .pre) (least b) (c .if1 .taken)
+    ends-differ (start b .pre) _ (c .if1 .taken)
 
 returns-2 : tie.Need-returns-2
 returns-2 c =
     let e = c .before .before in
     let b = e .before in
-    ends-primary (start b .pre) (least b) (e .if1 .left) (c .if2 .taken)
+    ends-primary (start b .pre) _ (e .if1 .left) (c .if2 .taken)
 
 returns-3 : tie.Need-returns-3
 returns-3 c =
     let t = c .before .before in
     let e = same-nodes t in
     let b = e .before in
-    ends-short (start b .pre) (least b) (e .if1 .left) (t .if2 .left) (c .if3 .taken)
+    ends-short (start b .pre) _ (e .if1 .left) (t .if2 .left) (c .if3 .taken)
 
 -- past all checks
 module _ (c : tie.Else3) where
@@ -69,7 +62,7 @@ module _ (c : tie.Else3) where
 
   can-weigh : Weighable (sheet begun) (plan begun) (head begun)
   can-weigh =
-      weighable (start begun .pre) (least begun) (same-nodes tree .if1 .left) (tree .if2 .left)
+      weighable (start begun .pre) (now (start begun .args .least)) (same-nodes tree .if1 .left) (tree .if2 .left)
 
   few : head begun .n ≤ maxNodes
   few = facts (sheet begun) (plan begun) (head begun) can-weigh .n-high
@@ -90,7 +83,7 @@ returns-4 c =
     let t = tree (l .before) in
     let e = same-nodes t in
     let b = e .before in
-    let x = ends-weighed (start b .pre) (least b) (e .if1 .left) (t .if2 .left) (l .before .if3 .left)
+    let x = ends-weighed (start b .pre) _ (e .if1 .left) (t .if2 .left) (l .before .if3 .left)
     (l .leasts-of .ensures) in
     (ap weighed (c .holds .ensures) ∙ x .0, w .put-words .ensures ∙ x .1)
 
