@@ -26,8 +26,7 @@ use Rattle.transfer.proofs.Acceptable.{Acceptable}
 use Rattle.transfer.proofs.Applied.{within-at}
 use Rattle.transfer.proofs.Kept.{acceptable-fine, sum-kept, writable-kept}
 use Rattle.carry.specs.declared.CarryAnswer.{CarryAnswer}
-use Rattle.carry.specs.Carry.{refused, accepted, routesIn, countsIn, withinIn, nextTable, nextSheet}
-use Rattle.carry.specs.Carry.{carryAnswer, nextAfter, SheetReadBack}
+use Rattle.carry.specs.Carry.{refused, accepted, routesIn, countsIn, withinIn, nextTable, nextSheet, carryAnswer, nextAfter, SheetReadBack}
 
 -- ---- accepted: every check passed, so each says its part
 

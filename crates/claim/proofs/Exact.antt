@@ -31,8 +31,7 @@ use Rattle.decide.specs.declared.Decision.{Decision}
 use Rattle.decide.proofs.Decided.{KeptFine, RebuiltFine}
 use Rattle.decide.proofs.Demanded.{Demanded, decided-alone, decided-demanded}
 use Rattle.planner.specs.declared.StepAnswer.{StepAnswer}
-use Rattle.planner.specs.Step.{OldAnswer, oldRead, readOld, oldHelpands, decisionIn, planIn, decidedRoutes, decidedCounts, movesIn}
-use Rattle.planner.specs.Step.{stepAnswer, planAfter, movesAfter, StepReadBack}
+use Rattle.planner.specs.Step.{OldAnswer, oldRead, readOld, oldHelpands, decisionIn, planIn, decidedRoutes, decidedCounts, movesIn, stepAnswer, planAfter, movesAfter, StepReadBack}
 use Rattle.planner.proofs.Ways.{old-empty, old-primary, old-tree}
 use Rattle.planner.proofs.Facts.{given, decision}
 use Rattle.planner.proofs.ReadBack.{Plannable, was-read, records-back, carries, done-step, plan-front, moves-front}

@@ -1,5 +1,5 @@
 -- The numbers that moves are refused with are at most 36. Assumes nothing.
-use mathlib.Core.Bool.{not, _||_}
+use mathlib.Core.Bool.{not}
 use mathlib.Core.List.{List}
 use Prim.Native.Nat.{ℕ, _+_, _-_, _*_, _≤_}
 use native.Mathlib.Omega.{arith}

@@ -19,8 +19,7 @@ use Rattle.sheet.proofs.Accepted.{sheet-accepted}
 use Rattle.moves.proofs.RoundTrip.{Writable, read-written, routes-written, counts-written}
 use Rattle.transfer.proofs.Carrying.{Carries}
 use Rattle.planner.specs.declared.StepAnswer.{StepAnswer}
-use Rattle.planner.specs.Step.{refused, planned, readOld, decisionIn, planIn, dueIn, decidedRoutes, decidedCounts, movesIn}
-use Rattle.planner.specs.Step.{writtenAnswer, stepAnswer, planAfter, movesAfter, StepReadBack}
+use Rattle.planner.specs.Step.{refused, planned, readOld, decisionIn, planIn, dueIn, decidedRoutes, decidedCounts, movesIn, writtenAnswer, stepAnswer, planAfter, movesAfter, StepReadBack}
 use Rattle.planner.specs.Inner.{StepRead}
 use Rattle.planner.proofs.Facts.{decision-fine}
 use Rattle.planner.proofs.Records.{carries-due}

@@ -25,8 +25,7 @@ use Rattle.moves.specs.declared.MovesAnswer.{MovesAnswer}
 use Rattle.moves.specs.Write.{longestMoves}
 use Rattle.moves.proofs.Accepted.{moves-accepted}
 use Rattle.planner.specs.declared.StepAnswer.{StepAnswer}
-use Rattle.planner.specs.Step.{refused, planned, OldAnswer, oldRefused, readOld, decisionIn, planIn, movesIn}
-use Rattle.planner.specs.Step.{writtenAnswer, stepAnswer}
+use Rattle.planner.specs.Step.{refused, planned, OldAnswer, oldRefused, readOld, decisionIn, planIn, movesIn, writtenAnswer, stepAnswer}
 use Rattle.planner.proofs.ReadBack.{Plannable, records-back, done-step}
 
 -- ---- by the sheet's N

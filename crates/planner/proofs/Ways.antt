@@ -19,8 +19,7 @@ use Rattle.plan.specs.Plan.{readPlan, accepted}
 use Rattle.planner.specs.declared.StepAnswer.{StepAnswer}
 use Rattle.planner.specs.declared.StepRefusal.{StepRefusal}
 use Rattle.planner.specs.declared.StepRefusal.the-variants.{Sheet, Plan, NodesDiffer, PlanBuffer, MovesBuffer}
-use Rattle.planner.specs.Step.{refused, planned, numberOf, oldRefused, oldRead, readOld, decisionIn, planIn, movesIn}
-use Rattle.planner.specs.Step.{writtenAnswer, stepAnswer, planAfter, movesAfter}
+use Rattle.planner.specs.Step.{refused, planned, numberOf, oldRefused, oldRead, readOld, decisionIn, planIn, movesIn, writtenAnswer, stepAnswer, planAfter, movesAfter}
 
 -- ---- the old plan
 

@@ -15,8 +15,7 @@ ghost use Rattle.limit.specs.Limit.{maxNodes, tableSize};
 ghost use Rattle.words.specs.Buffer.{placed, afterCall};
 ghost use Rattle.sheet.specs.Sheet.{answerOf as sheetAnswer};
 ghost use Rattle.moves.specs.Write.{movesBytes};
-ghost use Rattle.planner.specs.Step.{refused, numberOf, answerOf, oldOf, readOld, oldHelpands};
-ghost use Rattle.planner.specs.Step.{planRecord, writtenAnswer, stepAnswer, planAfter, movesAfter};
+ghost use Rattle.planner.specs.Step.{refused, numberOf, answerOf, oldOf, readOld, oldHelpands, planRecord, writtenAnswer, stepAnswer, planAfter, movesAfter};
 ghost use Rattle.planner.specs.Inner.{StepRead};
 
 // Why planning is refused, in the order of the checks.

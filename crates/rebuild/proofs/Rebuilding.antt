@@ -27,8 +27,7 @@ use Rattle.rebuild.specs.declared.Rebuilt.{Rebuilt}
 use Rattle.rebuild.specs.Target.{targetOf}
 use Rattle.rebuild.specs.Rebuild.{is, inB, needOf, nextL, nextG, startOf, runOf, lowestInB, newHelpand, newShare, finishOf, rebuiltOf}
 use Rattle.rebuild.proofs.TargetSums.{target-limit}
-use Rattle.rebuild.proofs.Choices.{in-b-is, in-b-of, in-b-done, first-lowest, finish-at, helpand-in, helpand-out, share-in}
-use Rattle.rebuild.proofs.Choices.{share-out}
+use Rattle.rebuild.proofs.Choices.{in-b-is, in-b-of, in-b-done, first-lowest, finish-at, helpand-in, helpand-out, share-in, share-out}
 use Rattle.rebuild.proofs.Turns.{level}
 use Rattle.rebuild.proofs.Loops.{Sound, sound-few, next-none, serve, run-sound, start-sound}
 use Rattle.arrays.proofs.Tabulate.{tabulate-at, length-tabulate}

@@ -12,8 +12,7 @@ use Rattle.tree.specs.Family.{helps, overHelpers}
 use Rattle.tree.specs.Down.{Descends}
 use Rattle.tree.specs.Division.{WithinLimit, ownOf}
 use Rattle.arrays.specs.Arrays.{at}
-use Rattle.tree.proofs.Filling.{Fills, family-room, share-spare, helpers-most, own-filled, descends-within}
-use Rattle.tree.proofs.Filling.{down-descends, descends-only, descends-at, descends-same}
+use Rattle.tree.proofs.Filling.{Fills, family-room, share-spare, helpers-most, own-filled, descends-within, down-descends, descends-only, descends-at, descends-same}
 use Rattle.shares.specs.Shares.{amount, keptShare, keptShares}
 use Rattle.shares.proofs.Spaces.{space-own, space-helper}
 use Rattle.shares.proofs.Amounts.{amount-space, amount-keeps, amount-whole}

@@ -23,8 +23,8 @@ pub fn owner(table: &[u32; TABLE_SIZE], limit: u32, share: u32, n: usize) -> Mem
     requires { ⌜ n < maxNodes ⌝ }
     ensures { λ m. ⌜ (m .space ≡ limit - share) × (m .keeps ≡ min (limit - share) (held (now (table .entry)) n n)) ⌝ }
 {
-    let space = numbers::less(limit, share);
-    let keeps = numbers::smaller(space, table::held(table, n, n));
+    let space = numbers::saturating_sub(limit, share);
+    let keeps = numbers::min(space, table::held(table, n, n));
     Member { space, keeps }
 }
 
@@ -41,8 +41,8 @@ pub fn helper(
         (m .space ≡ limit - at (now (leasts .entry)) k)
         × (m .keeps ≡ min (limit - at (now (leasts .entry)) k) (held (now (table .entry)) k n)) ⌝ }
 {
-    let space = numbers::less(limit, leasts[k]);
-    let keeps = numbers::smaller(space, table::held(table, k, n));
+    let space = numbers::saturating_sub(limit, leasts[k]);
+    let keeps = numbers::min(space, table::held(table, k, n));
     Member { space, keeps }
 }
 

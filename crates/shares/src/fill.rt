@@ -15,7 +15,7 @@ ghost use Rattle.shares.specs.Inner.{spacesIn, keepsIn, Noted};
 fn topped(keeps: u32, space: u32, left: u32) -> u32
     ensures { λ r. ⌜ r ≡ keeps + min left (space - keeps) ⌝ }
 {
-    keeps + numbers::smaller(left, numbers::less(space, keeps))
+    keeps + numbers::min(left, numbers::saturating_sub(space, keeps))
 }
 
 // Fills the rest of subdomain n into the spaces of the family of n, whose owner has this share, and notes what its helpers have.
@@ -43,7 +43,7 @@ pub fn fill(
         nodes (now (shares .entry)) (now (shares .exit)) ⌝ }
 {
     let own = family::owner(table, limit, share, n);
-    let mut left = numbers::less(rest, own.space - own.keeps);
+    let mut left = numbers::saturating_sub(rest, own.space - own.keeps);
     let mut k = links::first(links, n);
     while k < nodes {
         let member = family::helper(table, leasts, limit, n, k);

@@ -18,8 +18,7 @@ use Rattle.sheet.specs.declared.Sheet.{Sheet}
 use Rattle.sheet.specs.declared.SheetAnswer.{SheetAnswer}
 use Rattle.sheet.specs.declared.CountSum.{CountSum}
 use Rattle.sheet.specs.declared.CountSum.the-variants.{Sum, Bad}
-use Rattle.sheet.specs.Sheet.{accepted, refused, cellsOf, countsOf, cellFine, runningSum, summedAnswer, HeaderAnswer, headerRefused}
-use Rattle.sheet.specs.Sheet.{headerAccepted, rangesAnswer, readHeader, entriesAnswer, readSheet}
+use Rattle.sheet.specs.Sheet.{accepted, refused, cellsOf, countsOf, cellFine, runningSum, summedAnswer, HeaderAnswer, headerRefused, headerAccepted, rangesAnswer, readHeader, entriesAnswer, readSheet}
 use Rattle.sheet.specs.Inner.{Unpackable}
 use Rattle.sheet.proofs.Laws.{Summed, summed}
 

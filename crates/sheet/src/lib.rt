@@ -5,8 +5,7 @@ ghost use Prim.Native.Nat.{_+_, _*_, _≤_};
 ghost use lib.ListN.{length};
 ghost use Rattle.fold.specs.Rising.{rising};
 ghost use Rattle.limit.specs.Limit.{maxNodes, maxTolerance};
-ghost use Rattle.sheet.specs.Sheet.{cellsOf, countsOf, cellFine, runningSum, headerOf, readHeader, entriesAnswer, readSheet};
-ghost use Rattle.sheet.specs.Sheet.{refusalNumber, answerOf};
+ghost use Rattle.sheet.specs.Sheet.{cellsOf, countsOf, cellFine, runningSum, headerOf, readHeader, entriesAnswer, readSheet, refusalNumber, answerOf};
 
 pub mod table;
 pub mod totals;

@@ -8,8 +8,7 @@ use lib.ListN.{length, getD, length-append}
 use Rattle.fold.specs.Collect.{collect}
 use Rattle.limit.specs.Limit.{maxNodes}
 use Rattle.moves.specs.Moves.{subdomain, sender, receiver}
-use Rattle.text.specs.Text.{decimal, blank, newline, ascii, field, headLine, nodeLine, nodesText, moveLine, movesText, stepText}
-use Rattle.text.specs.Text.{refusedText}
+use Rattle.text.specs.Text.{decimal, blank, newline, ascii, field, headLine, nodeLine, nodesText, moveLine, movesText, stepText, refusedText}
 use Rattle.text.proofs.Digits.{digits-le, digits-short}
 
 pub decimal-le : (x : ℕ) → length (decimal x) ≤ 10

@@ -25,8 +25,7 @@ use Rattle.moves.proofs.Laws.{route-is}
 use Rattle.transfer.specs.Apply.{fromCell, intoCell, sends, receives, sendsWithin, carried}
 use Rattle.transfer.proofs.Acceptable.{Acceptable}
 use Rattle.transfer.proofs.Ends.{moved-absent}
-use Rattle.transfer.proofs.Applied.{applied, applied-length, applied-at, applied-sum, applied-enough, applied-within, carried-at}
-use Rattle.transfer.proofs.Applied.{length-carried, carried-none, carried-more, within-at}
+use Rattle.transfer.proofs.Applied.{applied, applied-length, applied-at, applied-sum, applied-enough, applied-within, carried-at, length-carried, carried-none, carried-more, within-at}
 use Rattle.sheet.specs.Totals.{totalOf}
 
 -- each route is fine

@@ -74,7 +74,7 @@ fn next_above(amounts: &[u32; 64], bounds: &[u32; 64], nodes: usize, k: usize) -
 {
     let mut j = k;
     while j < nodes {
-        let count = numbers::less(amounts[j], bounds[j]);
+        let count = numbers::saturating_sub(amounts[j], bounds[j]);
         if count != 0 {
             return Remaining {
                 node: j,
@@ -113,7 +113,7 @@ fn put_subdomain(
     let mut s = next_above(holding, due, nodes, 0);
     let mut r = next_above(due, holding, nodes, 0);
     while s.node < nodes && r.node < nodes {
-        let count = numbers::smaller(s.count, r.count);
+        let count = numbers::min(s.count, r.count);
         entries = put_move(routes, counts, entries, n, s.node, r.node, count);
         if s.count <= r.count {
             r.count -= count;

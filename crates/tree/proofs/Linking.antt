@@ -13,8 +13,7 @@ use Rattle.tree.specs.Family.{helps, overHelpers}
 use Rattle.fold.specs.First.{FirstFrom}
 use Rattle.fold.proofs.First.{first-end, first-here, first-later}
 use Rattle.tree.specs.Links.{Linked}
-use Rattle.tree.proofs.Families.{helps-of, helps-yes, helps-self, helps-other, helper-below}
-use Rattle.tree.proofs.Families.{helpers-none, helpers-next, helpers-more}
+use Rattle.tree.proofs.Families.{helps-of, helps-yes, helps-self, helps-other, helper-below, helpers-none, helpers-next, helpers-more}
 
 -- the links once node m, which helps g, is put before g's other helpers
 abbrev linkTo : List ℕ → ℕ → ℕ → List ℕ

@@ -56,7 +56,7 @@ fn least(
     let mut k = links::first(links, n);
     while k < nodes {
         let spared = spare(depth - 1, k, totals, helpands, links, nodes, limit, leasts);
-        left = numbers::less(left, spared);
+        left = numbers::saturating_sub(left, spared);
         k = links::next(links, k);
     }
     leasts[n] = left;
@@ -84,7 +84,7 @@ fn spare(
         n (now (leasts .entry)) (now (leasts .exit)) ⌝ }
 {
     let own = least(depth, n, totals, helpands, links, nodes, limit, leasts);
-    numbers::less(limit, own)
+    numbers::saturating_sub(limit, own)
 }
 
 // The leasts of all nodes of a tree, whose helpers are linked.

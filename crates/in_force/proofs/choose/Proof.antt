@@ -6,8 +6,7 @@ use denote.Ref.{now}
 use Rattle.plan.specs.declared.PlanReading.the-variants.{Accepted}
 use Rattle.plan.specs.Plan.{answerOf, readPlan}
 use Rattle.plan.proofs.Accepted.{reading-accepted}
-use Rattle.in_force.proofs.Laws.{force-old-refused, force-new-refused, force-nodes, force-new, force-primary, force-kept}
-use Rattle.in_force.proofs.Laws.{force-other}
+use Rattle.in_force.proofs.Laws.{force-old-refused, force-new-refused, force-nodes, force-new, force-primary, force-kept, force-other}
 use Rattle.in_force.proofs.choose.Statement.{statement}
 use Rattle.in_force.proofs.choose.Tie as tie
 

@@ -16,8 +16,7 @@ use Rattle.arrays.specs.Arrays.{at}
 use Rattle.rebuild.specs.declared.Balance.{Balance}
 use Rattle.rebuild.specs.Target.{targetsOf}
 use Rattle.rebuild.specs.Rebuild.{is, startOf, runOf, finishOf, rebuiltOf, nextL, nextG}
-use Rattle.rebuild.proofs.Loops.{Reached, Served, unfinished, next-l, reached-end, reached-some, reached-served, reached-turn}
-use Rattle.rebuild.proofs.Loops.{reached-less, start-sound}
+use Rattle.rebuild.proofs.Loops.{Reached, Served, unfinished, next-l, reached-end, reached-some, reached-served, reached-turn, reached-less, start-sound}
 use Rattle.rebuild.proofs.rebuild.Statement.{statement}
 use Rattle.rebuild.proofs.rebuild.Tie as tie
 

@@ -77,7 +77,7 @@ loop-holds c =
     let o = l .before .before in
     let b = o .before in
     let x = link-first (b .pre .0 .linked) (b .args .n) (b .pre .1) (c .first .ensures) in
-    let e = l .less .ensures ∙ ap₂ (λ (y z : ℕ). b .args .rest - (y - z)) (own-space o) (own-keeps o) in
+    let e = l .saturating-sub .ensures ∙ ap₂ (λ (y z : ℕ). b .args .rest - (y - z)) (own-space o) (own-keeps o) in
     record { long = b .pre .2; taken = left-first e x; noted = noted-next noted-none x }
 
 -- ---- a turn, whose helper is k
@@ -134,7 +134,7 @@ fill-spec =
     μ-loop
     (λ c κs. omega (arith, c .pre .0 .few))  -- owner-requires
     (λ c. omega (arith, c .before .owner .ensures))  -- sub-less
-    (λ c κs. search needs)  -- less-requires
+    (λ c κs. search needs)  -- saturating-sub-requires
     (λ c κs. search needs)  -- first-requires
     loop-holds
     (λ c κs. search needs)  -- helper-requires

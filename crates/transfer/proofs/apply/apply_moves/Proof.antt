@@ -14,8 +14,7 @@ use Rattle.words.proofs.Words.{part-end}
 use Rattle.arrays.specs.Arrays.{at}
 use Rattle.moves.specs.Moves.{routesOf, countsOf}
 use Rattle.transfer.specs.Apply.{fromCell, intoCell, sends, carried}
-use Rattle.transfer.proofs.Applied.{into-below, Entry, entry-read, within-at, taken, applied-length, taken-sum, applied-sum}
-use Rattle.transfer.proofs.Applied.{applied-enough, applied-within, carried-none, carried-more}
+use Rattle.transfer.proofs.Applied.{into-below, Entry, entry-read, within-at, taken, applied-length, taken-sum, applied-sum, applied-enough, applied-within, carried-none, carried-more}
 use Rattle.transfer.proofs.apply.apply_moves.Statement.{statement}
 use Rattle.transfer.proofs.apply.apply_moves.Tie as tie
 

@@ -12,8 +12,7 @@ use Rattle.sheet.specs.Table.{held}
 use Rattle.tree.specs.Division.{ownOf}
 use Rattle.transfer.specs.Due.{dueWith, dueOf}
 use Rattle.transfer.specs.Matching.{movesBetween, subdomainMoves}
-use Rattle.transfer.proofs.Subdomains.{moves-eq, few-all, Written, written-none, routes-long, counts-long, written-more, written-all}
-use Rattle.transfer.proofs.Subdomains.{all-routes-eq, all-counts-eq}
+use Rattle.transfer.proofs.Subdomains.{moves-eq, few-all, Written, written-none, routes-long, counts-long, written-more, written-all, all-routes-eq, all-counts-eq}
 use Rattle.transfer.proofs.matching.all_moves.Statement.{statement}
 use Rattle.arrays.proofs.Tabulate.{tabulate-at, tabulate-behind}
 use Rattle.sheet.specs.Totals.{totalOf}

@@ -25,8 +25,8 @@ returns c =
     let head = c .before .before .before .before .before in
     let l = head .loop in
     let a = head .before .args in
-    found (a .nodes) (above (now (a .amounts)) (now (a .bounds))) (a .k) (l .j) (l .inv) (c .before .less .result)
-    (c .before .less .ensures) (c .if1 .taken)
+    found (a .nodes) (above (now (a .amounts)) (now (a .bounds))) (a .k) (l .j) (l .inv) (c .before .saturating-sub .result)
+    (c .before .saturating-sub .ensures) (c .if1 .taken)
 
 loop-again : tie.Need-loop-again Inv-loop μ-loop
 loop-again c =
@@ -34,7 +34,7 @@ loop-again c =
     let l = head .loop in
     let a = head .before .args in
     passing-more (a .nodes) (above (now (a .amounts)) (now (a .bounds))) (a .k) (l .j) (l .inv)
-    (c .before .before .before .before .loop-test .taken) (sym (c .before .less .ensures) ∙ c .if1 .left)
+    (c .before .before .before .before .loop-test .taken) (sym (c .before .saturating-sub .ensures) ∙ c .if1 .left)
 
 returns-2 : tie.Need-returns-2 Inv-loop μ-loop
 returns-2 c =
@@ -53,7 +53,7 @@ next-above-spec =
     (λ c. search needs)  -- element-copy-out-less
     (λ c. search needs)  -- mul-less-2
     (λ c. search needs)  -- element-copy-out-less-2
-    (λ c κs. search needs)  -- less-requires
+    (λ c κs. search needs)  -- saturating-sub-requires
     returns
     (λ c. search needs)  -- add-j
     (λ c. search needs)  -- loop-less

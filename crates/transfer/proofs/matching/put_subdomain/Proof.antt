@@ -50,7 +50,7 @@ abbrev μ-loop : tie.MeasureT-loop
 within : (p e w few long long₀ : ℕ) → p ≤ e + w → w ≤ few → e + few ≤ long₀ → long ≡ long₀ → p ≤ long
 within p e w few long long₀ a b c d = omega arith
 
-module _ (c : tie.After-smaller Inv-loop μ-loop) where
+module _ (c : tie.After-min Inv-loop μ-loop) where
   abbrev head : tie.At-loop Inv-loop μ-loop
   head = c .before .before .before .before .before
 
@@ -73,17 +73,17 @@ module _ (c : tie.After-smaller Inv-loop μ-loop) where
   receiver-lt : head .loop .r .node < start .args .nodes
   receiver-lt = ltb-true (head .loop .r .node) (start .args .nodes) (c .before .if2 .taken)
 
-  has-room : let k = head .loop .entries + length (moveOf (head .loop .s .node) (head .loop .r .node) (c .smaller .result)) in
+  has-room : let k = head .loop .entries + length (moveOf (head .loop .s .node) (head .loop .r .node) (c .min .result)) in
       (k ≤ length (head .loop .routes)) × (k ≤ length (head .loop .counts))
   has-room =
       let l = head .loop in
       let a = start .args in
       let p = start .pre in
-      let k = l .entries + length (moveOf (l .s .node) (l .r .node) (c .smaller .result)) in
+      let k = l .entries + length (moveOf (l .s .node) (l .r .node) (c .min .result)) in
       let b : k ≤ a .e + length all =
       room (a .nodes) surplus shortage (a .n) (now (a .routes)) (now (a .counts)) (a .e) all (l .routes) (l .counts) (l .entries)
       (l .s .node) (l .s .count) (l .r .node) (l .r .count)
-      (l .inv) sender-lt receiver-lt (c .smaller .result) (c .smaller .ensures) in
+      (l .inv) sender-lt receiver-lt (c .min .result) (c .min .ensures) in
       let f : length all ≤ a .nodes - 1 = moves-few (a .nodes) (at (now (a .holding))) (at (now (a .due))) in (
         within k (a .e) (length all) (a .nodes - 1) (length (l .routes)) (length (now (a .routes))) b f (p .2) (l .inv .moves .routes-long),
         within k (a .e) (length all) (a .nodes - 1) (length (l .counts)) (length (now (a .counts))) b f (p .3) (l .inv .moves .counts-long),
@@ -131,7 +131,7 @@ loop-again c =
     let a = start q .args in
     sender-next (a .nodes) (surplus q) (shortage q) (a .n) (now (a .routes)) (now (a .counts)) (a .e) (all q) (l .routes) (l .counts)
     (l .entries) (l .s .node) (l .s .count) (l .r .node) (l .r .count)
-    (l .inv) (sender-lt q) (receiver-lt q) (q .smaller .result) (q .smaller .ensures)
+    (l .inv) (sender-lt q) (receiver-lt q) (q .min .result) (q .min .ensures)
     (p .put-move .last .0) (p .put-move .last .1 .0) (p .put-move .result) (p .put-move .ensures .0) (p .put-move .ensures .1 .0)
     (p .put-move .ensures .1 .1)
     (t .if3 .taken) (c .next-above3 .result .node) (c .next-above3 .result .count)
@@ -146,7 +146,7 @@ loop-again-2 c =
     let a = start q .args in
     receiver-next (a .nodes) (surplus q) (shortage q) (a .n) (now (a .routes)) (now (a .counts)) (a .e) (all q) (l .routes) (l .counts)
     (l .entries) (l .s .node) (l .s .count) (l .r .node) (l .r .count)
-    (l .inv) (sender-lt q) (receiver-lt q) (q .smaller .result) (q .smaller .ensures)
+    (l .inv) (sender-lt q) (receiver-lt q) (q .min .result) (q .min .ensures)
     (p .put-move .last .0) (p .put-move .last .1 .0) (p .put-move .result) (p .put-move .ensures .0) (p .put-move .ensures .1 .0)
     (p .put-move .ensures .1 .1)
     (t .if3 .left) (c .next-above4 .result .node) (c .next-above4 .result .count)
@@ -179,7 +179,7 @@ put-subdomain-spec =
     (λ c κs. search needs)  -- next-above-requires
     (λ c κs. search needs)  -- next-above-requires-2
     loop-holds
-    (λ c κs. search needs)  -- smaller-requires
+    (λ c κs. search needs)  -- min-requires
     put-move-requires
     (λ c. search needs)  -- sub-r
     (λ c. search needs)  -- add-next-above

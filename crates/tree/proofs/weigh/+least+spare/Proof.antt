@@ -24,7 +24,7 @@ use Rattle.tree.proofs.weigh.+least+spare.Lts-least as least-lts
 use Rattle.tree.proofs.weigh.spare.Reads as spare
 use Rattle.tree.proofs.weigh.spare.Kinds as spare-kinds
 use Rattle.tree.proofs.weigh.+least+spare.Lts-spare as spare-lts
-use Rattle.fold.proofs.numbers.less.Reads as less
+use Rattle.fold.proofs.numbers.saturating_sub.Reads as saturating-sub
 use Rattle.tree.proofs.links.first.Reads as first
 use Rattle.tree.proofs.links.next.Reads as next
 use Rattle.tree.proofs.weigh.+least+spare.{statement}
@@ -50,7 +50,7 @@ spare-below t = and 4 spare-kinds.ps (falls 4 spare-kinds.ps _<_ μ-spare t) spa
 
 -- what is known of the functions that `least` calls
 abbrev claims : ℕ → least-lts.Claims
-claims t = (first.Asked, first.Learnt, spare-below t, spare.Post, less.Asked, less.Learnt, next.Asked, next.Learnt)
+claims t = (first.Asked, first.Learnt, spare-below t, spare.Post, saturating-sub.Asked, saturating-sub.Learnt, next.Asked, next.Learnt)
 
 -- ---- the loop over the helpers of n: those below k are weighed
 
@@ -122,7 +122,7 @@ module _ (t : ℕ) where
       let x = onward i (c .next .ensures) in
       record {
         long = s .1;
-        spared = left-next (v .spared) (i .loop-test .taken) (m .less .ensures ∙ ap (λ (y : ℕ). i .before .loop .left - y) (s .0)) x;
+        spared = left-next (v .spared) (i .loop-test .taken) (m .saturating-sub .ensures ∙ ap (λ (y : ℕ). i .before .loop .left - y) (s .0)) x;
         passed = passed-next (passed-helper (v .passed) (s .2)) x;
       }
 
@@ -131,11 +131,11 @@ module _ (t : ℕ) where
       let p = c .before .before .before .before .before .pre .1 in
       ends (p .0) (p .1) (c .before .loop .inv) (c .loop-test .left)
 
-  spared : spare-lts.Need-returns (least-below t, least.Post, less.Asked, less.Learnt) (spare-at t) spare.Post
+  spared : spare-lts.Need-returns (least-below t, least.Post, saturating-sub.Asked, saturating-sub.Learnt) (spare-at t) spare.Post
   spared c =
       let m = c .before in
       let a = m .before .before .args in
-      (c .less .ensures ∙ ap (λ (x : ℕ). a .limit - x) (m .least .ensures .0), m .least .ensures .1, m .least .ensures .2)
+      (c .saturating-sub .ensures ∙ ap (λ (x : ℕ). a .limit - x) (m .least .ensures .0), m .least .ensures .1, m .least .ensures .2)
 
 pub +least+spare-spec : {M : Type 1} → statement M
 +least+spare-spec = close μ-least μ-spare (λ t. least-lts.spec
@@ -151,7 +151,7 @@ pub +least+spare-spec : {M : Type 1} → statement M
     (holds t)
     (λ c. search needs)  -- least-sub-spare
     (down t)
-    (λ c κs. search needs)  -- least-less-requires
+    (λ c κs. search needs)  -- least-saturating-sub-requires
     (λ c κs. search needs)  -- least-next-requires
     (λ c. omega (arith, onward t (c .before .before .before .before) (c .next .ensures) .from-le))  -- least-loop-less
     (again t)
@@ -159,9 +159,9 @@ pub +least+spare-spec : {M : Type 1} → statement M
     (λ c. search needs)  -- least-element-write-leasts
     (done t))
     λ t. spare-lts.spec
-    (least-below t, least.Post, less.Asked, less.Learnt)
+    (least-below t, least.Post, saturating-sub.Asked, saturating-sub.Learnt)
     (spare-at t)
     spare.Post
     (λ c κs. search needs)  -- spare-least-requires
-    (λ c κs. search needs)  -- spare-less-requires
+    (λ c κs. search needs)  -- spare-saturating-sub-requires
     (spared t)
