@@ -12,7 +12,7 @@ use Rattle.sheet.specs.Sheet.{readSheet}
 use Rattle.sheet.specs.Totals.{totalsIn}
 use Rattle.plan.specs.Tree.{isRoot}
 use Rattle.rebuild.specs.Target.{targetOf}
-use Rattle.claim.specs.Claim.{AcceptedTree, Rival, Balanced, helpand, share}
+use Rattle.claim.specs.Claim.{AcceptedTree, Rival, Balanced, helpand, own, share}
 
 module _ (s o plan next : List ℕ) where
   -- THEOREM. "a planner that rebuilds at every overload, or declares the tree broken unweighed": where a rival's division exists, no plan
@@ -34,3 +34,7 @@ module _ (s o plan next : List ℕ) where
       → Balanced s o plan next 2 → ⊥
   shares-shut-out k l under z b =
       omega (arith, b .rebuilt-division refl .on k l, only-max (not (isRoot (helpand s plan) k)) (share s plan k))
+
+  -- THEOREM. The same in a plan of kind 1: where its helpers' shares leave an owner more than the limit, it will not do.
+  pub owner-shut-out : (n : ℕ) → n < readSheet s .n → readSheet s .limit < own s plan n → Balanced s o plan next 1 → ⊥
+  owner-shut-out n l above b = omega (arith, b .kept-division refl .within n l)
