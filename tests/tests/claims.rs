@@ -54,7 +54,8 @@ fn paths(line: &str) -> Vec<String> {
     let ends = [".antt", ".rt", ".rs"];
     let part = |c: char| c.is_alphanumeric() || "_/.+-".contains(c);
     let words = line.split(|c: char| !part(c));
-    let paths = words.filter(|word| word.contains('/') && ends.iter().any(|end| word.ends_with(end)));
+    let paths =
+        words.filter(|word| word.contains('/') && ends.iter().any(|end| word.ends_with(end)));
     paths.map(String::from).collect()
 }
 
@@ -85,7 +86,9 @@ fn named_files(line: &str) -> Vec<(Vec<&str>, String)> {
             names.push(turn);
             continue;
         }
-        let inside = turn.strip_prefix(" (").and_then(|rest| rest.split(')').next());
+        let inside = turn
+            .strip_prefix(" (")
+            .and_then(|rest| rest.split(')').next());
         if let Some(path) = inside.and_then(|inside| paths(inside).into_iter().next()) {
             found.push((names.clone(), path));
         }
@@ -137,16 +140,24 @@ fn wrong_programs_exist() {
     let claims = claims();
     let named = claims.lines().flat_map(wrong_programs);
     let missing = named.filter(|name| !names.contains(*name));
-    expect_none(missing.map(|name| format!("no wrong program {name}")).collect());
+    expect_none(
+        missing
+            .map(|name| format!("no wrong program {name}"))
+            .collect(),
+    );
 }
 
 /// The last table names each wrong program, and no other.
 #[test]
 fn wrong_programs_are_named() {
     let claims = claims();
-    let table = claims.split("## Wrong programs, contract by contract").nth(1);
+    let table = claims
+        .split("## Wrong programs, contract by contract")
+        .nth(1);
     let table = table.expect("the table of wrong programs");
-    let rows = table.lines().filter(|line| line.starts_with("| ") && line.contains(") | "));
+    let rows = table
+        .lines()
+        .filter(|line| line.starts_with("| ") && line.contains(") | "));
     let mut named = BTreeSet::new();
     for row in rows {
         let programs = row.split(" | ").nth(1).expect("a second column");

@@ -30,13 +30,13 @@ pub fn own_amounts(
     own
 }
 
-// What node k is due of subdomain n.
-fn due_amount(helpand: u32, share: u32, own: u32, n: usize, k: usize) -> u32
+// What node k is due of subdomain n. All five have one width, so that the compiler can work out several nodes at once.
+fn due_amount(helpand: u32, share: u32, own: u32, n: u32, k: u32) -> u32
     ensures { λ r. ⌜ r ≡ dueWith (λ (j : ℕ). helpand) (λ (j : ℕ). share) own n k ⌝ }
 {
     if k == n {
         own
-    } else if helpand as usize == n {
+    } else if helpand == n {
         share
     } else {
         0
@@ -51,13 +51,13 @@ pub fn due_amounts(
     nodes: usize,
     n: usize,
 ) -> [u32; 64]
-    requires { ⌜ nodes ≤ maxNodes ⌝ }
+    requires { ⌜ (nodes ≤ maxNodes) × (n < nodes) ⌝ }
     ensures { λ r. ⌜ r ≡ tabulate nodes (dueWith (at (now (helpands .entry))) (at (now (shares .entry))) own n) ⌝ }
 {
     let mut due = [0u32; 64];
     let mut k = 0;
     while k < nodes {
-        due[k] = due_amount(helpands[k], shares[k], own, n, k);
+        due[k] = due_amount(helpands[k], shares[k], own, n as u32, k as u32);
         k += 1;
     }
     due

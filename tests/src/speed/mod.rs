@@ -1,5 +1,6 @@
 //! The benchmark: whole operations from bytes to bytes, the archive beside
-//! plain Rust and beside a copy of the same bytes.
+//! plain Rust and beside a copy of the same bytes; and two archives beside each
+//! other.
 //!
 //! | file | what it holds |
 //! |---|---|
@@ -7,7 +8,9 @@
 //! | `jobs` | an operation on some inputs, ready to be timed |
 //! | `timing` | medians |
 //! | `table` | what is printed |
+//! | `compared` | two archives in turn |
 
+pub mod compared;
 pub mod inputs;
 pub mod jobs;
 pub mod table;

@@ -45,13 +45,13 @@ pub fn rows() -> Vec<Row> {
 impl Row {
     /// The times for each number of nodes.
     pub fn times(&self, samples: usize) -> [Times; 4] {
-        NODES.map(|n| {
-            let input = (n, self.filling, self.outcome);
-            time(
-                &Job::new(self.measured, input, CALLS, self.changing),
-                samples,
-            )
-        })
+        NODES.map(|n| time(&self.job(n), samples))
+    }
+
+    /// The calls of a sample, with so many nodes.
+    pub fn job(&self, n: usize) -> Job {
+        let input = (n, self.filling, self.outcome);
+        Job::new(self.measured, input, CALLS, self.changing)
     }
 
     /// What the row is of: operation, sheet, outcome and inputs, as printed.

@@ -1,16 +1,17 @@
-//! Medians of many samples. The archive, plain Rust and the copy take turns,
-//! so that what slows the machine slows them alike. From turn to turn the stack
-//! begins elsewhere in its page, so that no one placement decides. Between two
-//! runs of the program times still differ: look at several.
+//! Medians of many samples. Those who do a job take turns, so that what slows
+//! the machine slows them alike, and each is first in turn. From turn to turn
+//! the stack begins elsewhere in its page, so that no one placement decides.
+//! Between two runs of the program times still differ: look at several.
 
-use super::jobs::Job;
+use super::jobs::{Buffers, Job};
 use crate::implementations::{ARCHIVE, PLAIN};
 use std::sync::atomic::{compiler_fence, Ordering};
 use std::time::Instant;
 
 /// How many places the stack begins at, and how many levels lie between two. A
-/// level takes 16 bytes or more, so together they are more than a page.
-const PLACES: usize = 20;
+/// level takes 16 bytes or more, so together they are more than a page. The
+/// number is prime, so that each is first in turn at each place.
+const PLACES: usize = 23;
 const LEVELS: usize = 13;
 
 /// Microseconds for one call.
@@ -26,21 +27,41 @@ pub struct Times {
 /// Times a job.
 pub fn time(job: &Job, samples: usize) -> Times {
     job.check(&ARCHIVE, &PLAIN);
-    let (mut buffers, mut scratch) = (Job::buffers(), Job::buffers());
-    let [mut archive, mut plain, mut copy] = [(); 3].map(|_| Vec::with_capacity(samples));
+    let mut scratch = Job::buffers();
+    let [archive, plain, copy] = in_turn(
+        job,
+        samples,
+        [
+            &mut |buffers| job.run(&ARCHIVE, buffers),
+            &mut |buffers| job.run(&PLAIN, buffers),
+            &mut |buffers| job.copy(&mut scratch, buffers),
+        ],
+    );
+    Times {
+        archive: archive[1],
+        plain: plain[1],
+        copy: copy[1],
+        noise: (archive[2] - archive[0]) / 2.0 / archive[1],
+    }
+}
+
+/// The quartiles of the microseconds that each of these takes for one call of
+/// the job. All write to the same buffers.
+pub fn in_turn<const K: usize>(
+    job: &Job,
+    samples: usize,
+    mut runs: [&mut dyn FnMut(&mut Buffers); K],
+) -> [[f64; 3]; K] {
+    let mut buffers = Job::buffers();
+    let mut times = [(); K].map(|_| Vec::with_capacity(samples));
     for turn in 0..samples {
         let depth = turn % PLACES * LEVELS;
-        archive.push(sample(job, depth, || job.run(&ARCHIVE, &mut buffers)));
-        plain.push(sample(job, depth, || job.run(&PLAIN, &mut buffers)));
-        copy.push(sample(job, depth, || job.copy(&mut scratch, &mut buffers)));
+        for step in 0..K {
+            let who = (turn + step) % K;
+            times[who].push(sample(job, depth, || runs[who](&mut buffers)));
+        }
     }
-    let [low, median, high] = quartiles(archive);
-    Times {
-        archive: median,
-        plain: quartiles(plain)[1],
-        copy: quartiles(copy)[1],
-        noise: (high - low) / 2.0 / median,
-    }
+    times.map(quartiles)
 }
 
 /// Microseconds for one call of the job, so deep in the stack.

@@ -45,6 +45,8 @@ due-amounts-spec =
     (λ c. search needs)  -- element-copy-out-due-amount
     (λ c. search needs)  -- mul-due-amount-2
     (λ c. search needs)  -- element-copy-out-due-amount-2
+    (λ c. search needs)  -- cast-due-amount
+    (λ c. search needs)  -- cast-due-amount-2
     (λ c κs. search needs)  -- due-amount-requires
     (λ c. search needs)  -- mul-due
     (λ c. search needs)  -- array-write-due

@@ -1,0 +1,124 @@
+//! Archives as shared objects, loaded at run time: two of them in one process,
+//! so that an earlier one and today's are timed in turn.
+//!
+//! An archive stands at a place, 0 or 1, until another is loaded there. A call
+//! at a place where none was loaded ends the program.
+
+use firrozka::ffi::{StepAnswer, WeighedAnswer, WrittenAnswer};
+use std::ffi::{CStr, CString};
+use std::mem;
+use std::os::raw::{c_char, c_int, c_void};
+use std::path::Path;
+use std::sync::atomic::{AtomicPtr, Ordering};
+
+extern "C" {
+    fn dlopen(file: *const c_char, mode: c_int) -> *mut c_void;
+    fn dlsym(object: *mut c_void, name: *const c_char) -> *mut c_void;
+    fn dlerror() -> *const c_char;
+}
+
+/// All names are looked up at once.
+const RTLD_NOW: c_int = 2;
+
+/// The functions that are loaded, and their order at a place.
+const NAMES: [&str; 3] = ["firrozka_weigh", "firrozka_plan_step", "firrozka_carry_out"];
+const WEIGH: usize = 0;
+const PLAN_STEP: usize = 1;
+const CARRY_OUT: usize = 2;
+
+const NONE: AtomicPtr<c_void> = AtomicPtr::new(std::ptr::null_mut());
+const EMPTY: [AtomicPtr<c_void>; 3] = [NONE; 3];
+static PLACES: [[AtomicPtr<c_void>; 3]; 2] = [EMPTY; 2];
+
+type Weigh = extern "C" fn(*const u8, usize, *const u8, usize, *mut u8, usize) -> WeighedAnswer;
+type CarryOut = extern "C" fn(*const u8, usize, *const u8, usize, *mut u8, usize) -> WrittenAnswer;
+type PlanStep =
+    extern "C" fn(*const u8, usize, *const u8, usize, *mut u8, usize, *mut u8, usize) -> StepAnswer;
+
+/// Loads the shared object of an archive to a place.
+pub fn load(file: &Path, place: usize) -> Result<(), String> {
+    let name = text(&file.to_string_lossy());
+    // SAFETY: the name ends with 0. The file is an archive's, which runs no code when it is loaded.
+    let object = unsafe { dlopen(name.as_ptr(), RTLD_NOW) };
+    if object.is_null() {
+        return Err(reason());
+    }
+    for (function, slot) in NAMES.iter().zip(&PLACES[place]) {
+        let name = text(function);
+        // SAFETY: the object was just opened, and nothing closes it; the name ends with 0.
+        let found = unsafe { dlsym(object, name.as_ptr()) };
+        if found.is_null() {
+            return Err(reason());
+        }
+        slot.store(found, Ordering::Relaxed);
+    }
+    Ok(())
+}
+
+fn text(name: &str) -> CString {
+    CString::new(name).expect("a name without 0")
+}
+
+/// Why loading failed.
+fn reason() -> String {
+    // SAFETY: after a failure this is a text that ends with 0.
+    unsafe { CStr::from_ptr(dlerror()) }
+        .to_string_lossy()
+        .into_owned()
+}
+
+/// The address of a function at a place.
+fn loaded(place: usize, function: usize) -> *mut c_void {
+    let found = PLACES[place][function].load(Ordering::Relaxed);
+    assert!(!found.is_null(), "no archive was loaded");
+    found
+}
+
+/// *Weigh*, as the archive at this place does it.
+pub fn weigh<const PLACE: usize>(sheet: &[u8], plan: &[u8], least: &mut [u8]) -> WeighedAnswer {
+    // SAFETY: what has this name in an archive has this type.
+    let weigh: Weigh = unsafe { mem::transmute(loaded(PLACE, WEIGH)) };
+    weigh(
+        sheet.as_ptr(),
+        sheet.len(),
+        plan.as_ptr(),
+        plan.len(),
+        least.as_mut_ptr(),
+        least.len(),
+    )
+}
+
+/// *Plan a step*, as the archive at this place does it.
+pub fn plan_step<const PLACE: usize>(
+    sheet: &[u8],
+    old: &[u8],
+    plan: &mut [u8],
+    moves: &mut [u8],
+) -> StepAnswer {
+    // SAFETY: what has this name in an archive has this type.
+    let plan_step: PlanStep = unsafe { mem::transmute(loaded(PLACE, PLAN_STEP)) };
+    plan_step(
+        sheet.as_ptr(),
+        sheet.len(),
+        old.as_ptr(),
+        old.len(),
+        plan.as_mut_ptr(),
+        plan.len(),
+        moves.as_mut_ptr(),
+        moves.len(),
+    )
+}
+
+/// *Carry out*, as the archive at this place does it.
+pub fn carry_out<const PLACE: usize>(sheet: &[u8], moves: &[u8], next: &mut [u8]) -> WrittenAnswer {
+    // SAFETY: what has this name in an archive has this type.
+    let carry_out: CarryOut = unsafe { mem::transmute(loaded(PLACE, CARRY_OUT)) };
+    carry_out(
+        sheet.as_ptr(),
+        sheet.len(),
+        moves.as_ptr(),
+        moves.len(),
+        next.as_mut_ptr(),
+        next.len(),
+    )
+}

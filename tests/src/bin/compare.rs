@@ -1,0 +1,91 @@
+//! `compare EARLIER.a LATER.a [WORD...]` times two archives in turn, at 64
+//! nodes: microseconds for one call of each, and the ratio of later to earlier,
+//! all of them medians of five runs, and the smallest and the largest ratio.
+//! WORDs choose the rows that have them all. FIRROZKA_RUNS and FIRROZKA_SAMPLES
+//! give other numbers of runs and of samples. It needs a C compiler to link.
+#![forbid(unsafe_code)]
+
+use firrozka_tests::settings::setting;
+use firrozka_tests::speed::compared::{agree, compare, median};
+use firrozka_tests::speed::table::{rows, Row};
+use std::path::{Path, PathBuf};
+use std::{env, fs, process};
+
+fn main() {
+    let mut words = env::args().skip(1);
+    let (earlier, later) = match (words.next(), words.next()) {
+        (Some(earlier), Some(later)) => (earlier, later),
+        _ => stop("usage: compare EARLIER.a LATER.a [WORD...]"),
+    };
+    let words: Vec<String> = words.collect();
+    let chosen = |row: &Row| words.iter().all(|word| row.name().contains(word));
+    let rows: Vec<Row> = rows().into_iter().filter(chosen).collect();
+    let archives = [Path::new(&earlier), Path::new(&later)];
+    let samples = setting("FIRROZKA_SAMPLES", 51);
+
+    let mut times = vec![Vec::new(); rows.len()];
+    for run in 0..setting("FIRROZKA_RUNS", 5) {
+        let folder = Folder::new(run);
+        let run = compare(archives, &rows, samples, &folder.0);
+        let run = run.unwrap_or_else(|error| stop(&error));
+        times
+            .iter_mut()
+            .zip(run)
+            .for_each(|(row, time)| row.push(time));
+    }
+    print(&rows, &times);
+}
+
+/// A line for each row, and the largest median.
+fn print(rows: &[Row], times: &[Vec<[f64; 2]>]) {
+    println!(
+        "operation    sheet   outcome            inputs    | earlier  later | ratio   from     to"
+    );
+    println!(
+        "--------------------------------------------------+----------------+--------------------"
+    );
+    let mut worst: f64 = 0.0;
+    for (row, times) in rows.iter().zip(times) {
+        let column =
+            |number: fn(&[f64; 2]) -> f64| -> Vec<f64> { times.iter().map(number).collect() };
+        let ratios = column(|[earlier, later]| later / earlier);
+        let ratio = median(&ratios);
+        println!(
+            "{} | {:7.2} {:6.2} | {:5.3} {:6.3} {:6.3}{}",
+            row.name(),
+            median(&column(|times| times[0])),
+            median(&column(|times| times[1])),
+            ratio,
+            ratios.iter().copied().fold(f64::INFINITY, f64::min),
+            ratios.iter().copied().fold(0.0, f64::max),
+            if agree(row) { "" } else { "  other bytes" },
+        );
+        worst = worst.max(ratio);
+    }
+    println!("the largest ratio of later to earlier: {worst:.3}");
+}
+
+fn stop(why: &str) -> ! {
+    eprintln!("{why}");
+    process::exit(2)
+}
+
+/// A folder of this run alone, removed behind it. Its name is new, since objects
+/// of a name that was loaded before would not be loaded again.
+struct Folder(PathBuf);
+
+impl Folder {
+    fn new(run: usize) -> Folder {
+        let name = format!("firrozka-compare-{}-{run}", process::id());
+        let folder = env::temp_dir().join(name);
+        fs::create_dir_all(&folder).expect("a folder for shared objects");
+        Folder(folder)
+    }
+}
+
+impl Drop for Folder {
+    fn drop(&mut self) {
+        // What stays behind in a temporary folder harms nobody.
+        let _ = fs::remove_dir_all(&self.0);
+    }
+}
