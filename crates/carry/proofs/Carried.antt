@@ -1,16 +1,16 @@
 -- What carrying out needs of a sheet and moves that were accepted, and one law for each way out: the answer, and the buffer as it is
 -- then. Assumes nothing.
-use mathlib.Core.Path.{_≡_, refl, ap, _∙_}
+use mathlib.Core.Path.{_≡_, ap, _∙_}
 use mathlib.Core.Logic.{_≢_}
-use mathlib.Core.Bool.{Bool, true, false, cond}
+use mathlib.Core.Bool.{true, false}
 use mathlib.Core.List.{List}
-use Prim.Native.Nat.{ℕ, _≤_, _<_}
+use Prim.Native.Nat.{ℕ}
 use native.Mathlib.Omega.{arith}
-use borrow.Author.Tests.{lt-ltb, le-ltb, ltb-false, ltb-true, eq-eqb, ne-eqb}
-use lib.Dec.{ltb}
+use borrow.Author.Tests.{lt-ltb, le-ltb, eq-eqb, ne-eqb}
 use lib.ListN.{length}
 use Rattle.words.specs.Buffer.{placed, written, writing}
 use Rattle.words.specs.declared.Written.the-variants.{Bytes, Short}
+use Rattle.words.proofs.Buffer.{writing-bytes, writing-short}
 use Rattle.sheet.specs.declared.Sheet.{Sheet}
 use Rattle.sheet.specs.declared.SheetAnswer.{SheetAnswer}
 use Rattle.sheet.specs.Sheet.{readSheet, accepted as sheetAccepted}
@@ -56,27 +56,6 @@ module _ {s m : List ℕ} {h : Sheet} {q : Moves} (r : CarryRead s m h q) where
     pub carried-is : carried table (routesOf m (q .e)) (countsOf m (q .e)) ≡ nextTable s m
     carried-is = rw (is, ← r .sheet, ← r .moves)
 
--- ---- what is written
-
-module _ (rec out : List ℕ) where
-  -- what a writer answers says whether the record fits, and so what it wrote
-  pub wrote : (size : ℕ) → Bytes size ≡ writing rec out
-      → (size ≡ length rec) × (length rec ≤ length out) × (written rec out ≡ placed rec out)
-  wrote size e = go (ltb (length out) (length rec)) refl e
-    where
-      go : (b : Bool) → ltb (length out) (length rec) ≡ b → Bytes size ≡ cond b Short (Bytes (length rec))
-          → (size ≡ length rec) × (length rec ≤ length out) × (cond b out (placed rec out) ≡ placed rec out)
-      go true w q = let z : _≡_ {A = ℕ} 0 1 = cc in absurd (omega arith)
-      go false w q = let z : size ≡ length rec = cc in (z, ltb-false (length out) (length rec) w, refl)
-
-  pub short : Short ≡ writing rec out → (length out < length rec) × (written rec out ≡ out)
-  short e = go (ltb (length out) (length rec)) refl e
-    where
-      go : (b : Bool) → ltb (length out) (length rec) ≡ b → Short ≡ cond b Short (Bytes (length rec))
-          → (length out < length rec) × (cond b out (placed rec out) ≡ out)
-      go true w q = (ltb-true (length out) (length rec) w, refl)
-      go false w q = let z : _≡_ {A = ℕ} 0 1 = cc in absurd (omega arith)
-
 -- ---- the ways out
 
 module _ (s m out : List ℕ) where
@@ -118,7 +97,7 @@ module _ {s m : List ℕ} {h : Sheet} {q : Moves} (r : CarryRead s m h q) (out :
       pub ends-carried : (size : ℕ) → Bytes size ≡ writing rec out → Ends s m out (accepted size) (written rec out)
       unfolding carryAnswer
       ends-carried size b =
-          let z = wrote rec out size b in
+          let z = writing-bytes rec out size b in
           let fits = le-ltb (length out) (length (nextSheet s m)) (rw next-is at (z .1)) in
           let a : accepted size ≡ carryAnswer s m (length out) =
           rw (z .0, next-is, w, fits) (rw (← r .sheet, ← r .moves, eq-eqb (h .n) (q .n) same)) in
@@ -127,6 +106,6 @@ module _ {s m : List ℕ} {h : Sheet} {q : Moves} (r : CarryRead s m h q) (out :
       pub ends-short : Short ≡ writing rec out → Ends s m out (refused 43) (written rec out)
       unfolding carryAnswer
       ends-short b =
-          let z = short rec out b in
+          let z = writing-short rec out b in
           let short = lt-ltb (length out) (length (nextSheet s m)) (rw next-is at (z .0)) in
           rw (z .1) (refuses s m out 43 (λ z. omega arith) (rw (w, short) (rw (← r .sheet, ← r .moves, eq-eqb (h .n) (q .n) same))))

@@ -22,7 +22,7 @@ use Rattle.limit.specs.Limit.{maxNodes, maxTotal, tableSize}
 use Rattle.moves.specs.Moves.{route, subdomain, sender, receiver, routeFine, countFine}
 use Rattle.moves.proofs.Laws.{route-subdomain, route-sender, route-receiver, route-of, count-of}
 use Rattle.transfer.specs.Matching.{Move, surplusOf, shortageOf, matched, movesBetween, routeOf, countOf}
-use Rattle.transfer.specs.Apply.{fromCell, intoCell, sends, receives}
+use Rattle.transfer.specs.Apply.{fromCell, intoCell, moved, sends, receives}
 use Rattle.transfer.proofs.Turns.{Turn, walk}
 use Rattle.transfer.proofs.Ends.{moved-none, moved-here, moved-other}
 
@@ -195,52 +195,30 @@ module _ (nodes : ℕ) (surplus shortage : ℕ → ℕ) where
         ⊎-elim (λ l. omega (arith, sum-fewer nodes s surplus l)) (λ l. omega (arith, sum-fewer nodes r shortage l)) h in
         (omega (arith, moved-none fromCell [] (cell k n)), omega (arith, moved-none intoCell [] (cell k n)))
 
+    -- one move more, seen at either end: f is what its nodes have to move, and i has moved x of its own before
+    end-moved : (end : ℕ → ℕ) (f : ℕ → ℕ) (i x m after route : ℕ) (routes counts : List ℕ) → end route ≡ cell i n → x + m ≤ f i
+        → after ≡ sum i f + x + m
+        → moved end routes counts (cell k n) ≡ beyond f k after
+        → moved end (route ∷ routes) (m ∷ counts) (cell k n) ≡ beyond f k (sum i f + x)
+    end-moved end f i x m after route routes counts e fits is ih = elim (ℕ-discrete k i) [
+      | yes q ↦
+          moved-here end route m routes counts (cell k n) (omega (arith, e)) ∙ ap (λ (y : ℕ). m + y) (rw is at ih)
+          ∙ beyond-here f k i x m fits q
+      | no d ↦
+          moved-other end route m routes counts (cell k n) (λ z. d (omega (arith, e))) ∙ rw is at ih ∙ beyond-other f k i x m fits d
+    ]
+
     left-move : (s sent r got m s′ sent′ r′ got′ : ℕ) (rest : List Move) → Turn nodes surplus shortage s sent r got m s′ sent′ r′ got′
         → Left s′ sent′ r′ got′ rest → Left s sent r got (record { sender = s; receiver = r; count = m } ∷ rest)
     left-move s sent r got m s′ sent′ r′ got′ rest t p q =
         let ih = p (omega (arith, t .sends, t .gets)) in
-        let mv : Move = record { sender = s; receiver = r; count = m } in
         let hs : s < 64 = omega (arith, t .s-lt) in
         let hr : r < 64 = omega (arith, t .r-lt) in
-        let ed = route-subdomain n (mv .sender) (mv .receiver) hs hr in
-        let es = route-sender n (mv .sender) (mv .receiver) hs hr in
-        let er = route-receiver n (mv .sender) (mv .receiver) hs hr in (
-          (elim (ℕ-discrete k s) [
-            | yes e ↦
-                omega (
-                  arith,
-                  ih .0,
-                  t .sends,
-                  beyond-here surplus k s sent m (t .surplus-le) e,
-                  moved-here fromCell (routeOf n mv) m (map (routeOf n) rest) (map countOf rest) (cell k n) (omega arith),
-                )
-            | no d ↦
-                omega (
-                  arith,
-                  ih .0,
-                  t .sends,
-                  beyond-other surplus k s sent m (t .surplus-le) d,
-                  moved-other fromCell (routeOf n mv) m (map (routeOf n) rest) (map countOf rest) (cell k n) (λ z. d (omega arith)),
-                )
-          ]),
-          (elim (ℕ-discrete k r) [
-            | yes e ↦
-                omega (
-                  arith,
-                  ih .1,
-                  t .gets,
-                  beyond-here shortage k r got m (t .shortage-le) e,
-                  moved-here intoCell (routeOf n mv) m (map (routeOf n) rest) (map countOf rest) (cell k n) (omega arith),
-                )
-            | no d ↦
-                omega (
-                  arith,
-                  ih .1,
-                  t .gets,
-                  beyond-other shortage k r got m (t .shortage-le) d,
-                  moved-other intoCell (routeOf n mv) m (map (routeOf n) rest) (map countOf rest) (cell k n) (λ z. d (omega arith)),
-                )
-          ]),
+        let ed = route-subdomain n s r hs hr in (
+          end-moved fromCell surplus s sent m (sum s′ surplus + sent′) (route n s r) (map (routeOf n) rest) (map countOf rest)
+              (rw (route-sender n s r hs hr, ed)) (t .surplus-le) (t .sends) (ih .0),
+          end-moved intoCell shortage r got m (sum r′ shortage + got′) (route n s r) (map (routeOf n) rest) (map countOf rest)
+              (rw (route-receiver n s r hs hr, ed)) (t .shortage-le) (t .gets) (ih .1),
         )
 
     left-all : Left 0 0 0 0 all

@@ -180,16 +180,16 @@ matched-eq nodes f g f′ g′ ef eg (suc turns) s sent r got = elim (decLe node
         let hs : s < nodes = omega (arith, ds) in
         let hr : r < nodes = omega (arith, dr) in
         let m = pair nodes f g s sent r got in
-        let e : pair nodes f′ g′ s sent r got ≡ m = omega (arith, ef s hs, eg r hr) in
         elim (decLe (f s - sent) (g r - got)) [
           | yes h ↦
               turn-sender nodes f g turns s sent r got hs hr h
               ∙ rw (matched-eq nodes f g f′ g′ ef eg turns (s + 1) 0 r (got + m))
-              (sym (turn-sender nodes f′ g′ turns s sent r got hs hr (omega (arith, ef s hs, eg r hr)) ∙ rw e))
+              (sym (turn-sender nodes f′ g′ turns s sent r got hs hr (rw (← ef s hs, ← eg r hr) h) ∙ rw (← ef s hs, ← eg r hr)))
           | no d ↦
-              turn-receiver nodes f g turns s sent r got hs hr (omega (arith, d))
+              let h : g r - got < f s - sent = omega (arith, d) in
+              turn-receiver nodes f g turns s sent r got hs hr h
               ∙ rw (matched-eq nodes f g f′ g′ ef eg turns s (sent + m) (r + 1) 0)
-              (sym (turn-receiver nodes f′ g′ turns s sent r got hs hr (omega (arith, d, ef s hs, eg r hr)) ∙ rw e))
+              (sym (turn-receiver nodes f′ g′ turns s sent r got hs hr (rw (← ef s hs, ← eg r hr) h) ∙ rw (← ef s hs, ← eg r hr)))
         ]
   ]
 ]

@@ -1,11 +1,13 @@
 -- Laws of stores into a lent buffer: runs of words, one after the other, and apart from each other. Assumes nothing.
 use mathlib.Core.Path.{_≡_, refl, sym, ap, _∙_}
+use mathlib.Core.Bool.{Bool, true, false, cond}
 use mathlib.Core.List.{List, [], _∷_, _++_}
 use Prim.Native.Nat.{ℕ, suc, _+_, _*_, _≤_, _<_}
 use native.Mathlib.Nat.{suc-add, add-suc, add-zero, zero-add}
 use native.Mathlib.Numerals.{add-one, add-two, add-three}
 use native.Mathlib.Omega.{arith}
-use borrow.Author.Tests.{lt-ltb, le-ltb, eq-eqb}
+use borrow.Author.Tests.{lt-ltb, le-ltb, ltb-false, ltb-true, eq-eqb}
+use lib.Dec.{ltb}
 use lib.ListN.{length, take, drop, set, length-append}
 use lib.Seq.{sets, sets-eq, set-comm, take-at}
 use Rattle.words.specs.Words.{bytesOf, encode, putWord}
@@ -70,6 +72,25 @@ module _ (rec out : List ℕ) (k : ℕ) (e : length rec ≡ k) where
 
   pub long-writes : k ≤ length out → (Bytes k ≡ writing rec out) × (placed rec out ≡ written rec out)
   long-writes h = rw (le-ltb (length out) (length rec) (omega arith)) (ap Bytes (sym e), refl)
+
+-- and back: what a writer answers says whether the record fits, and so what it wrote
+module _ (rec out : List ℕ) where
+  pub writing-bytes : (size : ℕ) → Bytes size ≡ writing rec out
+      → (size ≡ length rec) × (length rec ≤ length out) × (written rec out ≡ placed rec out)
+  writing-bytes size e = go (ltb (length out) (length rec)) refl e
+    where
+      go : (b : Bool) → ltb (length out) (length rec) ≡ b → Bytes size ≡ cond b Short (Bytes (length rec))
+          → (size ≡ length rec) × (length rec ≤ length out) × (cond b out (placed rec out) ≡ placed rec out)
+      go true w q = let z : _≡_ {A = ℕ} 0 1 = cc in absurd (omega arith)
+      go false w q = let z : size ≡ length rec = cc in (z, ltb-false (length out) (length rec) w, refl)
+
+  pub writing-short : Short ≡ writing rec out → (length out < length rec) × (written rec out ≡ out)
+  writing-short e = go (ltb (length out) (length rec)) refl e
+    where
+      go : (b : Bool) → ltb (length out) (length rec) ≡ b → Short ≡ cond b Short (Bytes (length rec))
+          → (length out < length rec) × (cond b out (placed rec out) ≡ out)
+      go true w q = (ltb-true (length out) (length rec) w, refl)
+      go false w q = let z : _≡_ {A = ℕ} 0 1 = cc in absurd (omega arith)
 
 -- after an accepted call the bytes of the record's length are the record
 pub after-front : (refusal : ℕ) (rec out : List ℕ) → refusal ≡ 0 → take (length rec) (afterCall refusal rec out) ≡ rec

@@ -8,6 +8,7 @@ use Prim.Native.Nat.{ℕ}
 use native.Mathlib.Omega.{arith}
 use borrow.Author.Tests.{not-true, not-false}
 use denote.Ref.{now}
+use Rattle.words.proofs.Buffer.{writing-bytes}
 use Rattle.sheet.specs.declared.Sheet.{Sheet}
 use Rattle.sheet.specs.Sheet.{accepted}
 use Rattle.sheet.specs.Write.{sheetBytes}
@@ -16,7 +17,7 @@ use Rattle.moves.specs.declared.Moves.{Moves}
 use Rattle.moves.specs.Moves.{routesOf, countsOf}
 use Rattle.transfer.specs.Apply.{sendsWithin}
 use Rattle.carry.specs.Carry.{withinIn, nextTable}
-use Rattle.carry.proofs.Carried.{sheet-facts, ready, within-is, carried-is, wrote, ends-differ, ends-sends, ends-carried, ends-short}
+use Rattle.carry.proofs.Carried.{sheet-facts, ready, within-is, carried-is, ends-differ, ends-sends, ends-carried, ends-short}
 use Rattle.carry.proofs.Sizes.{length-most}
 use Rattle.carry.proofs.carry_read.Statement.{statement}
 use Rattle.transfer.specs.Inner.{Ready}
@@ -142,7 +143,7 @@ cast c =
     let size = c .before .size .given in
     let w = answered (c .before .before .before) in
     let h = head (b₀ w) in
-    let z = wrote (rec w) (next (b₀ w)) (size .0 .0) (sym (size .1) ∙ w .write-sheet .ensures .0) in
+    let z = writing-bytes (rec w) (next (b₀ w)) (size .0 .0) (sym (size .1) ∙ w .write-sheet .ensures .0) in
     omega (arith, z .0, length-most (h .n) (h .t) (table (applied w)) (facts (b₀ w) .n-high))
 
 pub carry-read-spec : {M : Type 1} → statement M
