@@ -109,7 +109,7 @@ fn names_stand_in_their_files() {
         let text = text.unwrap_or_default();
         for name in names {
             // A field is named behind its record, and an item behind its module.
-            let word = name.rsplit(|c| c == '.' || c == ':').next().unwrap_or(name);
+            let word = name.rsplit(['.', ':']).next().unwrap_or(name);
             seen += 1;
             if !has_word(&text, word) {
                 wrong.push(format!("no {name} in {path}"));

@@ -6,10 +6,10 @@
 
 use firrozka::ffi::{StepAnswer, WeighedAnswer, WrittenAnswer};
 use std::ffi::{CStr, CString};
-use std::mem;
 use std::os::raw::{c_char, c_int, c_void};
 use std::path::Path;
 use std::sync::atomic::{AtomicPtr, Ordering};
+use std::{mem, ptr};
 
 extern "C" {
     fn dlopen(file: *const c_char, mode: c_int) -> *mut c_void;
@@ -20,15 +20,25 @@ extern "C" {
 /// All names are looked up at once.
 const RTLD_NOW: c_int = 2;
 
-/// The functions that are loaded, and their order at a place.
-const NAMES: [&str; 3] = ["firrozka_weigh", "firrozka_plan_step", "firrozka_carry_out"];
-const WEIGH: usize = 0;
-const PLAN_STEP: usize = 1;
-const CARRY_OUT: usize = 2;
+/// Where the functions of a loaded archive lie.
+struct Archive {
+    weigh: AtomicPtr<c_void>,
+    plan_step: AtomicPtr<c_void>,
+    carry_out: AtomicPtr<c_void>,
+}
 
-const NONE: AtomicPtr<c_void> = AtomicPtr::new(std::ptr::null_mut());
-const EMPTY: [AtomicPtr<c_void>; 3] = [NONE; 3];
-static PLACES: [[AtomicPtr<c_void>; 3]; 2] = [EMPTY; 2];
+impl Archive {
+    /// None was loaded yet.
+    const fn none() -> Archive {
+        Archive {
+            weigh: AtomicPtr::new(ptr::null_mut()),
+            plan_step: AtomicPtr::new(ptr::null_mut()),
+            carry_out: AtomicPtr::new(ptr::null_mut()),
+        }
+    }
+}
+
+static PLACES: [Archive; 2] = [Archive::none(), Archive::none()];
 
 type Weigh = extern "C" fn(*const u8, usize, *const u8, usize, *mut u8, usize) -> WeighedAnswer;
 type CarryOut = extern "C" fn(*const u8, usize, *const u8, usize, *mut u8, usize) -> WrittenAnswer;
@@ -43,14 +53,19 @@ pub fn load(file: &Path, place: usize) -> Result<(), String> {
     if object.is_null() {
         return Err(reason());
     }
-    for (function, slot) in NAMES.iter().zip(&PLACES[place]) {
-        let name = text(function);
+    let archive = &PLACES[place];
+    for (function, name) in [
+        (&archive.weigh, "firrozka_weigh"),
+        (&archive.plan_step, "firrozka_plan_step"),
+        (&archive.carry_out, "firrozka_carry_out"),
+    ] {
+        let name = text(name);
         // SAFETY: the object was just opened, and nothing closes it; the name ends with 0.
         let found = unsafe { dlsym(object, name.as_ptr()) };
         if found.is_null() {
             return Err(reason());
         }
-        slot.store(found, Ordering::Relaxed);
+        function.store(found, Ordering::Relaxed);
     }
     Ok(())
 }
@@ -67,9 +82,9 @@ fn reason() -> String {
         .into_owned()
 }
 
-/// The address of a function at a place.
-fn loaded(place: usize, function: usize) -> *mut c_void {
-    let found = PLACES[place][function].load(Ordering::Relaxed);
+/// The address of a function, once its archive is loaded.
+fn loaded(function: &AtomicPtr<c_void>) -> *mut c_void {
+    let found = function.load(Ordering::Relaxed);
     assert!(!found.is_null(), "no archive was loaded");
     found
 }
@@ -77,7 +92,7 @@ fn loaded(place: usize, function: usize) -> *mut c_void {
 /// *Weigh*, as the archive at this place does it.
 pub fn weigh<const PLACE: usize>(sheet: &[u8], plan: &[u8], least: &mut [u8]) -> WeighedAnswer {
     // SAFETY: what has this name in an archive has this type.
-    let weigh: Weigh = unsafe { mem::transmute(loaded(PLACE, WEIGH)) };
+    let weigh: Weigh = unsafe { mem::transmute(loaded(&PLACES[PLACE].weigh)) };
     weigh(
         sheet.as_ptr(),
         sheet.len(),
@@ -96,7 +111,7 @@ pub fn plan_step<const PLACE: usize>(
     moves: &mut [u8],
 ) -> StepAnswer {
     // SAFETY: what has this name in an archive has this type.
-    let plan_step: PlanStep = unsafe { mem::transmute(loaded(PLACE, PLAN_STEP)) };
+    let plan_step: PlanStep = unsafe { mem::transmute(loaded(&PLACES[PLACE].plan_step)) };
     plan_step(
         sheet.as_ptr(),
         sheet.len(),
@@ -112,7 +127,7 @@ pub fn plan_step<const PLACE: usize>(
 /// *Carry out*, as the archive at this place does it.
 pub fn carry_out<const PLACE: usize>(sheet: &[u8], moves: &[u8], next: &mut [u8]) -> WrittenAnswer {
     // SAFETY: what has this name in an archive has this type.
-    let carry_out: CarryOut = unsafe { mem::transmute(loaded(PLACE, CARRY_OUT)) };
+    let carry_out: CarryOut = unsafe { mem::transmute(loaded(&PLACES[PLACE].carry_out)) };
     carry_out(
         sheet.as_ptr(),
         sheet.len(),

@@ -8,8 +8,8 @@
 use firrozka_tests::settings::setting;
 use firrozka_tests::speed::compared::{agree, compare, median};
 use firrozka_tests::speed::table::{rows, Row};
-use std::path::{Path, PathBuf};
-use std::{env, fs, process};
+use std::path::Path;
+use std::{env, process};
 
 fn main() {
     let mut words = env::args().skip(1);
@@ -24,10 +24,8 @@ fn main() {
     let samples = setting("FIRROZKA_SAMPLES", 51);
 
     let mut times = vec![Vec::new(); rows.len()];
-    for run in 0..setting("FIRROZKA_RUNS", 5) {
-        let folder = Folder::new(run);
-        let run = compare(archives, &rows, samples, &folder.0);
-        let run = run.unwrap_or_else(|error| stop(&error));
+    for _ in 0..setting("FIRROZKA_RUNS", 5) {
+        let run = compare(archives, &rows, samples).unwrap_or_else(|error| stop(&error));
         times
             .iter_mut()
             .zip(run)
@@ -68,24 +66,4 @@ fn print(rows: &[Row], times: &[Vec<[f64; 2]>]) {
 fn stop(why: &str) -> ! {
     eprintln!("{why}");
     process::exit(2)
-}
-
-/// A folder of this run alone, removed behind it. Its name is new, since objects
-/// of a name that was loaded before would not be loaded again.
-struct Folder(PathBuf);
-
-impl Folder {
-    fn new(run: usize) -> Folder {
-        let name = format!("firrozka-compare-{}-{run}", process::id());
-        let folder = env::temp_dir().join(name);
-        fs::create_dir_all(&folder).expect("a folder for shared objects");
-        Folder(folder)
-    }
-}
-
-impl Drop for Folder {
-    fn drop(&mut self) {
-        // What stays behind in a temporary folder harms nobody.
-        let _ = fs::remove_dir_all(&self.0);
-    }
 }

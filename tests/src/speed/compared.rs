@@ -9,8 +9,10 @@ use super::timing::in_turn;
 use crate::implementations::{Implementation, REFERENCE};
 use firrozka_loaded as loaded;
 use std::io::{self, Write};
-use std::path::Path;
-use std::process::{Command, Stdio};
+use std::path::{Path, PathBuf};
+use std::process::{self, Command, Stdio};
+use std::sync::atomic::{AtomicUsize, Ordering};
+use std::{env, fs};
 
 /// Functions are aligned to 16 bytes, so there are four places in a line of 64.
 const PLACES: usize = 4;
@@ -34,18 +36,18 @@ pub const LATER: Implementation = Implementation {
     ..REFERENCE
 };
 
-/// A run: microseconds for one call of the earlier and of the later archive, at
-/// 64 nodes, for each row: medians of so many samples, averaged over the places.
-/// The shared objects are made in this folder, which has none of this run.
+/// One run: microseconds for one call of the earlier and of the later archive,
+/// at 64 nodes, for each row: medians of so many samples, averaged over the
+/// places. Both archives stay loaded.
 pub fn compare(
     archives: [&Path; 2],
     rows: &[Row],
     samples: usize,
-    folder: &Path,
 ) -> Result<Vec<[f64; 2]>, String> {
+    let folder = Folder::new();
     let mut times = vec![[0.0; 2]; rows.len()];
     for place in 0..PLACES {
-        load(archives, place, folder)?;
+        load(archives, place, &folder.0)?;
         for (row, times) in rows.iter().zip(&mut times) {
             for (time, median) in times.iter_mut().zip(in_this_place(row, samples)) {
                 *time += median / PLACES as f64;
@@ -109,4 +111,26 @@ pub fn median(numbers: &[f64]) -> f64 {
     let mut sorted = numbers.to_vec();
     sorted.sort_by(f64::total_cmp);
     sorted[sorted.len() / 2]
+}
+
+/// A folder for the shared objects of one run, removed behind it. Its name is
+/// new, since an object of a name that was loaded before is not loaded again.
+struct Folder(PathBuf);
+
+impl Folder {
+    fn new() -> Folder {
+        static MADE: AtomicUsize = AtomicUsize::new(0);
+        let run = MADE.fetch_add(1, Ordering::Relaxed);
+        let name = format!("firrozka-compare-{}-{run}", process::id());
+        let folder = env::temp_dir().join(name);
+        fs::create_dir_all(&folder).expect("a folder for shared objects");
+        Folder(folder)
+    }
+}
+
+impl Drop for Folder {
+    fn drop(&mut self) {
+        // What stays behind in a temporary folder harms nobody.
+        let _ = fs::remove_dir_all(&self.0);
+    }
 }
