@@ -37,8 +37,9 @@ pub const LATER: Implementation = Implementation {
 };
 
 /// One run: microseconds for one call of the earlier and of the later archive,
-/// at 64 nodes, for each row: medians of so many samples, averaged over the
-/// places. Both archives stay loaded.
+/// at 64 nodes, for each row: lower quartiles of so many samples, since whatever
+/// disturbs a sample makes it longer, averaged over the places. Both archives
+/// stay loaded.
 pub fn compare(
     archives: [&Path; 2],
     rows: &[Row],
@@ -49,8 +50,8 @@ pub fn compare(
     for place in 0..PLACES {
         load(archives, place, &folder.0)?;
         for (row, times) in rows.iter().zip(&mut times) {
-            for (time, median) in times.iter_mut().zip(in_this_place(row, samples)) {
-                *time += median / PLACES as f64;
+            for (time, here) in times.iter_mut().zip(in_this_place(row, samples)) {
+                *time += here / PLACES as f64;
             }
         }
     }
@@ -88,7 +89,7 @@ fn link(archive: &Path, moved: usize, object: &Path) -> io::Result<()> {
     }
 }
 
-/// Medians for one call of both archives, as they are loaded.
+/// Lower quartiles for one call of both archives, as they are loaded.
 fn in_this_place(row: &Row, samples: usize) -> [f64; 2] {
     let job = row.job(64);
     let [earlier, later] = in_turn(
@@ -98,7 +99,7 @@ fn in_this_place(row: &Row, samples: usize) -> [f64; 2] {
             job.run(&LATER, buffers)
         }],
     );
-    [earlier[1], later[1]]
+    [earlier[0], later[0]]
 }
 
 /// Whether both archives write the same bytes in all calls of a row.
