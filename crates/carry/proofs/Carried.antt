@@ -4,10 +4,13 @@ use mathlib.Core.Path.{_≡_, ap, _∙_}
 use mathlib.Core.Logic.{_≢_}
 use mathlib.Core.Bool.{true, false}
 use mathlib.Core.List.{List}
-use Prim.Native.Nat.{ℕ}
+use Prim.Native.Nat.{ℕ, _≤_}
 use native.Mathlib.Omega.{arith}
 use borrow.Author.Tests.{lt-ltb, le-ltb, eq-eqb, ne-eqb}
 use lib.ListN.{length}
+use Rattle.fold.specs.Sum.{sum}
+use Rattle.limit.specs.Limit.{maxTotal, tableSize}
+use Rattle.arrays.specs.Arrays.{at}
 use Rattle.words.specs.Buffer.{placed, written, writing}
 use Rattle.words.specs.declared.Written.the-variants.{Bytes, Short}
 use Rattle.words.proofs.Buffer.{writing-bytes, writing-short}
@@ -39,16 +42,17 @@ module _ {s m : List ℕ} {h : Sheet} {q : Moves} (r : CarryRead s m h q) where
   -- ---- the sheet's table, as it is unpacked
 
   module _ {table : List ℕ} (is : table ≡ tableOf s (h .e)) where
-    -- what testing and applying the moves ask
-    pub ready : Ready table m (q .e)
+    -- what applying the moves asks
+    pub ready : Ready table m (q .e) × (sum tableSize (at table) ≤ maxTotal)
     ready =
-        rw is
-        (record {
-          size = length-table s (h .e);
-          small = table-within s (sheetAccepted (h .n) (h .t) (h .e) (h .p) (h .limit)) sheet-facts;
-          long = omega (arith, moves-facts .size);
-          below = λ i l. omega (arith, route-at m (movesAccepted (q .n) (q .e)) moves-facts i l .subdomain-below, moves-facts .n-high);
-        })
+        rw is (
+          record {
+            size = length-table s (h .e);
+            long = omega (arith, moves-facts .size);
+            below = λ i l. omega (arith, route-at m (movesAccepted (q .n) (q .e)) moves-facts i l .subdomain-below, moves-facts .n-high);
+          },
+          table-within s (sheetAccepted (h .n) (h .t) (h .e) (h .p) (h .limit)) sheet-facts,
+        )
 
     pub within-is : sendsWithin table (routesOf m (q .e)) (countsOf m (q .e)) ≡ withinIn s m
     within-is = rw (is, ← r .sheet, ← r .moves)

@@ -23,8 +23,7 @@ use Rattle.sheet.proofs.RoundTrip.{Writable, read-written, table-written}
 use Rattle.moves.specs.Moves.{readMoves}
 use Rattle.moves.proofs.Accepted.{moves-accepted, routes-are, counts-are}
 use Rattle.transfer.proofs.Acceptable.{Acceptable}
-use Rattle.transfer.proofs.Applied.{within-at}
-use Rattle.transfer.proofs.Kept.{acceptable-fine, sum-kept, writable-kept}
+use Rattle.transfer.proofs.Kept.{acceptable-below, sum-kept, writable-kept}
 use Rattle.carry.specs.declared.CarryAnswer.{CarryAnswer}
 use Rattle.carry.specs.Carry.{refused, accepted, routesIn, countsIn, withinIn, nextTable, nextSheet, carryAnswer, nextAfter, SheetReadBack}
 
@@ -105,9 +104,8 @@ module _ {s m : List ℕ} (d : Carriable s m) where
   -- no particle is lost
   pub next-sum : sum tableSize (at (nextTable s m)) ≡ readSheet s .p
   next-sum =
-      let fine = acceptable-fine n₀ (facts .n-high) (routesIn m) (countsIn m) acceptable in
-      sum-kept n₀ (facts .n-high) (routesIn m) (countsIn m) (tableIn s) (writable .size) fine (acceptable .same)
-      (λ c l. within-at (tableIn s) (routesIn m) (countsIn m) (d .within) c (omega (arith, writable .size)))
+      sum-kept (tableIn s) (routesIn m) (countsIn m) (writable .size)
+      (acceptable-below n₀ (facts .n-high) (routesIn m) (countsIn m) acceptable) (d .within)
       ∙ table-sum s (readSheet s) facts
 
   next-read : readSheet (nextSheet s m) ≡ sheetAccepted n₀ t₀ entries (readSheet s .p) (readSheet s .limit)

@@ -43,11 +43,9 @@ fn carry_read(sheet: &[u8], moves: &[u8], s: Sheet, m: Moves, next: &mut [u8]) -
         return Carrying::Refused(CarryRefusal::NodesDiffer);
     }
     let mut table = sheet::table::unpack(sheet, s.e as usize);
-    let e = m.e as usize;
-    if !transfer::apply::sends_within(&table, moves, e) {
+    if !transfer::apply::apply_moves(&mut table, moves, m.e as usize) {
         return Carrying::Refused(CarryRefusal::Sends);
     }
-    transfer::apply::apply_moves(&mut table, moves, e);
     match sheet::write::write_sheet(next, s.n, s.t, &table) {
         Written::Bytes(size) => Carrying::Carried(size as u32),
         Written::Short => Carrying::Refused(CarryRefusal::Buffer),

@@ -13,14 +13,13 @@ use lib.Dec.{leb, eqb}
 use lib.ListN.{length, getD, set, drop, length-set, List·getD-eq-default}
 use lib.Seq.{set-out, getD-set-same, getD-set-other, ext-getD}
 use Rattle.limit.specs.Limit.{tableSize}
-use Rattle.fold.specs.Sum.{only, sum}
+use Rattle.fold.specs.Sum.{only}
 use Rattle.fold.proofs.Tests.{either, and-left, and-right, and-both, only-is, only-not}
-use Rattle.fold.proofs.Sums.{sum-set}
 use Rattle.words.specs.Words.{words}
 use Rattle.words.proofs.Words.{part-more}
 use Rattle.arrays.specs.Arrays.{at}
 use Rattle.moves.specs.Moves.{routesOf, countsOf}
-use Rattle.transfer.specs.Apply.{fromCell, intoCell, sends, receives, withinFrom, sendsWithin, carriedFrom, carried}
+use Rattle.transfer.specs.Apply.{fromCell, intoCell, sends, receives, withinFrom, sendsWithin, eachFrom, lessSends, carried}
 use Rattle.transfer.specs.Inner.{Ready}
 use Rattle.transfer.proofs.Ends.{moved-none, moved-one, moved-here}
 
@@ -49,38 +48,57 @@ entry-read table moves e i ready h route count is-route is-count =
       counts = part-more moves (2 + e) e i h (omega (arith, ready .long));
     })
 
--- ---- the table that follows
+-- ---- each cell of a table
 
-module _ (routes counts : List ℕ) where
-  from-at : (c : ℕ) (table : List ℕ) (i : ℕ) → i < length table
-      → getD (carriedFrom routes counts c table) i 0 ≡ getD table i 0 - sends routes counts (c + i) + receives routes counts (c + i)
-  unfolding carriedFrom
+module _ (f : ℕ → ℕ → ℕ) where
+  from-at : (c : ℕ) (table : List ℕ) (i : ℕ) → i < length table → getD (eachFrom f c table) i 0 ≡ f (c + i) (getD table i 0)
+  unfolding eachFrom
   from-at c [] i h = absurd (omega arith)
   from-at c (x ∷ table) zero h = rw (add-zero c)
   from-at c (x ∷ table) (suc i) h =
       let e : c + suc i ≡ c + 1 + i = omega arith in
       rw e (from-at (c + 1) table i (omega arith))
 
-  from-length : (c : ℕ) (table : List ℕ) → length (carriedFrom routes counts c table) ≡ length table
-  unfolding carriedFrom
-  from-length c [] = refl
-  from-length c (x ∷ table) = ap suc (from-length (c + 1) table)
+  length-each : (c : ℕ) (table : List ℕ) → length (eachFrom f c table) ≡ length table
+  unfolding eachFrom
+  length-each c [] = refl
+  length-each c (x ∷ table) = ap suc (length-each (c + 1) table)
 
-  pub carried-at : (table : List ℕ) (c : ℕ) → c < length table
-      → at (carried table routes counts) c ≡ at table c - sends routes counts c + receives routes counts c
-  carried-at table c h =
+  each-at : (table : List ℕ) (c : ℕ) → c < length table → at (eachFrom f 0 table) c ≡ f c (at table c)
+  each-at table c h =
       let e : 0 + c ≡ c = omega arith in
       rw e at (from-at 0 table c h)
 
-  pub length-carried : (table : List ℕ) → length (carried table routes counts) ≡ length table
-  length-carried table = from-length 0 table
+  -- a table is known by its cells
+  pub each-is : (old table : List ℕ) → length table ≡ length old → ((c : ℕ) → c < length old → at table c ≡ f c (at old c))
+      → table ≡ eachFrom f 0 old
+  each-is old table size cells =
+      ext-getD 0 table (eachFrom f 0 old) (size ∙ sym (length-each 0 old))
+      (λ c l.
+      let b : c < length old = omega arith in
+      cells c b ∙ sym (each-at old c b))
 
-pub carried-none : (table : List ℕ) → carried table [] [] ≡ table
-carried-none table =
-    ext-getD 0 (carried table [] []) table (length-carried [] [] table)
-    (λ c l.
-    let b : c < length table = omega (arith, length-carried [] [] table) in
-    omega (arith, carried-at [] [] table c b, moved-none fromCell [] c, moved-none intoCell [] c))
+-- ---- the table that follows
+
+module _ (routes counts table : List ℕ) where
+  abbrev less : ℕ → ℕ → ℕ
+  less c x = x - sends routes counts c
+
+  abbrev plus : ℕ → ℕ → ℕ
+  plus c x = x + receives routes counts c
+
+  pub length-less : length (lessSends table routes counts) ≡ length table
+  length-less = length-each less 0 table
+
+  pub length-carried : length (carried table routes counts) ≡ length table
+  length-carried = length-each plus 0 (lessSends table routes counts) ∙ length-less
+
+  module _ (c : ℕ) (h : c < length table) where
+    pub carried-from : at (carried table routes counts) c ≡ at (lessSends table routes counts) c + receives routes counts c
+    carried-from = each-at plus (lessSends table routes counts) c (omega (arith, length-less))
+
+    pub carried-at : at (carried table routes counts) c ≡ at table c - sends routes counts c + receives routes counts c
+    carried-at = rw (← each-at less table c h) carried-from
 
 -- ---- the test against the table before any move
 
@@ -158,12 +176,12 @@ module _ (xs : List ℕ) (i k c : ℕ) where
     | no d ↦ omega (arith, getD-set-other xs i c (at xs i + k) 0 (λ z. d (sym z)), only-not (eqb i c) k (ne-eqb i c d))
   ]
 
--- the table without what leaves, and then with what arrives
+-- the table without what leaves, and a table with what arrives
 abbrev pub taken : List ℕ → ℕ → ℕ → List ℕ
 taken table route count = set table (fromCell route) (at table (fromCell route) - count)
 
-abbrev pub applied : List ℕ → ℕ → ℕ → List ℕ
-applied table route count = set (taken table route count) (intoCell route) (at (taken table route count) (intoCell route) + count)
+abbrev pub given : List ℕ → ℕ → ℕ → List ℕ
+given table route count = set table (intoCell route) (at table (intoCell route) + count)
 
 -- ---- one move passes the test, or fails it
 
@@ -207,66 +225,3 @@ module _ (table : List ℕ) (route count : ℕ) (routes counts : List ℕ) (size
                 within-at table (route ∷ routes) (count ∷ counts) t c (omega (arith, same)),
               )))
               ∙ e))
-
--- ---- one move applied
-
-module _ (table : List ℕ) (route count : ℕ) (size : length table ≡ tableSize) (below : route < 64 * tableSize) where
-  pub applied-length : length (applied table route count) ≡ tableSize
-  applied-length = simp length-set size
-
-  into-lt : intoCell route < length (taken table route count)
-  into-lt = simp length-set (omega (arith, into-below route below))
-
-  module _ (enough : count ≤ at table (fromCell route)) where
-    pub applied-at : (c : ℕ)
-        → at (applied table route count) c + only (eqb (fromCell route) c) count ≡ at table c + only (eqb (intoCell route) c) count
-    applied-at c =
-        omega (arith, less-at table (fromCell route) count c enough, plus-at (taken table route count) (intoCell route) count c into-lt)
-
-    -- all entries add up to the same
-    pub taken-sum : sum tableSize (at (taken table route count)) + count ≡ sum tableSize (at table)
-    taken-sum =
-        omega (
-          arith,
-          sum-set tableSize table (fromCell route) (at table (fromCell route) - count) (from-below route below)
-              (omega (arith, from-below route below)),
-          enough,
-        )
-
-    pub applied-sum : sum tableSize (at (applied table route count)) ≡ sum tableSize (at table)
-    applied-sum =
-        omega (
-          arith,
-          taken-sum,
-          sum-set tableSize (taken table route count) (intoCell route)
-              (at (taken table route count) (intoCell route) + count) (into-below route below) into-lt,
-        )
-
-  module _ (routes counts : List ℕ) (within : (c : ℕ) → c < tableSize → sends (route ∷ routes) (count ∷ counts) c ≤ at table c) where
-    pub applied-enough : count ≤ at table (fromCell route)
-    applied-enough =
-        omega (arith, within (fromCell route) (from-below route below), moved-here fromCell route count routes counts (fromCell route) refl)
-
-    -- what is left to send is there still
-    pub applied-within : (c : ℕ) → c < tableSize → sends routes counts c ≤ at (applied table route count) c
-    applied-within c h = omega (arith, within c h, moved-one fromCell route count routes counts c, applied-at applied-enough c)
-
-    pub carried-more : carried table (route ∷ routes) (count ∷ counts) ≡ carried (applied table route count) routes counts
-    carried-more =
-        let next = applied table route count in
-        ext-getD 0 (carried table (route ∷ routes) (count ∷ counts)) (carried next routes counts)
-        (length-carried (route ∷ routes) (count ∷ counts) table ∙ size ∙ sym (length-carried routes counts next ∙ applied-length))
-        (λ c l.
-        let b : c < tableSize = omega (arith, length-carried (route ∷ routes) (count ∷ counts) table) in
-        let lt : c < length table = omega arith in
-        let ln : c < length next = omega (arith, applied-length) in
-        same (at (carried table (route ∷ routes) (count ∷ counts)) c) (at (carried next routes counts) c) (at table c) (at next c)
-        (sends (route ∷ routes) (count ∷ counts) c) (sends routes counts c) (receives (route ∷ routes) (count ∷ counts) c)
-        (receives routes counts c) (only (eqb (fromCell route) c) count) (only (eqb (intoCell route) c) count)
-        (carried-at (route ∷ routes) (count ∷ counts) table c lt) (carried-at routes counts next c ln)
-        (moved-one fromCell route count routes counts c) (moved-one intoCell route count routes counts c) (applied-at applied-enough c)
-        (within c b))
-      where
-        same : (u v x y s s′ r r′ out into : ℕ) → u ≡ x - s + r → v ≡ y - s′ + r′ → s ≡ out + s′ → r ≡ into + r′ → y + out ≡ x + into
-            → s ≤ x → u ≡ v
-        same u v x y s s′ r r′ out into p q ps pr a w = omega arith

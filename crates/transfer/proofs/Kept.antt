@@ -1,7 +1,6 @@
 -- What any accepted moves keep that are within what the cells hold: each subdomain's total, the sum of the table, and zeros where no
--- node is named. One move takes from a cell and gives to a cell of the same subdomain, and the rest follows move by move. Assumes
--- nothing.
-use mathlib.Core.Path.{_≡_, sym, ap, _∙_}
+-- node is named. Any set of cells that each move takes as much from as it brings to keeps its sum. Assumes nothing.
+use mathlib.Core.Path.{_≡_, refl, sym, ap, _∙_}
 use mathlib.Core.Bool.{Bool, true, false, true≢false}
 use mathlib.Core.List.{List, [], _∷_}
 use Prim.Native.Nat.{ℕ, suc, _+_, _*_, _≤_, _<_}
@@ -22,10 +21,10 @@ use Rattle.arrays.specs.Arrays.{at}
 use Rattle.sheet.specs.Table.{held}
 use Rattle.moves.specs.Moves.{subdomain, sender, receiver, routeFine}
 use Rattle.moves.proofs.Laws.{route-is}
-use Rattle.transfer.specs.Apply.{fromCell, intoCell, sends, receives, sendsWithin, carried}
+use Rattle.transfer.specs.Apply.{fromCell, intoCell, moved, sends, receives, sendsWithin, carried}
 use Rattle.transfer.proofs.Acceptable.{Acceptable}
 use Rattle.transfer.proofs.Ends.{moved-absent}
-use Rattle.transfer.proofs.Applied.{applied, applied-length, applied-at, applied-sum, applied-enough, applied-within, carried-at, length-carried, carried-none, carried-more, within-at}
+use Rattle.transfer.proofs.Applied.{from-below, into-below, carried-at, length-carried, within-at}
 use Rattle.sheet.specs.Totals.{totalOf}
 
 -- each route is fine
@@ -33,9 +32,6 @@ abbrev pub RoutesFine : ℕ → List ℕ → Type 0
 RoutesFine nodes routes = (i : ℕ) → i < length routes → routeFine nodes (getD routes i 0) ≡ true
 
 module _ (nodes : ℕ) (h64 : nodes ≤ maxNodes) where
-  route-below : (route : ℕ) → routeFine nodes route ≡ true → route < 64 * tableSize
-  route-below route f = omega (arith, route-is nodes route f .subdomain-below)
-
   -- ---- no move leads from or to a cell that names no two nodes
 
   module _ (routes counts : List ℕ) (fine : RoutesFine nodes routes) (c : ℕ) (out : cellFine nodes c ≡ false) where
@@ -55,80 +51,92 @@ module _ (nodes : ℕ) (h64 : nodes ≤ maxNodes) where
         true≢false (sym (cell-of nodes c (omega (arith, e, f .receiver-below, f .subdomain-below))
         (omega (arith, e, f .receiver-below, f .subdomain-below))) ∙ out))
 
-  -- ---- one move, in the sum of a subdomain
+-- ---- cells that a route takes as much from as it brings to
 
-  -- a cell of holder o and subdomain d counts once, in its own subdomain
-  column-one : (o d n k : ℕ) → o < nodes → d < 64 → n < 64 → sum nodes (λ j. only (eqb (cell o d) (cell j n)) k) ≡ only (eqb d n) k
-  column-one o d n k ho hd hn = elim (ℕ-discrete d n) [
-    | yes e ↦
-        sum-eq nodes (λ j. only (eqb (cell o d) (cell j n)) k) (λ j. only (eqb j o) k) (λ j l. ap (λ (b : Bool). only b k) (same e j))
-        ∙ sum-only nodes (λ j. k) o ho
-        ∙ sym (only-is (eqb d n) k (eq-eqb d n e))
-    | no q ↦
-        sum-zeros nodes (λ j. only (eqb (cell o d) (cell j n)) k)
-        (λ j l. only-not (eqb (cell o d) (cell j n)) k (ne-eqb (cell o d) (cell j n) (λ z. q (omega (arith, z)))))
-        ∙ sym (only-not (eqb d n) k (ne-eqb d n q))
-  ]
-    where
-      same : d ≡ n → (j : ℕ) → eqb (cell o d) (cell j n) ≡ eqb j o
-      same e j = elim (ℕ-discrete j o) [
-        | yes z ↦ eq-eqb (cell o d) (cell j n) (omega arith) ∙ sym (eq-eqb j o z)
-        | no z ↦ ne-eqb (cell o d) (cell j n) (λ w. z (omega (arith, w))) ∙ sym (ne-eqb j o z)
-      ]
+module _ (m : ℕ) (cells : ℕ → ℕ) where
+  -- what is at cell o, added up over these cells
+  abbrev over : ℕ → ℕ → ℕ
+  over o count = sum m (λ k. only (eqb o (cells k)) count)
 
-  module _ (table : List ℕ) (route count : ℕ) (routes counts : List ℕ) (size : length table ≡ tableSize)
-      (fine : routeFine nodes route ≡ true)
-      (within : (c : ℕ) → c < tableSize → sends (route ∷ routes) (count ∷ counts) c ≤ at table c) (n : ℕ) (hn : n < 64) where
-    total-applied : totalOf nodes (applied table route count) n ≡ totalOf nodes table n
-    total-applied =
-        let f = route-is nodes route fine in
-        let hd : subdomain route < 64 = omega (arith, f .subdomain-below) in
-        let b = route-below route fine in
-        let out : ℕ → ℕ = λ k. only (eqb (fromCell route) (cell k n)) count in
-        let into : ℕ → ℕ = λ k. only (eqb (intoCell route) (cell k n)) count in
-        sums (totalOf nodes (applied table route count) n) (totalOf nodes table n) (sum nodes out) (sum nodes into)
-        (only (eqb (subdomain route) n) count)
-        (sym (sum-add nodes (λ k. held (applied table route count) k n) out)
-        ∙ sum-eq nodes (λ k. held (applied table route count) k n + out k) (λ k. held table k n + into k)
-        (λ k l. applied-at table route count size b (applied-enough table route count size b routes counts within) (cell k n))
-        ∙ sum-add nodes (λ k. held table k n) into)
-        (column-one (sender route) (subdomain route) n count (f .sender-below) hd hn)
-        (column-one (receiver route) (subdomain route) n count (f .receiver-below) hd hn)
-      where
-        sums : (x y a b c : ℕ) → x + a ≡ y + b → a ≡ c → b ≡ c → x ≡ y
-        sums x y a b c p q r = omega arith
+  abbrev Even : List ℕ → Type 0
+  Even routes =
+      (i : ℕ) → i < length routes → (count : ℕ) → over (fromCell (getD routes i 0)) count ≡ over (intoCell (getD routes i 0)) count
 
-  -- ---- all moves
+  even-sums : (routes counts : List ℕ) → Even routes
+      → sum m (λ k. sends routes counts (cells k)) ≡ sum m (λ k. receives routes counts (cells k))
+  unfolding moved
+  even-sums [] counts even = refl
+  even-sums (r ∷ rs) [] even = refl
+  even-sums (r ∷ rs) (count ∷ counts) even =
+      omega (
+        arith,
+        sum-add m (λ k. only (eqb (fromCell r) (cells k)) count) (λ k. sends rs counts (cells k)),
+        sum-add m (λ k. only (eqb (intoCell r) (cells k)) count) (λ k. receives rs counts (cells k)),
+        even 0 (omega arith) count,
+        even-sums rs counts (λ i l. even (suc i) (omega arith)),
+      )
 
-  fine-tail : (route : ℕ) (routes : List ℕ) → RoutesFine nodes (route ∷ routes) → RoutesFine nodes routes
-  fine-tail route routes f i l = f (suc i) (omega arith)
+  -- then they keep their sum
+  even-kept : (table routes counts : List ℕ) → ((k : ℕ) → k < m → cells k < length table) → Even routes
+      → sendsWithin table routes counts ≡ true
+      → sum m (λ k. at (carried table routes counts) (cells k)) ≡ sum m (λ k. at table (cells k))
+  even-kept table routes counts inside even within =
+      let next : ℕ → ℕ = λ k. at (carried table routes counts) (cells k) in
+      let old : ℕ → ℕ = λ k. at table (cells k) in
+      let out : ℕ → ℕ = λ k. sends routes counts (cells k) in
+      let into : ℕ → ℕ = λ k. receives routes counts (cells k) in
+      omega (
+        arith,
+        sum-add m next out,
+        sum-add m old into,
+        sum-eq m (λ k. next k + out k) (λ k. old k + into k) (λ k l. omega (
+          arith,
+          carried-at routes counts table (cells k) (inside k l),
+          within-at table routes counts within (cells k) (inside k l),
+        )),
+        even-sums routes counts even,
+      )
 
-  pub totals-kept : (routes counts table : List ℕ) → length table ≡ tableSize → RoutesFine nodes routes → length routes ≡ length counts
-      → ((c : ℕ) → c < tableSize → sends routes counts c ≤ at table c) → (n : ℕ) → n < 64
-      → totalOf nodes (carried table routes counts) n ≡ totalOf nodes table n
-  totals-kept [] [] table size fine same within n hn = ap (λ (l : List ℕ). totalOf nodes l n) (carried-none table)
-  totals-kept [] (k ∷ ks) table size fine same within n hn = absurd (omega arith)
-  totals-kept (r ∷ rs) [] table size fine same within n hn = absurd (omega arith)
-  totals-kept (r ∷ rs) (k ∷ ks) table size fine same within n hn =
-      let f = fine 0 (omega arith) in
-      let b = route-below r f in
-      rw (carried-more table r k size b rs ks within)
-      (totals-kept rs ks (applied table r k) (applied-length table r k size b) (fine-tail r rs fine) (omega arith)
-      (applied-within table r k size b rs ks within) n hn
-      ∙ total-applied table r k rs ks size f within n hn)
+-- ---- all cells, and the cells of one subdomain
 
-  pub sum-kept : (routes counts table : List ℕ) → length table ≡ tableSize → RoutesFine nodes routes → length routes ≡ length counts
-      → ((c : ℕ) → c < tableSize → sends routes counts c ≤ at table c)
-      → sum tableSize (at (carried table routes counts)) ≡ sum tableSize (at table)
-  sum-kept [] [] table size fine same within = ap (λ (l : List ℕ). sum tableSize (at l)) (carried-none table)
-  sum-kept [] (k ∷ ks) table size fine same within = absurd (omega arith)
-  sum-kept (r ∷ rs) [] table size fine same within = absurd (omega arith)
-  sum-kept (r ∷ rs) (k ∷ ks) table size fine same within =
-      let b = route-below r (fine 0 (omega arith)) in
-      rw (carried-more table r k size b rs ks within)
-      (sum-kept rs ks (applied table r k) (applied-length table r k size b) (fine-tail r rs fine) (omega arith)
-      (applied-within table r k size b rs ks within)
-      ∙ applied-sum table r k size b (applied-enough table r k size b rs ks within))
+eqb-same : (a b c d : ℕ) → (a ≡ b → c ≡ d) → (c ≡ d → a ≡ b) → eqb a b ≡ eqb c d
+eqb-same a b c d f g = elim (ℕ-discrete a b) [
+  | yes e ↦ eq-eqb a b e ∙ sym (eq-eqb c d (f e))
+  | no q ↦ ne-eqb a b q ∙ sym (ne-eqb c d (λ z. q (g z)))
+]
+
+-- cell o is the one of them with index j, and counts once
+once : (m : ℕ) (cells : ℕ → ℕ) (o j count : ℕ) → j < m → ((k : ℕ) → o ≡ cells k → k ≡ j) → ((k : ℕ) → k ≡ j → o ≡ cells k)
+    → over m cells o count ≡ count
+once m cells o j count h f g =
+    sum-eq m (λ k. only (eqb o (cells k)) count) (λ k. only (eqb k j) count)
+    (λ k l. ap (λ (b : Bool). only b count) (eqb-same o (cells k) k j (f k) (g k)))
+    ∙ sum-only m (λ k. count) j h
+
+table-one : (o count : ℕ) → o < tableSize → over tableSize (λ c. c) o count ≡ count
+table-one o count h = once tableSize (λ c. c) o o count h (λ k e. sym e) (λ k e. sym e)
+
+-- the cell of holder o and subdomain d counts in its own subdomain
+column-one : (nodes o d n count : ℕ) → o < nodes → d < 64 → n < 64 → over nodes (λ k. cell k n) (cell o d) count ≡ only (eqb d n) count
+column-one nodes o d n count ho hd hn = elim (ℕ-discrete d n) [
+  | yes e ↦
+      once nodes (λ k. cell k n) (cell o d) o count ho (λ k z. omega arith) (λ k z. omega arith)
+      ∙ sym (only-is (eqb d n) count (eq-eqb d n e))
+  | no q ↦
+      sum-zeros nodes (λ k. only (eqb (cell o d) (cell k n)) count)
+      (λ k l. only-not (eqb (cell o d) (cell k n)) count (ne-eqb (cell o d) (cell k n) (λ z. q (omega (arith, z)))))
+      ∙ sym (only-not (eqb d n) count (ne-eqb d n q))
+]
+
+-- moves that no cell is short of keep the sum of the table
+pub sum-kept : (table routes counts : List ℕ) → length table ≡ tableSize
+    → ((i : ℕ) → i < length routes → getD routes i 0 < 64 * tableSize) → sendsWithin table routes counts ≡ true
+    → sum tableSize (at (carried table routes counts)) ≡ sum tableSize (at table)
+sum-kept table routes counts size below within =
+    even-kept tableSize (λ c. c) table routes counts (λ c l. omega (arith, size))
+    (λ i l count.
+    let r = getD routes i 0 in
+    table-one (fromCell r) count (from-below r (below i l)) ∙ sym (table-one (intoCell r) count (into-below r (below i l)))) within
 
 -- ---- accepted moves
 
@@ -136,12 +144,20 @@ module _ (nodes : ℕ) (h64 : nodes ≤ maxNodes) (routes counts : List ℕ) (a 
   pub acceptable-fine : RoutesFine nodes routes
   acceptable-fine = rising-at (routeFine nodes) 0 routes (a .routes-fine)
 
+  pub acceptable-below : (i : ℕ) → i < length routes → getD routes i 0 < 64 * tableSize
+  acceptable-below i l = omega (arith, route-is nodes (getD routes i 0) (acceptable-fine i l) .subdomain-below)
+
 -- THEOREM. Accepted moves that are not refused with 42 keep each subdomain's total.
 pub total-kept : (nodes : ℕ) (table routes counts : List ℕ) → nodes ≤ maxNodes → length table ≡ tableSize → Acceptable nodes routes counts
     → sendsWithin table routes counts ≡ true → (n : ℕ) → n < nodes → totalOf nodes (carried table routes counts) n ≡ totalOf nodes table n
 total-kept nodes table routes counts h64 size a w n hn =
-    totals-kept nodes h64 routes counts table size (acceptable-fine nodes h64 routes counts a) (a .same)
-    (λ c l. within-at table routes counts w c (omega (arith, size))) n (omega arith)
+    even-kept nodes (λ k. cell k n) table routes counts (λ k l. omega (arith, size))
+    (λ i l count.
+    let r = getD routes i 0 in
+    let f = route-is nodes r (acceptable-fine nodes h64 routes counts a i l) in
+    let d : subdomain r < 64 = omega (arith, f .subdomain-below) in
+    column-one nodes (sender r) (subdomain r) n count (f .sender-below) d (omega arith)
+    ∙ sym (column-one nodes (receiver r) (subdomain r) n count (f .receiver-below) d (omega arith))) w
 
 -- THEOREM. The table after them can be written as a sheet again: it keeps its sum, so that no count wraps, and names no other node.
 pub writable-kept : (nodes t : ℕ) (table routes counts : List ℕ) → Writable nodes t table → Acceptable nodes routes counts
@@ -161,8 +177,7 @@ writable-kept nodes t table routes counts v a w =
         | no d ↦ List·getD-eq-default (carried table routes counts) 0 (omega (arith, size, d))
       ];
       within =
-          rw (sum-kept nodes (v .n-high) routes counts table (v .size) fine (a .same)
-          (λ c l. within-at table routes counts w c (omega (arith, v .size)))) (v .within);
+          rw (sum-kept table routes counts (v .size) (acceptable-below nodes (v .n-high) routes counts a) w) (v .within);
     }
   where
     fine : RoutesFine nodes routes

@@ -37,10 +37,18 @@ withinFrom routes counts c (x ∷ table) =
 abbrev pub sendsWithin : List ℕ → List ℕ → List ℕ → Bool
 sendsWithin table routes counts = withinFrom routes counts 0 table
 
--- "each cell less what it sends, plus what it receives", from cell c on
-unfoldable pub carriedFrom : List ℕ → List ℕ → ℕ → List ℕ → List ℕ
-carriedFrom routes counts c [] = []
-carriedFrom routes counts c (x ∷ table) = (x - sends routes counts c + receives routes counts c) ∷ carriedFrom routes counts (c + 1) table
+-- the table with f c x in cell c in place of its count x, from cell c on
+unfoldable pub eachFrom : (ℕ → ℕ → ℕ) → ℕ → List ℕ → List ℕ
+eachFrom f c [] = []
+eachFrom f c (x ∷ table) = f c x ∷ eachFrom f (c + 1) table
 
+-- "each cell less what it sends", and each cell "plus what it receives"
+abbrev pub lessSends : List ℕ → List ℕ → List ℕ → List ℕ
+lessSends table routes counts = eachFrom (λ c x. x - sends routes counts c) 0 table
+
+abbrev pub plusReceipts : List ℕ → List ℕ → List ℕ → List ℕ
+plusReceipts table routes counts = eachFrom (λ c x. x + receives routes counts c) 0 table
+
+-- "each cell less what it sends, plus what it receives"
 abbrev pub carried : List ℕ → List ℕ → List ℕ → List ℕ
-carried table routes counts = carriedFrom routes counts 0 table
+carried table routes counts = plusReceipts (lessSends table routes counts) routes counts

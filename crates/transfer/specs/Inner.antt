@@ -5,11 +5,12 @@ use mathlib.Core.List.{List}
 use lib.Dec.{ltb}
 use lib.ListN.{length, getD}
 use Rattle.fold.specs.First.{FirstFrom}
-use Rattle.fold.specs.Sum.{sum}
 use Rattle.limit.specs.Limit.{maxTotal, tableSize}
 use Rattle.arrays.specs.Arrays.{at}
 use Rattle.words.specs.Words.{words}
 use Rattle.tree.specs.Family.{overHelpers}
+use Rattle.moves.specs.Moves.{routesOf, countsOf}
+use Rattle.transfer.specs.Apply.{receives}
 
 -- what due amounts and moves ask of a plan: each helpand is a node, and no owner's helpers are given more than there is
 pub record Allotted (nodes : ℕ) (h total share : ℕ → ℕ) : Type 0 where
@@ -21,10 +22,12 @@ pub record NextFrom (nodes : ℕ) (amount : ℕ → ℕ) (from node count : ℕ)
   pub first : FirstFrom nodes (λ k. ltb 0 (amount k)) from node
   pub is : node < nodes → count ≡ amount node
 
--- what testing and applying moves ask: a table whose sum is in range, and the bytes of moves with e entries, each route one of
--- 64 × 4,096
+-- what applying moves asks: a table, and the bytes of moves with e entries, each route one of 64 × 4,096
 pub record Ready (table moves : List ℕ) (e : ℕ) : Type 0 where
   pub size : length table ≡ tableSize
-  pub small : sum tableSize (at table) ≤ maxTotal
   pub long : 4 * (2 + 2 * e) ≤ length moves
   pub below : (i : ℕ) → i < e → getD (words moves) (2 + i) 0 < 64 * tableSize
+
+-- and for what arrives: no cell comes to more than a sheet's sum
+abbrev pub Room : List ℕ → List ℕ → ℕ → Type 0
+Room table moves e = (c : ℕ) → c < tableSize → at table c + receives (routesOf moves e) (countsOf moves e) c ≤ maxTotal

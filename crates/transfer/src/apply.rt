@@ -4,10 +4,14 @@ use limit::TABLE_SIZE;
 use moves::route;
 ghost use mathlib.Core.Path.{_≡_};
 ghost use mathlib.Core.Bool.{true};
+ghost use Prim.Native.Nat.{_≤_};
+ghost use Rattle.fold.specs.Sum.{sum};
+ghost use Rattle.arrays.specs.Arrays.{at};
+ghost use Rattle.limit.specs.Limit.{maxTotal, tableSize};
 ghost use Rattle.sheet.specs.Sheet.{cell};
 ghost use Rattle.moves.specs.Moves.{routesOf, countsOf};
-ghost use Rattle.transfer.specs.Apply.{fromCell, intoCell, sendsWithin, carried};
-ghost use Rattle.transfer.specs.Inner.{Ready};
+ghost use Rattle.transfer.specs.Apply.{fromCell, intoCell, sendsWithin, lessSends, plusReceipts, carried};
+ghost use Rattle.transfer.specs.Inner.{Ready, Room};
 
 // The cell that a route leads from.
 fn from_cell(route: u32) -> usize
@@ -29,41 +33,54 @@ fn into_cell(route: u32) -> usize
     )
 }
 
-// Whether no cell sends in all more than the table has, under the record `moves` of e entries. What a cell sends is added up in 64
-// bits, which no count makes wrap, and tested against the table alone: what arrives plays no part.
-pub fn sends_within(table: &[u32; TABLE_SIZE], moves: &[u8], e: usize) -> bool
+// Takes from each cell, in place, what it sends under the record `moves` of e entries, as long as each cell has as much; whether all
+// had. What arrives plays no part. Cells only become smaller here, and so nothing can wrap, however much the counts come to.
+pub fn subtract_sends(table: &mut [u32; TABLE_SIZE], moves: &[u8], e: usize) -> bool
     requires { ⌜ Ready (now table) (now moves) e ⌝ }
-    ensures { λ r. ⌜ r ≡ sendsWithin (now (table .entry)) (routesOf (now (moves .entry)) e) (countsOf (now (moves .entry)) e) ⌝ }
+    ensures answer { λ r. ⌜ r ≡ sendsWithin (now (table .entry)) (routesOf (now (moves .entry)) e) (countsOf (now (moves .entry)) e) ⌝ }
+    ensures left { λ r. ⌜
+        (r ≡ true
+        → now (table .exit) ≡ lessSends (now (table .entry)) (routesOf (now (moves .entry)) e) (countsOf (now (moves .entry)) e)) ⌝ }
 {
-    let mut sent = [0u64; TABLE_SIZE];
     let mut i = 0;
     while i < e {
         let from = from_cell(words::word_number(moves, 2 + i));
-        let count = words::word_number(moves, 2 + e + i) as u64;
-        let sends = sent[from] + count;
-        if (table[from] as u64) < sends {
+        let sent = words::word_number(moves, 2 + e + i);
+        if table[from] < sent {
             return false;
         }
-        sent[from] = sends;
+        table[from] -= sent;
         i += 1;
     }
     true
 }
 
-// Applies moves that passed this test, in place: no cell has less than it sends, and none comes to more than the table's sum.
-pub fn apply_moves(table: &mut [u32; TABLE_SIZE], moves: &[u8], e: usize)
-    requires { ⌜ Ready (now table) (now moves) e × (sendsWithin (now table) (routesOf (now moves) e) (countsOf (now moves) e) ≡ true) ⌝ }
+// Adds to each cell, in place, what it receives.
+pub fn add_receipts(table: &mut [u32; TABLE_SIZE], moves: &[u8], e: usize)
+    requires { ⌜ Ready (now table) (now moves) e × Room (now table) (now moves) e ⌝ }
     ensures { λ _. ⌜
-        now (table .exit) ≡ carried (now (table .entry)) (routesOf (now (moves .entry)) e) (countsOf (now (moves .entry)) e) ⌝ }
+        now (table .exit) ≡ plusReceipts (now (table .entry)) (routesOf (now (moves .entry)) e) (countsOf (now (moves .entry)) e) ⌝ }
 {
     let mut i = 0;
     while i < e {
-        let route = words::word_number(moves, 2 + i);
-        let count = words::word_number(moves, 2 + e + i);
-        let from = from_cell(route);
-        let into = into_cell(route);
-        table[from] -= count;
-        table[into] += count;
+        let into = into_cell(words::word_number(moves, 2 + i));
+        let received = words::word_number(moves, 2 + e + i);
+        table[into] += received;
         i += 1;
     }
+}
+
+// Applies moves to a table, in place, if no cell sends in all more than it has; whether that is so. If not, the table is of no more use.
+pub fn apply_moves(table: &mut [u32; TABLE_SIZE], moves: &[u8], e: usize) -> bool
+    requires { ⌜ Ready (now table) (now moves) e × (sum tableSize (at (now table)) ≤ maxTotal) ⌝ }
+    ensures answer { λ r. ⌜ r ≡ sendsWithin (now (table .entry)) (routesOf (now (moves .entry)) e) (countsOf (now (moves .entry)) e) ⌝ }
+    ensures next { λ r. ⌜
+        (r ≡ true
+        → now (table .exit) ≡ carried (now (table .entry)) (routesOf (now (moves .entry)) e) (countsOf (now (moves .entry)) e)) ⌝ }
+{
+    if !subtract_sends(table, moves, e) {
+        return false;
+    }
+    add_receipts(table, moves, e);
+    true
 }

@@ -51,69 +51,49 @@ returns c =
     let b = c .before in
     ends-differ (start b .pre) _ (c .if1 .taken)
 
--- past 41: the table of the sheet, and the test of the moves against it
-module _ (c : tie.After-unpack) where
+-- past 41: the table of the sheet, and the moves applied to it
+module _ (c : tie.After-apply-moves) where
+  abbrev read : tie.After-unpack
+  read = c .before .before .before
+
   abbrev same : tie.Else1
-  same = c .before .before
+  same = read .before .before
 
   abbrev begun : tie.After-struct-known2
   begun = same .before
 
-  abbrev e : ℕ
-  e = given begun .e
-
-  ready-here : Ready (c .unpack .result) (moves begun) e
-  ready-here = ready (start begun .pre) (c .unpack .ensures)
-
-  within-here : sendsWithin (c .unpack .result) (routesOf (moves begun) e) (countsOf (moves begun) e) ≡ withinIn (sheet begun) (moves begun)
-  within-here = within-is (start begun .pre) (c .unpack .ensures)
-
-abbrev unpacked : tie.After-sends-within → tie.After-unpack
-unpacked c = c .before .before .before
+  within-is-here : c .apply-moves .result ≡ withinIn (sheet begun) (moves begun)
+  within-is-here = c .apply-moves .ensures .0 ∙ within-is (start begun .pre) (read .unpack .ensures)
 
 returns-2 : tie.Need-returns-2
 returns-2 c =
-    let w = c .before in
-    let u = unpacked w in
-    let b = begun u in
-    ends-sends (start b .pre) _ (same u .if1 .left)
-    (sym (within-here u) ∙ sym (w .sends-within .ensures) ∙ not-true _ (c .if2 .taken))
+    let a = c .before in
+    ends-sends (start (begun a) .pre) _ (same a .if1 .left) (sym (within-is-here a) ∙ not-true _ (c .if2 .taken))
 
-apply-moves-requires : tie.Need-apply-moves-requires
-apply-moves-requires c κs =
-    let w = c .before .before in
-    (ready-here (unpacked w), sym (w .sends-within .ensures) ∙ not-false _ (c .before .if2 .left))
+-- past 42: the table that follows
+module _ (c : tie.Else2) where
+  abbrev applied : tie.After-apply-moves
+  applied = c .before
 
--- past 42: the moves were applied to the table
-module _ (c : tie.After-apply-moves) where
-  abbrev passed : tie.Else2
-  passed = c .before .before
+  abbrev b₀ : tie.After-struct-known2
+  b₀ = begun applied
 
-  abbrev read : tie.After-unpack
-  read = unpacked (passed .before)
-
-  abbrev origin : tie.After-struct-known2
-  origin = begun read
-
-  within : withinIn (sheet origin) (moves origin) ≡ true
-  within = sym (within-here read) ∙ sym (passed .before .sends-within .ensures) ∙ not-false _ (passed .if2 .left)
+  within : withinIn (sheet b₀) (moves b₀) ≡ true
+  within = sym (within-is-here applied) ∙ not-false _ (c .if2 .left)
 
   abbrev table : List ℕ
-  table = c .apply-moves .last .0
+  table = applied .apply-moves .last .0
 
-  table-is : table ≡ nextTable (sheet origin) (moves origin)
-  table-is = c .apply-moves .ensures ∙ carried-is (start origin .pre) (read .unpack .ensures)
+  table-is : table ≡ nextTable (sheet b₀) (moves b₀)
+  table-is = applied .apply-moves .ensures .1 (not-false _ (c .if2 .left)) ∙ carried-is (start b₀ .pre) (read applied .unpack .ensures)
 
 -- and the table was written
 module _ (c : tie.After-write-sheet) where
-  abbrev applied : tie.After-apply-moves
-  applied = c .before .before .before
-
-  abbrev b₀ : tie.After-struct-known2
-  b₀ = origin applied
+  abbrev passed : tie.Else2
+  passed = c .before .before .before
 
   abbrev rec : List ℕ
-  rec = sheetBytes (head b₀ .n) (head b₀ .t) (table applied)
+  rec = sheetBytes (head (b₀ passed) .n) (head (b₀ passed) .t) (table passed)
 
 abbrev answered : tie.After-slice-known2 → tie.After-write-sheet
 answered c = c .before .before
@@ -122,29 +102,35 @@ returns-3 : tie.Need-returns-3
 returns-3 c =
     let size = c .before .size .given in
     let w = answered (c .before .before .before) in
-    let a = applied w in
-    let b = b₀ w in
-    let x = ends-carried (start b .pre) (next b) (same (read a) .if1 .left) (within a) (table-is a) (size .0 .0)
+    let p = passed w in
+    let b = b₀ p in
+    let x = ends-carried (start b .pre) (next b) (same (applied p) .if1 .left) (within p) (table-is p) (size .0 .0)
     (sym (size .1) ∙ w .write-sheet .ensures .0) in
     (x .0, w .write-sheet .ensures .1 ∙ x .1)
 
 returns-4 : tie.Need-returns-4
 returns-4 c =
     let w = answered (c .before .before) in
-    let a = applied w in
-    let b = b₀ w in
-    let x = ends-short (start b .pre) (next b) (same (read a) .if1 .left) (within a) (table-is a)
+    let p = passed w in
+    let b = b₀ p in
+    let x = ends-short (start b .pre) (next b) (same (applied p) .if1 .left) (within p) (table-is p)
     (sym (c .enum-told .given .1) ∙ w .write-sheet .ensures .0) in
     (x .0, w .write-sheet .ensures .1 ∙ x .1)
 
 -- the length that the writer gives fits
-cast : tie.Need-cast-t23
+cast : tie.Need-cast-t20
 cast c =
     let size = c .before .size .given in
     let w = answered (c .before .before .before) in
-    let h = head (b₀ w) in
-    let z = writing-bytes (rec w) (next (b₀ w)) (size .0 .0) (sym (size .1) ∙ w .write-sheet .ensures .0) in
-    omega (arith, z .0, length-most (h .n) (h .t) (table (applied w)) (facts (b₀ w) .n-high))
+    let p = passed w in
+    let h = head (b₀ p) in
+    let z = writing-bytes (rec w) (next (b₀ p)) (size .0 .0) (sym (size .1) ∙ w .write-sheet .ensures .0) in
+    omega (arith, z .0, length-most (h .n) (h .t) (table p) (facts (b₀ p) .n-high))
+
+apply-moves-requires : tie.Need-apply-moves-requires
+apply-moves-requires c κs =
+    let u = c .before .before in
+    ready (start (u .before .before .before) .pre) (u .unpack .ensures)
 
 pub carry-read-spec : {M : Type 1} → statement M
 carry-read-spec =
@@ -153,11 +139,10 @@ carry-read-spec =
     returns
     (λ c. search needs)  -- cast-unpack
     (λ c κs. (_, sheet-unpackable _ _ (facts (c .before .before))))  -- unpack-requires
-    (λ c. search needs)  -- cast-e
-    (λ c κs. ready-here (c .before .before))  -- sends-within-requires
-    returns-2
+    (λ c. search needs)  -- cast-apply-moves
     apply-moves-requires
-    (λ c κs. facts (origin (c .before .before)) .n-high)  -- write-sheet-requires
+    returns-2
+    (λ c κs. facts (b₀ (c .before .before)) .n-high)  -- write-sheet-requires
     (λ c. search needs)  -- enum-known-size
     cast
     (λ c. search needs)  -- enum-told
