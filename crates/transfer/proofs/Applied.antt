@@ -1,27 +1,27 @@
--- Moves applied to a table: each entry of the table that follows, and the loops that test and apply the moves one by one, one law for
--- each way that a turn can go. Assumes nothing.
+-- Moves applied to a table: the moves from an entry on, each cell of the table that follows, the test of the sends, and one cell made
+-- smaller or larger. Assumes nothing.
 use mathlib.Core.Path.{_≡_, refl, sym, ap, _∙_}
 use mathlib.Core.Logic.{_⊎_, inl, inr}
-use mathlib.Core.Bool.{true, false, true≢false}
+use mathlib.Core.Bool.{true, false}
 use mathlib.Core.List.{List, [], _∷_}
 use Prim.Native.Nat.{ℕ, zero, suc, _+_, _-_, _*_, _≤_, _<_}
 use native.Mathlib.Nat.{add-zero}
-use native.Mathlib.Decide.{ℕ-discrete, decLt}
+use native.Mathlib.Decide.{ℕ-discrete}
 use native.Mathlib.Omega.{arith}
 use borrow.Author.Tests.{le-leb, leb-true, eq-eqb, ne-eqb}
 use lib.Dec.{leb, eqb}
-use lib.ListN.{length, getD, set, drop, length-set, List·getD-eq-default}
-use lib.Seq.{set-out, getD-set-same, getD-set-other, ext-getD}
+use lib.ListN.{length, getD, set, drop}
+use lib.Seq.{getD-set-same, getD-set-other, ext-getD}
 use Rattle.limit.specs.Limit.{tableSize}
 use Rattle.fold.specs.Sum.{only}
 use Rattle.fold.proofs.Tests.{either, and-left, and-right, and-both, only-is, only-not}
 use Rattle.words.specs.Words.{words}
-use Rattle.words.proofs.Words.{part-more}
+use Rattle.words.proofs.Words.{part-more, part-end}
 use Rattle.arrays.specs.Arrays.{at}
 use Rattle.moves.specs.Moves.{routesOf, countsOf}
-use Rattle.transfer.specs.Apply.{fromCell, intoCell, sends, receives, withinFrom, sendsWithin, eachFrom, lessSends, carried}
+use Rattle.transfer.specs.Apply.{fromCell, intoCell, moved, sends, receives, withinFrom, sendsWithin, eachFrom, lessSends, carried}
 use Rattle.transfer.specs.Inner.{Ready}
-use Rattle.transfer.proofs.Ends.{moved-none, moved-one, moved-here}
+use Rattle.transfer.proofs.Ends.{moved-none, moved-one}
 
 -- ---- cells
 
@@ -47,6 +47,26 @@ entry-read table moves e i ready h route count is-route is-count =
       routes = part-more moves 2 e i h (omega (arith, ready .long));
       counts = part-more moves (2 + e) e i h (omega (arith, ready .long));
     })
+
+-- ---- what the moves from entry i on end with at cell c
+
+module _ (end : ℕ → ℕ) (moves : List ℕ) (e i : ℕ) where
+  abbrev pub rest : ℕ → ℕ
+  rest c = moved end (drop i (routesOf moves e)) (drop i (countsOf moves e)) c
+
+  pub rest-none : e ≤ i → (c : ℕ) → rest c ≡ 0
+  rest-none h c = rw (part-end moves 2 e i h, part-end moves (2 + e) e i h) (moved-none end [] c)
+
+pub rest-more : (end : ℕ → ℕ) (moves : List ℕ) (e i route count : ℕ) → Entry moves e i route count → (c : ℕ)
+    → rest end moves e i c ≡ only (eqb (end route) c) count + rest end moves e (i + 1) c
+rest-more end moves e i route count entry c =
+    rw (entry .routes, entry .counts) (moved-one end route count (drop (i + 1) (routesOf moves e)) (drop (i + 1) (countsOf moves e)) c)
+
+pub rest-here : (end : ℕ → ℕ) (moves : List ℕ) (e i route count : ℕ) → Entry moves e i route count
+    → rest end moves e i (end route) ≡ count + rest end moves e (i + 1) (end route)
+rest-here end moves e i route count entry =
+    let c = end route in
+    omega (arith, rest-more end moves e i route count entry c, only-is (eqb c c) count (eq-eqb c c refl))
 
 -- ---- each cell of a table
 
@@ -146,82 +166,17 @@ module _ (table routes counts : List ℕ) where
       split (inl e) = absurd (omega (arith, within-at e c h))
       split (inr e) = e
 
-pub within-none : (table : List ℕ) → sendsWithin table [] [] ≡ true
-within-none table = within-of table [] [] (λ c l. omega (arith, moved-none fromCell [] c))
-
--- an entry made smaller: past the end of a table both are 0
-smaller-at : (xs : List ℕ) (i k : ℕ) → at (set xs i (at xs i - k)) i ≡ at xs i - k
-smaller-at xs i k = elim (decLt i (length xs)) [
-  | yes l ↦ getD-set-same xs i (at xs i - k) 0 l
-  | no d ↦
-      let l : length xs ≤ i = omega (arith, d) in
-      let z : at xs i ≡ 0 = List·getD-eq-default xs 0 l in
-      ap (λ (ys : List ℕ). at ys i) (set-out xs i (at xs i - k) l) ∙ omega arith
-]
-
 -- ---- one move
 
-module _ (xs : List ℕ) (i k c : ℕ) where
+module _ (xs : List ℕ) (i k : ℕ) (l : i < length xs) (c : ℕ) where
   pub less-at : k ≤ at xs i → at (set xs i (at xs i - k)) c + only (eqb i c) k ≡ at xs c
   less-at h = elim (ℕ-discrete i c) [
-    | yes e ↦ omega (arith, ap (at (set xs i (at xs i - k))) e, ap (at xs) e, smaller-at xs i k, only-is (eqb i c) k (eq-eqb i c e))
+    | yes e ↦ rw (← e) (omega (arith, getD-set-same xs i (at xs i - k) 0 l, only-is (eqb i i) k (eq-eqb i i refl)))
     | no d ↦ omega (arith, getD-set-other xs i c (at xs i - k) 0 (λ z. d (sym z)), only-not (eqb i c) k (ne-eqb i c d))
   ]
 
-  pub plus-at : i < length xs → at (set xs i (at xs i + k)) c ≡ at xs c + only (eqb i c) k
-  plus-at l = elim (ℕ-discrete i c) [
-    | yes e ↦
-        omega
-        (arith, ap (at (set xs i (at xs i + k))) e, ap (at xs) e, getD-set-same xs i (at xs i + k) 0 l, only-is (eqb i c) k (eq-eqb i c e))
+  pub plus-at : at (set xs i (at xs i + k)) c ≡ at xs c + only (eqb i c) k
+  plus-at = elim (ℕ-discrete i c) [
+    | yes e ↦ rw (← e) (omega (arith, getD-set-same xs i (at xs i + k) 0 l, only-is (eqb i i) k (eq-eqb i i refl)))
     | no d ↦ omega (arith, getD-set-other xs i c (at xs i + k) 0 (λ z. d (sym z)), only-not (eqb i c) k (ne-eqb i c d))
   ]
-
--- the table without what leaves, and a table with what arrives
-abbrev pub taken : List ℕ → ℕ → ℕ → List ℕ
-taken table route count = set table (fromCell route) (at table (fromCell route) - count)
-
-abbrev pub given : List ℕ → ℕ → ℕ → List ℕ
-given table route count = set table (intoCell route) (at table (intoCell route) + count)
-
--- ---- one move passes the test, or fails it
-
-module _ (table : List ℕ) (route count : ℕ) (routes counts : List ℕ) (size : length table ≡ tableSize)
-    (below : route < 64 * tableSize) where
-  pub within-fails : at table (fromCell route) < count → sendsWithin table (route ∷ routes) (count ∷ counts) ≡ false
-  within-fails h =
-      within-false table (route ∷ routes) (count ∷ counts) (fromCell route) (omega (arith, from-below route below))
-      (omega (arith, moved-here fromCell route count routes counts (fromCell route) refl))
-
-  pub within-more : count ≤ at table (fromCell route)
-      → sendsWithin table (route ∷ routes) (count ∷ counts) ≡ sendsWithin (taken table route count) routes counts
-  within-more h = split (either (sendsWithin (taken table route count) routes counts))
-    where
-      same : length (taken table route count) ≡ length table
-      same = length-set table (fromCell route) (at table (fromCell route) - count)
-
-      split : (sendsWithin (taken table route count) routes counts ≡ true) ⊎ (sendsWithin (taken table route count) routes counts ≡ false)
-          → sendsWithin table (route ∷ routes) (count ∷ counts) ≡ sendsWithin (taken table route count) routes counts
-      split (inl e) =
-          within-of table (route ∷ routes) (count ∷ counts) (λ c l.
-          omega (
-            arith,
-            moved-one fromCell route count routes counts c,
-            less-at table (fromCell route) count c h,
-            within-at (taken table route count) routes counts e c (omega (arith, same)),
-          ))
-          ∙ sym e
-      split (inr e) = fails (either (sendsWithin table (route ∷ routes) (count ∷ counts)))
-        where
-          fails : (sendsWithin table (route ∷ routes) (count ∷ counts) ≡ true)
-              ⊎ (sendsWithin table (route ∷ routes) (count ∷ counts) ≡ false)
-              → sendsWithin table (route ∷ routes) (count ∷ counts) ≡ sendsWithin (taken table route count) routes counts
-          fails (inr f) = f ∙ sym e
-          fails (inl t) =
-              absurd (true≢false (sym (within-of (taken table route count) routes counts (λ c l.
-              omega (
-                arith,
-                moved-one fromCell route count routes counts c,
-                less-at table (fromCell route) count c h,
-                within-at table (route ∷ routes) (count ∷ counts) t c (omega (arith, same)),
-              )))
-              ∙ e))

@@ -18,7 +18,6 @@ use Rattle.sheet.specs.Sheet.{cellFine, cell}
 use Rattle.sheet.proofs.Laws.{cell-of}
 use Rattle.sheet.proofs.RoundTrip.{Writable}
 use Rattle.arrays.specs.Arrays.{at}
-use Rattle.sheet.specs.Table.{held}
 use Rattle.moves.specs.Moves.{subdomain, sender, receiver, routeFine}
 use Rattle.moves.proofs.Laws.{route-is}
 use Rattle.transfer.specs.Apply.{fromCell, intoCell, moved, sends, receives, sendsWithin, carried}

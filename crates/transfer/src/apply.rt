@@ -8,7 +8,6 @@ ghost use Prim.Native.Nat.{_≤_};
 ghost use Rattle.fold.specs.Sum.{sum};
 ghost use Rattle.arrays.specs.Arrays.{at};
 ghost use Rattle.limit.specs.Limit.{maxTotal, tableSize};
-ghost use Rattle.sheet.specs.Sheet.{cell};
 ghost use Rattle.moves.specs.Moves.{routesOf, countsOf};
 ghost use Rattle.transfer.specs.Apply.{fromCell, intoCell, sendsWithin, lessSends, plusReceipts, carried};
 ghost use Rattle.transfer.specs.Inner.{Ready, Room};

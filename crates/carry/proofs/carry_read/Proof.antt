@@ -14,13 +14,10 @@ use Rattle.sheet.specs.Sheet.{accepted}
 use Rattle.sheet.specs.Write.{sheetBytes}
 use Rattle.sheet.proofs.Accepted.{Accepted, sheet-unpackable}
 use Rattle.moves.specs.declared.Moves.{Moves}
-use Rattle.moves.specs.Moves.{routesOf, countsOf}
-use Rattle.transfer.specs.Apply.{sendsWithin}
 use Rattle.carry.specs.Carry.{withinIn, nextTable}
 use Rattle.carry.proofs.Carried.{sheet-facts, ready, within-is, carried-is, ends-differ, ends-sends, ends-carried, ends-short}
 use Rattle.carry.proofs.Sizes.{length-most}
 use Rattle.carry.proofs.carry_read.Statement.{statement}
-use Rattle.transfer.specs.Inner.{Ready}
 use Rattle.carry.proofs.carry_read.Tie as tie
 
 -- before the first check

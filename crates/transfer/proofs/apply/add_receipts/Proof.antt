@@ -2,28 +2,24 @@
 -- have in the end. Assumes nothing.
 use borrow.Author.Needs.{needs}
 use mathlib.Core.Path.{_≡_, refl, sym, _∙_}
-use mathlib.Core.List.{List, [], _∷_}
+use mathlib.Core.List.{List}
 use Prim.Native.Nat.{ℕ, _+_, _-_, _≤_, _<_}
 use native.Mathlib.Omega.{arith}
-use lib.ListN.{length, set, drop, length-set}
+use lib.ListN.{length, set, length-set}
 use denote.Ref.{now}
 use Rattle.limit.specs.Limit.{maxTotal, tableSize}
-use Rattle.words.proofs.Words.{part-end}
 use Rattle.arrays.specs.Arrays.{at}
 use Rattle.moves.specs.Moves.{routesOf, countsOf}
 use Rattle.transfer.specs.Apply.{intoCell, receives}
 use Rattle.transfer.specs.Inner.{Room}
-use Rattle.transfer.proofs.Ends.{moved-none, moved-one, moved-here}
-use Rattle.transfer.proofs.Applied.{into-below, Entry, entry-read, each-is, plus-at}
+use Rattle.transfer.proofs.Applied.{into-below, Entry, entry-read, rest, rest-none, rest-more, rest-here, each-is, plus-at}
 use Rattle.transfer.proofs.apply.add_receipts.Statement.{statement}
 use Rattle.transfer.proofs.apply.add_receipts.Tie as tie
 
 record Adding (old moves : List ℕ) (e : ℕ) (table : List ℕ) (i : ℕ) : Type 0 where
   i-le : i ≤ e
   size : length table ≡ tableSize
-  added : (c : ℕ)
-      → at table c + receives (drop i (routesOf moves e)) (drop i (countsOf moves e)) c
-      ≡ at old c + receives (routesOf moves e) (countsOf moves e) c
+  added : (c : ℕ) → at table c + rest intoCell moves e i c ≡ at old c + receives (routesOf moves e) (countsOf moves e) c
 
 abbrev Inv-loop : tie.InvT-loop
 Inv-loop old moves e i₀ table i = Adding old moves e table i
@@ -38,34 +34,20 @@ module _ (old moves : List ℕ) (e : ℕ) (table : List ℕ) (i : ℕ) (s : Addi
   abbrev cell : ℕ
   cell = intoCell route
 
-  abbrev routes′ : List ℕ
-  routes′ = drop (i + 1) (routesOf moves e)
-
-  abbrev counts′ : List ℕ
-  counts′ = drop (i + 1) (countsOf moves e)
-
-  added-here : (c : ℕ)
-      → at table c + receives (route ∷ routes′) (count ∷ counts′) c ≡ at old c + receives (routesOf moves e) (countsOf moves e) c
-  added-here = rw (entry .routes, entry .counts) at (s .added)
-
   -- what arrives fits
   fits : Room old moves e → (into : ℕ) → into ≡ cell → at table into + count ≤ maxTotal
   fits room into is =
-      rw is (omega (
-        arith,
-        room cell (into-below route (entry .below)),
-        added-here cell,
-        moved-here intoCell route count routes′ counts′ cell refl,
-      ))
+      rw is
+      (omega (arith, room cell (into-below route (entry .below)), s .added cell, rest-here intoCell moves e i route count entry))
 
   -- what holds at the loop's head holds again
   after : Adding old moves e (set table cell (at table cell + count)) (i + 1)
   after =
-      let l : cell < length table = omega (arith, s .size, into-below route (entry .below)) in
+      let b : cell < length table = omega (arith, s .size, into-below route (entry .below)) in
       record {
         i-le = omega arith;
         size = simp length-set (s .size);
-        added = λ c. omega (arith, added-here c, moved-one intoCell route count routes′ counts′ c, plus-at table cell count c l);
+        added = λ c. omega (arith, s .added c, rest-more intoCell moves e i route count entry c, plus-at table cell count b c);
       }
 
 -- ---- at the cell that was computed
@@ -105,18 +87,14 @@ loop-again c =
     rw (k .before .into-cell .ensures)
     (after (now (a .table)) (now (a .moves)) (a .e) (l .table) (l .i) (l .inv) (turn k .loop-test .taken) _ _ (read k))
 
--- no move is left
 returns : tie.Need-returns Inv-loop μ-loop
 returns c =
     let l = c .before .loop in
-    let a = c .before .before .before .args in
-    let m = now (a .moves) in
-    let h = c .loop-test .left in
-    let in-all = receives (routesOf m (a .e)) (countsOf m (a .e)) in
-    let added : (j : ℕ) → at (l .table) j + receives [] [] j ≡ at (now (a .table)) j + in-all j =
-    rw (part-end m 2 (a .e) (l .i) h, part-end m (2 + a .e) (a .e) (l .i) h) at (l .inv .added) in
-    each-is (λ j x. x + in-all j) (now (a .table)) (l .table) (l .inv .size ∙ sym (c .before .before .before .pre .0 .size))
-    (λ j b. omega (arith, added j, moved-none intoCell [] j))
+    let p = c .before .before .before in
+    let m = now (p .args .moves) in
+    let e = p .args .e in
+    each-is (λ j x. x + receives (routesOf m e) (countsOf m e) j) (now (p .args .table)) (l .table) (l .inv .size ∙ sym (p .pre .0 .size))
+    (λ j b. omega (arith, l .inv .added j, rest-none intoCell m e (l .i) (c .loop-test .left) j))
 
 pub add-receipts-spec : {M : Type 1} → statement M
 add-receipts-spec =

@@ -1,6 +1,5 @@
 -- `transfer::apply::apply_moves` meets its contract: what is left and what arrives make up the table that follows, which has the sum of
 -- the table before, so that no cell comes to more. Assumes nothing.
-use borrow.Author.Needs.{needs}
 use mathlib.Core.Path.{_≡_, sym, _∙_}
 use mathlib.Core.Bool.{true, true≢false}
 use mathlib.Core.List.{List}
@@ -13,7 +12,7 @@ use Rattle.fold.specs.Sum.{sum}
 use Rattle.fold.proofs.Sums.{sum-term}
 use Rattle.limit.specs.Limit.{maxTotal, tableSize}
 use Rattle.words.specs.Words.{words}
-use Rattle.words.proofs.Words.{length-part, part-at}
+use Rattle.words.proofs.Words.{part-at}
 use Rattle.arrays.specs.Arrays.{at}
 use Rattle.moves.specs.Moves.{routesOf, countsOf}
 use Rattle.transfer.specs.Apply.{sendsWithin, lessSends, carried}

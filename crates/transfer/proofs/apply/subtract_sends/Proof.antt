@@ -1,31 +1,25 @@
--- `transfer::apply::subtract_sends` meets its contract: at the loop's head the test of all moves is that of the moves left against what
--- is left, and each cell has what it had less what the moves before sent. Assumes nothing.
+-- `transfer::apply::subtract_sends` meets its contract: at the loop's head each cell has what it had, less what it sends in all, plus
+-- what the moves left send. Assumes nothing.
 use borrow.Author.Needs.{needs}
 use mathlib.Core.Path.{_≡_, refl, sym, _∙_}
-use mathlib.Core.Bool.{false, true≢false}
-use mathlib.Core.List.{List, [], _∷_}
+use mathlib.Core.Bool.{true, false, true≢false}
+use mathlib.Core.List.{List}
 use Prim.Native.Nat.{ℕ, _+_, _-_, _≤_, _<_}
 use native.Mathlib.Omega.{arith}
-use lib.ListN.{length, set, drop, length-set}
+use lib.ListN.{length, set, length-set}
 use denote.Ref.{now}
 use Rattle.limit.specs.Limit.{tableSize}
-use Rattle.words.proofs.Words.{part-end}
 use Rattle.arrays.specs.Arrays.{at}
 use Rattle.moves.specs.Moves.{routesOf, countsOf}
-use Rattle.transfer.specs.Apply.{fromCell, sends, sendsWithin}
-use Rattle.transfer.proofs.Ends.{moved-none, moved-one}
-use Rattle.transfer.proofs.Applied.{from-below, Entry, entry-read, each-is, within-none, within-more, within-fails, less-at, taken}
+use Rattle.transfer.specs.Apply.{fromCell, sends, sendsWithin, lessSends}
+use Rattle.transfer.proofs.Applied.{from-below, Entry, entry-read, rest, rest-none, rest-more, rest-here, each-is, within-of, within-false, less-at}
 use Rattle.transfer.proofs.apply.subtract_sends.Statement.{statement}
 use Rattle.transfer.proofs.apply.subtract_sends.Tie as tie
 
 record Subtracting (old moves : List ℕ) (e : ℕ) (table : List ℕ) (i : ℕ) : Type 0 where
   i-le : i ≤ e
   size : length table ≡ tableSize
-  tested : sendsWithin old (routesOf moves e) (countsOf moves e)
-      ≡ sendsWithin table (drop i (routesOf moves e)) (drop i (countsOf moves e))
-  left : (c : ℕ)
-      → at table c + sends (routesOf moves e) (countsOf moves e) c
-      ≡ at old c + sends (drop i (routesOf moves e)) (drop i (countsOf moves e)) c
+  left : (c : ℕ) → at table c + sends (routesOf moves e) (countsOf moves e) c ≡ at old c + rest fromCell moves e i c
 
 abbrev Inv-loop : tie.InvT-loop
 Inv-loop old moves e i₀ table i = Subtracting old moves e table i
@@ -40,31 +34,35 @@ module _ (old moves : List ℕ) (e : ℕ) (table : List ℕ) (i : ℕ) (s : Subt
   abbrev cell : ℕ
   cell = fromCell route
 
-  abbrev routes′ : List ℕ
-  routes′ = drop (i + 1) (routesOf moves e)
+  -- the cell has less left than it sends, and so it had less than it sends in all
+  fails : length old ≡ tableSize → at table cell < count → sendsWithin old (routesOf moves e) (countsOf moves e) ≡ false
+  fails same l =
+      within-false old (routesOf moves e) (countsOf moves e) cell (omega (arith, from-below route (entry .below)))
+      (omega (arith, s .left cell, rest-here fromCell moves e i route count entry))
 
-  abbrev counts′ : List ℕ
-  counts′ = drop (i + 1) (countsOf moves e)
-
-  here : sendsWithin old (routesOf moves e) (countsOf moves e) ≡ sendsWithin table (route ∷ routes′) (count ∷ counts′)
-  here = s .tested ∙ rw (entry .routes, entry .counts)
-
-  left-here : (c : ℕ) → at table c + sends (routesOf moves e) (countsOf moves e) c ≡ at old c + sends (route ∷ routes′) (count ∷ counts′) c
-  left-here = rw (entry .routes, entry .counts) at (s .left)
-
-  -- it does not pass
-  fails : at table cell < count → sendsWithin old (routesOf moves e) (countsOf moves e) ≡ false
-  fails l = here ∙ within-fails table route count routes′ counts′ (s .size) (entry .below) l
-
-  -- it passes, and what holds at the loop's head holds again
+  -- what holds at the loop's head holds again
   after : count ≤ at table cell → Subtracting old moves e (set table cell (at table cell - count)) (i + 1)
   after l =
+      let b : cell < length table = omega (arith, s .size, from-below route (entry .below)) in
       record {
         i-le = omega arith;
         size = simp length-set (s .size);
-        tested = here ∙ within-more table route count routes′ counts′ (s .size) (entry .below) l;
-        left = λ c. omega (arith, left-here c, moved-one fromCell route count routes′ counts′ c, less-at table cell count c l);
+        left = λ c. omega (arith, s .left c, rest-more fromCell moves e i route count entry c, less-at table cell count b c l);
       }
+
+-- ---- no move is left
+
+module _ (old moves : List ℕ) (e : ℕ) (table : List ℕ) (i : ℕ) (s : Subtracting old moves e table i) (h : e ≤ i)
+    (same : length old ≡ tableSize) where
+  left-all : (c : ℕ) → at table c + sends (routesOf moves e) (countsOf moves e) c ≡ at old c
+  left-all c = omega (arith, s .left c, rest-none fromCell moves e i h c)
+
+  passes : sendsWithin old (routesOf moves e) (countsOf moves e) ≡ true
+  passes = within-of old (routesOf moves e) (countsOf moves e) (λ c l. omega (arith, left-all c))
+
+  left-is : table ≡ lessSends old (routesOf moves e) (countsOf moves e)
+  left-is =
+      each-is (λ c x. x - sends (routesOf moves e) (countsOf moves e) c) old table (s .size ∙ sym same) (λ c l. omega (arith, left-all c))
 
 -- ---- at the cell that was computed
 
@@ -89,7 +87,7 @@ module _ (c : tie.After-word-number2 Inv-loop μ-loop) where
   from-lt = omega (arith, c .before .from-cell .ensures, read .below)
 
 loop-holds : tie.Need-loop-holds Inv-loop μ-loop
-loop-holds c = record { i-le = omega arith; size = c .before .pre .size; tested = refl; left = λ j. refl }
+loop-holds c = record { i-le = omega arith; size = c .before .pre .size; left = λ j. refl }
 
 returns : tie.Need-returns Inv-loop μ-loop
 returns c =
@@ -97,7 +95,7 @@ returns c =
     let a = start k .args in
     let l = turn k .before .loop in (
       sym (fails (now (a .table)) (now (a .moves)) (a .e) (l .table) (l .i) (l .inv) (turn k .loop-test .taken) _ _ (read k)
-          (rw (← k .before .from-cell .ensures) (c .if1 .taken))),
+          (start k .pre .size) (rw (← k .before .from-cell .ensures) (c .if1 .taken))),
       λ z. absurd (true≢false (sym z)),
     )
 
@@ -110,20 +108,14 @@ loop-again c =
     (after (now (a .table)) (now (a .moves)) (a .e) (l .table) (l .i) (l .inv) (turn k .loop-test .taken) _ _ (read k)
     (rw (← k .before .from-cell .ensures) (c .before .if1 .left)))
 
--- no move is left
 returns-2 : tie.Need-returns-2 Inv-loop μ-loop
 returns-2 c =
     let l = c .before .loop in
-    let a = c .before .before .before .args in
-    let m = now (a .moves) in
-    let h = c .loop-test .left in
-    let end = part-end m 2 (a .e) (l .i) h in
-    let end′ = part-end m (2 + a .e) (a .e) (l .i) h in
-    let sent = sends (routesOf m (a .e)) (countsOf m (a .e)) in
-    let left : (j : ℕ) → at (l .table) j + sent j ≡ at (now (a .table)) j + sends [] [] j = rw (end, end′) at (l .inv .left) in (
-      sym (l .inv .tested ∙ rw (end, end′) (within-none (l .table))),
-      λ z. each-is (λ j x. x - sent j) (now (a .table)) (l .table) (l .inv .size ∙ sym (c .before .before .before .pre .size))
-          (λ j b. omega (arith, left j, moved-none fromCell [] j)),
+    let p = c .before .before .before in
+    let a = p .args in
+    let h = c .loop-test .left in (
+      sym (passes (now (a .table)) (now (a .moves)) (a .e) (l .table) (l .i) (l .inv) h (p .pre .size)),
+      λ z. left-is (now (a .table)) (now (a .moves)) (a .e) (l .table) (l .i) (l .inv) h (p .pre .size),
     )
 
 pub subtract-sends-spec : {M : Type 1} → statement M
