@@ -32,8 +32,9 @@ fn into_cell(route: u32) -> usize
     )
 }
 
-// Takes from each cell, in place, what it sends under the record `moves` of e entries, as long as each cell has as much; whether all
-// had. What arrives plays no part. Cells only become smaller here, and so nothing can wrap, however much the counts come to.
+// Takes from each cell, in place, what it sends under the record `moves` of e entries, and says whether every cell had as much; it stops
+// at the first that had not, and the table is of no more use then. What arrives plays no part. Cells only become smaller here, so that
+// nothing can wrap, however much the counts come to.
 pub fn subtract_sends(table: &mut [u32; TABLE_SIZE], moves: &[u8], e: usize) -> bool
     requires { ⌜ Ready (now table) (now moves) e ⌝ }
     ensures answer { λ r. ⌜ r ≡ sendsWithin (now (table .entry)) (routesOf (now (moves .entry)) e) (countsOf (now (moves .entry)) e) ⌝ }
@@ -69,7 +70,7 @@ pub fn add_receipts(table: &mut [u32; TABLE_SIZE], moves: &[u8], e: usize)
     }
 }
 
-// Applies moves to a table, in place, if no cell sends in all more than it has; whether that is so. If not, the table is of no more use.
+// Applies moves to a table, in place, and says whether no cell sends in all more than it has; if one does, the table is of no more use.
 pub fn apply_moves(table: &mut [u32; TABLE_SIZE], moves: &[u8], e: usize) -> bool
     requires { ⌜ Ready (now table) (now moves) e × (sum tableSize (at (now table)) ≤ maxTotal) ⌝ }
     ensures answer { λ r. ⌜ r ≡ sendsWithin (now (table .entry)) (routesOf (now (moves .entry)) e) (countsOf (now (moves .entry)) e) ⌝ }
