@@ -4,8 +4,8 @@ use libc::STDIN_FILENO;
 use libc::STDOUT_FILENO;
 use run::TEXT_SIZE;
 
-// The longest input that can be accepted.
-const MOST: usize = 33_304;
+// The longest input that can be accepted: one byte less than the bench program keeps.
+const MOST: usize = run::FRONT_SIZE - 1;
 
 // Prints the text for this input.
 fn print(input: &[u8]) {

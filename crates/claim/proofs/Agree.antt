@@ -8,6 +8,7 @@ use lib.Dec.{eqb}
 use Rattle.fold.specs.Sum.{only}
 use Rattle.fold.proofs.Sums.{sum-eq}
 use Rattle.plan.specs.Tree.{walk, Tree}
+use Rattle.plan.proofs.Trees.{walk-none, walk-more}
 use Rattle.tree.specs.Family.{helps, overHelpers}
 use Rattle.tree.specs.Division.{Division, WithinLimit, OnTarget, load, ownOf}
 use Rattle.transfer.specs.Due.{dueOf}
@@ -17,9 +18,9 @@ module _ (nodes : ℕ) (h h′ : ℕ → ℕ) (same : (k : ℕ) → k < nodes �
   -- ---- trees
 
   walk-agree : ((k : ℕ) → k < nodes → h k < nodes) → (steps k : ℕ) → k < nodes → walk h steps k ≡ walk h′ steps k
-  unfolding walk
-  walk-agree inside zero k l = refl
-  walk-agree inside (suc steps) k l = walk-agree inside steps (h k) (inside k l) ∙ ap (walk h′ steps) (same k l)
+  walk-agree inside zero k l = walk-none h k ∙ sym (walk-none h′ k)
+  walk-agree inside (suc steps) k l =
+      walk-more h steps k ∙ walk-agree inside steps (h k) (inside k l) ∙ ap (walk h′ steps) (same k l) ∙ sym (walk-more h′ steps k)
 
   pub tree-agree : (r : ℕ) → Tree nodes h r → Tree nodes h′ r
   tree-agree r t =

@@ -3,9 +3,12 @@ use mathlib.Core.Path.{_≡_, refl}
 use mathlib.Core.Logic.{inl}
 use mathlib.Core.Bool.{true, false}
 use mathlib.Core.List.{List}
-use Prim.Native.Nat.{ℕ}
+use Prim.Native.Nat.{ℕ, _≤_}
+use native.Mathlib.Nat.{mul-le-mul}
+use native.Mathlib.Omega.{arith}
 use borrow.Author.Tests.{ltb-true, eqb-false}
 use lib.Dec.{eqb, ltb}
+use lib.ListN.{replicate, length-replicate}
 use Rattle.fold.specs.Sum.{sum}
 use Rattle.fold.specs.All.{all}
 use Rattle.fold.specs.Collect.{collect}
@@ -18,8 +21,10 @@ use Rattle.sheet.specs.Table.{countAt, countsFrom, tableOf}
 use Rattle.sheet.specs.Totals.{totalsIn}
 use Rattle.plan.specs.Tree.{reaches}
 use Rattle.plan.specs.Plan.{arraysAnswer, headAnswer, readPlan}
+use Rattle.sheet.proofs.Accepted.{sheet-accepted}
+use Rattle.planner.proofs.Sizes.{largest}
 use Rattle.planner.specs.Worked.{Worked, step-D, step-E, step-F, step-G, step-H, step-I}
-use Rattle.claim.specs.Claim.{Overloaded, AcceptedTree, NoTree}
+use Rattle.claim.specs.Claim.{Overloaded, AcceptedTree, NoTree, LongEnough}
 
 overloaded : (s : List ℕ) (n : ℕ) → readSheet s .refusal ≡ 0 → ltb n (readSheet s .n) ≡ true
     → ltb (readSheet s .limit) (at (totalsIn s) n) ≡ true → Overloaded s
@@ -43,7 +48,18 @@ meets w n t =
     let s = encode (w .sheet) in
     (overloaded s n (t .0) (t .1) (t .2), with-tree s (encode (w .old)) (t .3) (t .4) (t .5))
 
--- THEOREM. Steps E and H, which are kept, F, G and I, which are rebuilt, and D, which has no old plan, meet the premises of demand 3.
+-- THEOREM. Buffers as long as the records of 64 nodes are long enough for every accepted sheet.
+pub long-enough : (s : List ℕ) → readSheet s .refusal ≡ 0 → LongEnough s (replicate 524 0) (replicate 32264 0) (replicate 32780 0)
+long-enough s z =
+    let l = largest s z in
+    let n : readSheet s .n ≤ 64 = sheet-accepted s z .n-high in
+    record {
+      plan = omega (arith, l .0, length-replicate {A = ℕ} 524 0);
+      moves = omega (arith, l .1, length-replicate {A = ℕ} 32264 0);
+      next = omega (arith, mul-le-mul n n, length-replicate {A = ℕ} 32780 0);
+    }
+
+-- THEOREM. Steps E and H, which are kept, F, G and I, which are rebuilt, and D, which has no old plan, meet the other premises of demand 3.
 pub premises-met : Meets step-E × Meets step-H × Meets step-F × Meets step-G × Meets step-I
     × (Overloaded (encode (step-D .sheet)) × NoTree (encode (step-D .sheet)) (encode (step-D .old)))
 unfolding words encode readSheet readHeader rising runningSum limitOf tableOf countsFrom countAt tabulate collect sum all reaches

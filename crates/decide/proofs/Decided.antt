@@ -17,7 +17,7 @@ use Rattle.plan.specs.Tree.{helpandsBelow, Tree}
 use Rattle.plan.proofs.RoundTrip.{ReadBack, tree-read-written, roots-read-written}
 use Rattle.sheet.specs.Table.{held}
 use Rattle.tree.specs.Family.{helps, overHelpers}
-use Rattle.tree.specs.Weigh.{least, holds}
+use Rattle.tree.specs.Least.{least, holds}
 use Rattle.tree.specs.Division.{WithinLimit, OnTarget, ownOf}
 use Rattle.arrays.specs.Arrays.{at}
 use Rattle.tree.proofs.Families.{helpers-eq}
@@ -181,12 +181,14 @@ module _ (nodes p t : ℕ) (table totals : List ℕ) (tree : Bool) (old : List �
   decision = decided nodes p limit table totals tree old
 
   -- THEOREM. Where a tree is needed, an old tree that holds is kept, and its shares are a division within the limit.
-  pub decided-kept : primary nodes (at totals) limit ≡ false → tree ≡ true → holds nodes (at old) (at totals) limit ≡ true → KeptFine nodes limit totals old decision
+  pub decided-kept : primary nodes (at totals) limit ≡ false → tree ≡ true → holds nodes (at old) (at totals) limit ≡ true
+      → KeptFine nodes limit totals old decision
   unfolding decided
   decided-kept f e h = let r = g .rooted e in simp (f, e, h) (kept-way (r .0) (r .1) h)
 
   -- THEOREM. Where a tree is needed and there is none that holds, the new one puts every node on its target.
-  pub decided-rebuilt : primary nodes (at totals) limit ≡ false → (tree && holds nodes (at old) (at totals) limit) ≡ false → RebuiltFine nodes p totals decision
+  pub decided-rebuilt : primary nodes (at totals) limit ≡ false → (tree && holds nodes (at old) (at totals) limit) ≡ false
+      → RebuiltFine nodes p totals decision
   unfolding decided
   decided-rebuilt f h = simp (f, h) rebuilt-way
 

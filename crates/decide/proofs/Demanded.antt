@@ -11,7 +11,7 @@ use Rattle.limit.specs.Limit.{limitOf}
 use Rattle.arrays.specs.Arrays.{at}
 use Rattle.tree.specs.Division.{WithinLimit}
 use Rattle.tree.specs.Primary.{primary}
-use Rattle.tree.specs.Weigh.{holds}
+use Rattle.tree.specs.Least.{holds}
 use Rattle.tree.proofs.Keeping.{division-iff-holds}
 use Rattle.decide.specs.declared.Decision.{Decision}
 use Rattle.decide.specs.Decide.{decided}
@@ -39,7 +39,8 @@ module _ (nodes p t : ℕ) (table totals : List ℕ) (tree : Bool) (old : List �
 
   -- THEOREM. Without an old tree the new one is on target.
   pub decided-alone : tree ≡ false → RebuiltFine nodes p totals d
-  decided-alone e = decided-rebuilt nodes p t table totals tree old g needed (ap (λ (b : Bool). b && holds nodes (at old) (at totals) limit) e)
+  decided-alone e =
+      decided-rebuilt nodes p t table totals tree old g needed (ap (λ (b : Bool). b && holds nodes (at old) (at totals) limit) e)
 
   -- THEOREM. An old tree is kept exactly when a division within the limit exists along it; the plan kept is one, and the plan rebuilt is on
   -- target.

@@ -7,7 +7,7 @@ use lib.Dec.{leb}
 use Rattle.fold.specs.All.{all}
 use Rattle.arrays.specs.Arrays.{at}
 use Rattle.sheet.specs.Table.{held}
-use Rattle.tree.specs.Weigh.{holds}
+use Rattle.tree.specs.Least.{holds}
 use Rattle.tree.proofs.Weighing.{holds-tabulated}
 use Rattle.shares.specs.Shares.{keptShares}
 use Rattle.decide.specs.declared.Decision.{Decision}

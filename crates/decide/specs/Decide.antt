@@ -5,7 +5,7 @@ use Prim.Native.Nat.{ℕ}
 use lib.ListN.{replicate}
 use Rattle.arrays.specs.Arrays.{at, tabulate}
 use Rattle.sheet.specs.Table.{held}
-use Rattle.tree.specs.Weigh.{least, holds}
+use Rattle.tree.specs.Least.{least, holds}
 use Rattle.shares.specs.Shares.{keptShares}
 use Rattle.rebuild.specs.Rebuild.{rebuiltOf}
 use Rattle.decide.specs.declared.Decision.{Decision}

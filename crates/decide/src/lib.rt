@@ -72,10 +72,10 @@ fn weighed_plan(
         × ((r : ℕ) × Tree nodes (at old) r) ⌝ }
     ensures { λ r. ⌜ r ≡ treePlan nodes p limit (now (table .entry)) totals true old ⌝ }
 {
-    let root = tree::weigh::find_root(old, nodes);
+    let root = tree::least::find_root(old, nodes);
     let links = tree::links::helper_links(&old, nodes);
-    let leasts = tree::weigh::leasts(totals, old, &links, nodes, root, limit);
-    if tree::weigh::holds(leasts, nodes, limit) {
+    let leasts = tree::least::leasts(totals, old, &links, nodes, root, limit);
+    if tree::least::holds(leasts, nodes, limit) {
         return Decision {
             kind: 1,
             helpands: old,

@@ -113,9 +113,9 @@ in-force-within old new w e = subst (λ (x : Where). Within x old new) (sym e) (
 -- ---- what it holds
 
 -- the plan that a stretch is of, and its bytes
-abbrev pub planIn : Where → List ℕ → List ℕ → List ℕ
-planIn (ofOld a n) old new = old
-planIn (ofNew a n) old new = new
+abbrev pub stretchPlan : Where → List ℕ → List ℕ → List ℕ
+stretchPlan (ofOld a n) old new = old
+stretchPlan (ofNew a n) old new = new
 
 abbrev pub bytesIn : Where → List ℕ → List ℕ → List ℕ
 bytesIn (ofOld a n) old new = take n (drop a old)
@@ -142,9 +142,9 @@ stretch-of p n x e =
 -- THEOREM: What is handed back, unless it is the empty stretch, is the 4N bytes of helpands of the old or the new plan, which was
 -- accepted, and reads as that plan's helpands.
 pub force-stretch : (old new : List ℕ) → inForce old new ≢ emptyStretch
-    → HelpandStretch (planIn (inForce old new) old new) (bytesIn (inForce old new) old new)
+    → HelpandStretch (stretchPlan (inForce old new) old new) (bytesIn (inForce old new) old new)
 force-stretch old new =
-    force-by old new (λ w. w ≢ emptyStretch → HelpandStretch (planIn w old new) (bytesIn w old new))
+    force-by old new (λ w. w ≢ emptyStretch → HelpandStretch (stretchPlan w old new) (bytesIn w old new))
     (λ d. absurd (d refl))
     (λ g k d. stretch-of old (readPlan new .n) (g .old-accepted) (g .nodes))
     (λ g k d. stretch-of new (readPlan new .n) (g .new-accepted) refl)

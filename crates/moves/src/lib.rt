@@ -44,9 +44,9 @@ pub struct MovesAnswer {
 fn route_fine(n: u32, r: u32) -> bool
     ensures { λ b. ⌜ b ≡ routeFine n r ⌝ }
 {
-    let subdomain = r / 4096;
-    let sender = r / 64 % 64;
-    let receiver = r % 64;
+    let subdomain = route::subdomain(r);
+    let sender = route::sender(r);
+    let receiver = route::receiver(r);
     subdomain < n && sender < n && receiver < n && sender != receiver
 }
 

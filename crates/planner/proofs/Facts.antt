@@ -13,7 +13,7 @@ use Rattle.fold.proofs.Sums.{sum-eq}
 use Rattle.fold.proofs.Tests.{either, all-of}
 use Rattle.limit.specs.Limit.{maxTotal, tableSize}
 use Rattle.sheet.specs.declared.Sheet.{Sheet}
-use Rattle.sheet.specs.Sheet.{cellFine, accepted}
+use Rattle.sheet.specs.Sheet.{cellFine, cell, accepted}
 use Rattle.sheet.specs.Table.{tableOf, held}
 use Rattle.sheet.proofs.Laws.{cell-holder, cell-subdomain}
 use Rattle.sheet.proofs.Accepted.{Accepted, reading-accepted}
@@ -78,14 +78,14 @@ module _ {s o : List ℕ} {h : Sheet} {tree : Bool} (r : StepRead s o h tree) wh
   sum-within = table-within s (accepted (h .n) (h .t) (h .e) (h .p) (h .limit)) facts
 
   outside : (k n : ℕ) → n < 64 → (k < h .n → n < h .n → ⊥) → held table k n ≡ 0
-  outside k n l d = split (either (cellFine (h .n) (64 * k + n)))
+  outside k n l d = split (either (cellFine (h .n) (cell k n)))
     where
-      split : (cellFine (h .n) (64 * k + n) ≡ true) ⊎ (cellFine (h .n) (64 * k + n) ≡ false) → held table k n ≡ 0
+      split : (cellFine (h .n) (cell k n) ≡ true) ⊎ (cellFine (h .n) (cell k n) ≡ false) → held table k n ≡ 0
       split (inl e) =
-          let q : (64 * k + n) / 64 ≡ k = omega arith in
-          let m : (64 * k + n) % 64 ≡ n = omega arith in
-          absurd (d (omega (arith, cell-holder (h .n) (64 * k + n) e)) (omega (arith, cell-subdomain (h .n) (64 * k + n) e)))
-      split (inr e) = table-outside s (accepted (h .n) (h .t) (h .e) (h .p) (h .limit)) facts (64 * k + n) e
+          let q : cell k n / 64 ≡ k = omega arith in
+          let m : cell k n % 64 ≡ n = omega arith in
+          absurd (d (omega (arith, cell-holder (h .n) (cell k n) e)) (omega (arith, cell-subdomain (h .n) (cell k n) e)))
+      split (inr e) = table-outside s (accepted (h .n) (h .t) (h .e) (h .p) (h .limit)) facts (cell k n) e
 
   -- the totals add up to P
   pub adds : sum (h .n) (at totals) ≡ h .p

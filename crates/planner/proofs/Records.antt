@@ -30,10 +30,10 @@ use Rattle.planner.proofs.Facts.{table, totals, old, facts, sum-within,
 use Rattle.arrays.specs.Arrays.{at}
 
 -- moves at the front of two arrays are written as they are
-moves-front : (n : ℕ) (routes counts a b : List ℕ) → length routes ≡ length counts
+moves-taken : (n : ℕ) (routes counts a b : List ℕ) → length routes ≡ length counts
     → movesBytes n (length routes) (placed routes a) (placed counts b) ≡ movesRecord n routes counts
 unfolding movesBytes
-moves-front n routes counts a b e =
+moves-taken n routes counts a b e =
     rw (
       take-at routes (drop (length routes) a) (length routes) refl,
       take-at counts (drop (length counts) b) (length routes) (sym e),
@@ -113,7 +113,7 @@ module _ {s o : List ℕ} {h : Sheet} {tree : Bool} (r : StepRead s o h tree) wh
         → movesBytes (h .n) e xs ys ≡ movesIn s o
     unfolding movesIn
     here-moves e xs ys a b i j q =
-        let front = moves-front (h .n) routes counts a b (here-carries .accepted .same) in
+        let front = moves-taken (h .n) routes counts a b (here-carries .accepted .same) in
         rw (i, j, q) (front ∙ rw (← r .sheet, here-decision, here-totals, k .table-is))
 
     -- so the answer and the buffers are those of the definitions

@@ -16,7 +16,7 @@ use Rattle.plan.specs.Plan.{arraysAnswer, headAnswer, readPlan}
 use Rattle.plan.specs.Write.{planBytes}
 use Rattle.moves.specs.Write.{movesBytes}
 use Rattle.arrays.specs.Arrays.{tabulate}
-use Rattle.tree.specs.Weigh.{leastWithin}
+use Rattle.tree.specs.Least.{leastWithin}
 use Rattle.tree.specs.Down.{down}
 use Rattle.shares.specs.Fill.{fill}
 use Rattle.shares.specs.Shares.{space, amount}

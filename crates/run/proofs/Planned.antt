@@ -114,15 +114,17 @@ module _ {s o : List ℕ} {a : StepAnswer} {p m plan moves : List ℕ} (w : Answ
     sizes : a ≡ planned (decisionIn s o .kind) (readSheet s .limit) (length (planIn s o)) (length (movesIn s o))
     sizes = let d = step-done s o planSize movesSize planned-here in answer-is ∙ done-step s o planSize movesSize (d .0) (d .1) (d .2)
 
-    pub plan-front : Front (planIn s o) plan (a .plan)
-    plan-front = front-of (planIn s o) p plan (a .plan) (ap (λ (x : StepAnswer). x .plan) sizes) (w .plan-after ∙ rw (← w .answer, z))
+    pub plan-in-front : Front (planIn s o) plan (a .plan)
+    plan-in-front =
+        front-of (planIn s o) p plan (a .plan) (ap (λ (x : StepAnswer). x .plan) sizes) (w .plan-after ∙ rw (← w .answer, z))
 
-    pub moves-front : Front (movesIn s o) moves (a .moves)
-    moves-front = front-of (movesIn s o) m moves (a .moves) (ap (λ (x : StepAnswer). x .moves) sizes) (w .moves-after ∙ rw (← w .answer, z))
+    pub moves-in-front : Front (movesIn s o) moves (a .moves)
+    moves-in-front =
+        front-of (movesIn s o) m moves (a .moves) (ap (λ (x : StepAnswer). x .moves) sizes) (w .moves-after ∙ rw (← w .answer, z))
 
     pub fronts-printable : Printable s (take (a .plan) plan) (take (a .moves) moves)
     fronts-printable =
-        rw (plan-front .front, moves-front .front) (printable s o (step-done s o planSize movesSize planned-here .0))
+        rw (plan-in-front .front, moves-in-front .front) (printable s o (step-done s o planSize movesSize planned-here .0))
 
     pub fronts-text : recordsText s (take (a .plan) plan) (take (a .moves) moves) ≡ textIn s o
-    fronts-text = rw (plan-front .front, moves-front .front) (sym (text-planned s o planned-here))
+    fronts-text = rw (plan-in-front .front, moves-in-front .front) (sym (text-planned s o planned-here))

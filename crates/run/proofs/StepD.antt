@@ -16,7 +16,7 @@ use Rattle.plan.specs.Write.{planBytes}
 use Rattle.moves.specs.Moves.{readMoves}
 use Rattle.moves.specs.Write.{movesBytes}
 use Rattle.arrays.specs.Arrays.{tabulate}
-use Rattle.tree.specs.Weigh.{leastWithin}
+use Rattle.tree.specs.Least.{leastWithin}
 use Rattle.rebuild.specs.Target.{targetOf}
 use Rattle.rebuild.specs.Rebuild.{turnOf, startOf, runOf, finishOf, rebuiltOf}
 use Rattle.transfer.specs.Due.{dueWith}

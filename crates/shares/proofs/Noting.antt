@@ -15,7 +15,7 @@ use Rattle.arrays.specs.Arrays.{at}
 use Rattle.tree.specs.Family.{helps}
 use Rattle.tree.specs.Down.{Descends}
 use Rattle.tree.specs.Inner.{Descended}
-use Rattle.tree.proofs.Passing.{Passed}
+use Rattle.tree.proofs.Passing.{HelpersPassed}
 use Rattle.tree.proofs.Filling.{descends-at}
 use Rattle.shares.specs.Inner.{Noted}
 
@@ -53,7 +53,7 @@ module _ {h : ℕ → ℕ} {n : ℕ} {amount : ℕ → ℕ} {before : List ℕ} 
 -- where the noted amounts are those of the family of n, from the root down, no right share is lost
 pub noted-right : {nodes : ℕ} {h : ℕ → ℕ} {fill : ℕ → ℕ → ℕ → ℕ} {share : ℕ → ℕ} {n r : ℕ} {before out : List ℕ}
     → Descends nodes h fill share → r ≡ share n → Noted h n (fill r n) nodes before out
-    → ((k : ℕ) → k < nodes → helps h n k ≡ true → at out k ≡ share k) × Passed nodes h share n before 0 out
+    → ((k : ℕ) → k < nodes → helps h n k ≡ true → at out k ≡ share k) × HelpersPassed nodes h share n before 0 out
 noted-right {nodes} {h} {fill} {share} {n} {r} {before} {out} d e p = (
   right,
   record {
@@ -71,7 +71,7 @@ noted-right {nodes} {h} {fill} {share} {n} {r} {before} {out} d e p = (
     kept j l q (inr y) = p .other j (λ b. y) ∙ q
 
 -- a pass that goes on from there
-pub descended-after : {nodes : ℕ} {h right : ℕ → ℕ} {n : ℕ} {before noted after : List ℕ} → Passed nodes h right n before 0 noted
+pub descended-after : {nodes : ℕ} {h right : ℕ → ℕ} {n : ℕ} {before noted after : List ℕ} → HelpersPassed nodes h right n before 0 noted
     → Descended nodes h right n noted after → Descended nodes h right n before after
 descended-after p d =
     record { below = d .below; kept = λ j l q. d .kept j l (p .kept j l q); behind = λ j l. d .behind j l ∙ p .behind j l }

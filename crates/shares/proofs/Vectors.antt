@@ -6,7 +6,7 @@ use lib.ListN.{getD, length}
 use Rattle.fold.specs.Sum.{sum}
 use Rattle.fold.specs.Collect.{collect}
 use Rattle.arrays.specs.Arrays.{padded, at, tabulate}
-use Rattle.tree.specs.Weigh.{leastWithin, least}
+use Rattle.tree.specs.Least.{leastWithin, least}
 use Rattle.tree.specs.Down.{down}
 use Rattle.shares.specs.Fill.{fill}
 use Rattle.shares.specs.Shares.{space, amount, keptShares}

@@ -36,17 +36,17 @@ cell-beyond n c l h = rw (le-ltb (c / 64) n (omega arith))
 -- ---- the running sum
 
 module _ (sum c : ℕ) (cs : List ℕ) where
-  pub sum-more : (c ≡ 0 → ⊥) → sum + c ≤ maxTotal → runningSum sum (c ∷ cs) ≡ runningSum (sum + c) cs
+  pub running-more : (c ≡ 0 → ⊥) → sum + c ≤ maxTotal → runningSum sum (c ∷ cs) ≡ runningSum (sum + c) cs
   unfolding runningSum
-  sum-more h₁ h₂ = simp (ne-eqb _ _ h₁, le-ltb _ _ h₂)
+  running-more h₁ h₂ = simp (ne-eqb _ _ h₁, le-ltb _ _ h₂)
 
-  pub sum-none : c ≡ 0 → runningSum sum (c ∷ cs) ≡ Bad
+  pub running-none : c ≡ 0 → runningSum sum (c ∷ cs) ≡ Bad
   unfolding runningSum
-  sum-none h = simp (eq-eqb _ _ h)
+  running-none h = simp (eq-eqb _ _ h)
 
-  pub sum-over : (c ≡ 0 → ⊥) → maxTotal < sum + c → runningSum sum (c ∷ cs) ≡ Bad
+  pub running-over : (c ≡ 0 → ⊥) → maxTotal < sum + c → runningSum sum (c ∷ cs) ≡ Bad
   unfolding runningSum
-  sum-over h₁ h₂ = simp (ne-eqb _ _ h₁, lt-ltb _ _ h₂)
+  running-over h₁ h₂ = simp (ne-eqb _ _ h₁, lt-ltb _ _ h₂)
 
 -- what a sum that is found says: it is the total, within the bound, and no count is 0
 pub record Summed (sum : ℕ) (cs : List ℕ) (p : ℕ) : Type 0 where
@@ -81,4 +81,4 @@ unfolding total
 sum-of sum [] h p = unfold runningSum in ap Sum (omega arith)
 sum-of sum (c ∷ cs) h p =
     let z : c ≡ 0 → ⊥ = λ e. omega (arith, p 0 (omega arith)) in
-    sum-more sum c cs z (omega arith) ∙ sum-of (sum + c) cs (omega arith) (λ i l. p (suc i) (omega arith)) ∙ ap Sum (omega arith)
+    running-more sum c cs z (omega arith) ∙ sum-of (sum + c) cs (omega arith) (λ i l. p (suc i) (omega arith)) ∙ ap Sum (omega arith)

@@ -18,7 +18,7 @@ use Rattle.fold.specs.Rising.{rising}
 use Rattle.fold.proofs.Tests.{either}
 use Rattle.fold.proofs.Sums.{sum-none, sum-suc, sum-eq, sum-split, sum-below, sum-term, sum-zeros, total-append}
 use Rattle.fold.proofs.Lists.{rises, rising-more, rising-none, rising-from, rising-at, collect-front, collect-eq, map-at}
-use Rattle.limit.specs.Limit.{maxNodes, maxTolerance, maxTotal, limitOf}
+use Rattle.limit.specs.Limit.{maxNodes, maxTolerance, maxTotal, tableSize, limitOf}
 use Rattle.limit.proofs.Laws.{one-to-of}
 use Rattle.words.specs.Words.{words}
 use Rattle.words.proofs.Words.{Below, below-none}
@@ -67,9 +67,9 @@ pub record Writable (n t : ℕ) (table : List ℕ) : Type 0 where
   pub n-high : n ≤ maxNodes
   pub t-low : 1 ≤ t
   pub t-high : t ≤ maxTolerance
-  pub size : length table ≡ 4096
+  pub size : length table ≡ tableSize
   pub outside : (c : ℕ) → cellFine n c ≡ false → getD table c 0 ≡ 0
-  pub within : sum 4096 (λ c. getD table c 0) ≤ maxTotal
+  pub within : sum tableSize (λ c. getD table c 0) ≤ maxTotal
 
 module _ (n t : ℕ) (table : List ℕ) (w : Writable n t table) where
   abbrev count : ℕ → ℕ
@@ -187,23 +187,23 @@ module _ (n t : ℕ) (table : List ℕ) (w : Writable n t table) where
   e = length (filledCells n table)
 
   abbrev p : ℕ
-  p = sum 4096 (λ c. getD table c 0)
+  p = sum tableSize (λ c. getD table c 0)
 
   -- cells from 64 × N on have no count
   cells-total : total (filledCounts n table) ≡ p
   cells-total =
-      let r : 64 * n + (4096 - 64 * n) ≡ 4096 = omega (arith, w .n-high) in
+      let r : 64 * n + (tableSize - 64 * n) ≡ tableSize = omega (arith, w .n-high) in
       total-filled (64 * n)
       ∙ sym (omega (
         arith,
-        rw r at (sum-split (64 * n) (4096 - 64 * n) count),
-        sum-zeros (4096 - 64 * n) (λ k. count (64 * n + k)) (λ k h. w .outside (64 * n + k) (beyond k)),
+        rw r at (sum-split (64 * n) (tableSize - 64 * n) count),
+        sum-zeros (tableSize - 64 * n) (λ k. count (64 * n + k)) (λ k h. w .outside (64 * n + k) (beyond k)),
       ))
     where
       beyond : (k : ℕ) → cellFine n (64 * n + k) ≡ false
       beyond k = rw (le-ltb ((64 * n + k) / 64) n (omega arith))
 
-  cell-at : (i : ℕ) → i < e → getD (filledCells n table) i 0 < 4096
+  cell-at : (i : ℕ) → i < e → getD (filledCells n table) i 0 < tableSize
   cell-at i h =
       omega
       (arith, cell-below n (getD (filledCells n table) i 0) (rising-at (cellFine n) 0 (filledCells n table) cells-rise i h), w .n-high)
@@ -212,7 +212,7 @@ module _ (n t : ℕ) (table : List ℕ) (w : Writable n t table) where
   count-at i h =
       let q : getD (filledCounts n table) i 0 ≡ count (getD (filledCells n table) i 0) = map-at count (filledCells n table) i h in
       let b : 0 < count (getD (filledCells n table) i 0) = rw (from-all n table) (from-filled 0 (64 * n) i (rw (from-all n table) at h)) in
-      (omega arith, omega (arith, sum-term 4096 count (getD (filledCells n table) i 0) (cell-at i h), w .within))
+      (omega arith, omega (arith, sum-term tableSize count (getD (filledCells n table) i 0) (cell-at i h), w .within))
 
   back : Back (n ∷ t ∷ e ∷ []) (filledCells n table) (filledCounts n table) e
   back =

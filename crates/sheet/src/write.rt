@@ -1,4 +1,5 @@
 // Writes a table of counts as a sheet into a lent buffer.
+use limit::TABLE_SIZE;
 use words::Written;
 ghost use mathlib.Core.Path.{_≡_};
 ghost use Prim.Native.Nat.{_+_, _*_, _≤_, _<_};
@@ -9,7 +10,7 @@ ghost use Rattle.words.specs.Buffer.{placed, written, writing};
 ghost use Rattle.sheet.specs.Write.{filledCells, sheetBytes};
 
 // How many cells of holders below n have a count: the sheet's E.
-pub fn count_cells(table: &[u32; 4096], n: u32) -> u32
+pub fn count_cells(table: &[u32; TABLE_SIZE], n: u32) -> u32
     requires { ⌜ n ≤ maxNodes ⌝ }
     ensures { λ r. ⌜ r ≡ length (filledCells n (now (table .entry))) ⌝ }
 {
@@ -35,7 +36,7 @@ fn put_entry(out: &mut [u8], e: usize, i: usize, c: u32, count: u32)
 }
 
 // Writes the sheet of n nodes with e entries into a buffer that is long enough.
-pub fn put_sheet(out: &mut [u8], n: u32, t: u32, e: u32, table: &[u32; 4096])
+pub fn put_sheet(out: &mut [u8], n: u32, t: u32, e: u32, table: &[u32; TABLE_SIZE])
     requires { ⌜ (n ≤ maxNodes) × (e ≡ length (filledCells n (now table))) × (4 * (3 + 2 * e) ≤ length (now out)) ⌝ }
     ensures { λ _. ⌜ now (out .exit) ≡ placed (sheetBytes n t (now (table .entry))) (now (out .entry)) ⌝ }
 {
@@ -55,7 +56,7 @@ pub fn put_sheet(out: &mut [u8], n: u32, t: u32, e: u32, table: &[u32; 4096])
 }
 
 // The same into any buffer: too short, it is left as it was.
-pub fn write_sheet(out: &mut [u8], n: u32, t: u32, table: &[u32; 4096]) -> Written
+pub fn write_sheet(out: &mut [u8], n: u32, t: u32, table: &[u32; TABLE_SIZE]) -> Written
     requires { ⌜ n ≤ maxNodes ⌝ }
     ensures answer { λ r. ⌜ r ≡ writing (sheetBytes n t (now (table .entry))) (now (out .entry)) ⌝ }
     ensures bytes { λ _. ⌜ now (out .exit) ≡ written (sheetBytes n t (now (table .entry))) (now (out .entry)) ⌝ }

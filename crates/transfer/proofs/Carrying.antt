@@ -33,7 +33,7 @@ use Rattle.transfer.proofs.Acceptable.{Acceptable}
 use Rattle.transfer.proofs.Dues.{due-sum}
 use Rattle.transfer.proofs.Ends.{moved-absent, moved-collect}
 use Rattle.transfer.proofs.Matched.{surplus-apart, moves-few, routes-rise, routes-in, counts-fine, sends-surplus, receives-shortage}
-use Rattle.transfer.proofs.Subdomains.{routesIn, countsIn, lengths-in, lengths, few-all}
+use Rattle.transfer.proofs.Subdomains.{subdomainRoutes, subdomainCounts, lengths-in, lengths, few-all}
 use Rattle.transfer.proofs.Applied.{carried-at, within-of}
 use Rattle.transfer.proofs.Kept.{RoutesFine, acceptable-fine, sends-outside}
 use Rattle.arrays.proofs.Tabulate.{tabulate-at}
@@ -80,26 +80,29 @@ module _ (nodes : ℕ) (table : List ℕ) (due : ℕ → ℕ → ℕ) (h64 : nod
   -- ---- the record
 
   routes-all : (n : ℕ) → n ≤ nodes
-      → (rising (routeFine nodes) 0 (collect n (routesIn nodes table due)) ≡ true)
-      × Below (n * tableSize) (collect n (routesIn nodes table due))
+      → (rising (routeFine nodes) 0 (collect n (subdomainRoutes nodes table due)) ≡ true)
+      × Below (n * tableSize) (collect n (subdomainRoutes nodes table due))
   unfolding collect
   routes-all zero h = (rising-none (routeFine nodes) 0, below-none 0)
   routes-all (suc n) h =
       let ih = routes-all n (omega arith) in
-      let new : Below (suc n * tableSize) (routesIn nodes table due n) =
+      let new : Below (suc n * tableSize) (subdomainRoutes nodes table due n) =
       λ i l. omega (arith, routes-in nodes (above n) (lacks n) n h64 i l) in
-      let up : Below (suc n * tableSize) (collect n (routesIn nodes table due)) = λ i l. omega (arith, ih .1 i l) in (
-        rising-append (routeFine nodes) 0 (n * tableSize) (collect n (routesIn nodes table due)) (routesIn nodes table due n) (omega arith)
+      let up : Below (suc n * tableSize) (collect n (subdomainRoutes nodes table due)) = λ i l. omega (arith, ih .1 i l) in (
+        rising-append (routeFine nodes) 0 (n * tableSize) (collect n (subdomainRoutes nodes table due)) (subdomainRoutes nodes table due n)
+            (omega arith)
             (ih .1) (ih .0)
             (routes-rise nodes (above n) (lacks n) (λ k. surplus-apart (held table k n) (due n k)) n (omega arith) h64),
-        below-append (suc n * tableSize) (collect n (routesIn nodes table due)) (routesIn nodes table due n) up new,
+        below-append (suc n * tableSize) (collect n (subdomainRoutes nodes table due)) (subdomainRoutes nodes table due n) up new,
       )
 
-  counts-all : sum tableSize (at table) ≤ maxTotal → (n : ℕ) → n ≤ nodes → every countFine (collect n (countsIn nodes table due)) ≡ true
+  counts-all : sum tableSize (at table) ≤ maxTotal → (n : ℕ) → n ≤ nodes
+      → every countFine (collect n (subdomainCounts nodes table due)) ≡ true
   unfolding collect
   counts-all small zero h = unfold every in refl
   counts-all small (suc n) h =
-      every-append countFine (collect n (countsIn nodes table due)) (countsIn nodes table due n) (counts-all small n (omega arith))
+      every-append countFine (collect n (subdomainCounts nodes table due)) (subdomainCounts nodes table due n)
+      (counts-all small n (omega arith))
       (counts-fine nodes (above n) (lacks n)
       (λ k l. most (held table k n) (due n k) (sum tableSize (at table)) (sum-term tableSize (at table) (cell k n) (omega arith)) small))
     where
@@ -121,9 +124,10 @@ module _ (nodes : ℕ) (table : List ℕ) (due : ℕ → ℕ → ℕ) (h64 : nod
   module _ (end : ℕ → ℕ) (k n : ℕ) (hn : n < nodes)
       (own : (route : ℕ) → subdomain route < 64 → end route ≡ cell k n → subdomain route ≡ n) where
     moved-own : moved end (allRoutes nodes table due) (allCounts nodes table due) (cell k n)
-        ≡ moved end (routesIn nodes table due n) (countsIn nodes table due n) (cell k n)
+        ≡ moved end (subdomainRoutes nodes table due n) (subdomainCounts nodes table due n) (cell k n)
     moved-own =
-        moved-collect end nodes (routesIn nodes table due) (countsIn nodes table due) (cell k n) (lengths-in nodes table due) .1
+        moved-collect end nodes (subdomainRoutes nodes table due) (subdomainCounts nodes table due) (cell k n)
+        (lengths-in nodes table due) .1
         ∙ sum-eq nodes part (λ j. only (eqb j n) (part j)) (λ j l. elim (ℕ-discrete j n) [
           | yes e ↦ sym (only-is (eqb j n) (part j) (eq-eqb j n e))
           | no d ↦ absent j l d ∙ sym (only-not (eqb j n) (part j) (ne-eqb j n d))
@@ -131,13 +135,13 @@ module _ (nodes : ℕ) (table : List ℕ) (due : ℕ → ℕ → ℕ) (h64 : nod
         ∙ sum-only nodes part n hn
       where
         part : ℕ → ℕ
-        part j = moved end (routesIn nodes table due j) (countsIn nodes table due j) (cell k n)
+        part j = moved end (subdomainRoutes nodes table due j) (subdomainCounts nodes table due j) (cell k n)
 
         absent : (j : ℕ) → j < nodes → j ≢ n → part j ≡ 0
         absent j l d =
-            moved-absent end (routesIn nodes table due j) (countsIn nodes table due j) (cell k n) (λ i b e.
+            moved-absent end (subdomainRoutes nodes table due j) (subdomainCounts nodes table due j) (cell k n) (λ i b e.
             let s = routes-in nodes (above j) (lacks j) j h64 i b in
-            d (sym s ∙ own (getD (routesIn nodes table due j) i 0) (omega (arith, s)) e))
+            d (sym s ∙ own (getD (subdomainRoutes nodes table due j) i 0) (omega (arith, s)) e))
 
   module _ (even : (n : ℕ) → n < nodes → sum nodes (due n) ≡ totalOf nodes table n) where
     -- all that is sent of a subdomain is all that is received

@@ -15,7 +15,7 @@ use Rattle.transfer.proofs.Next.{next-none, next-some}
 use Rattle.transfer.proofs.Turns.{turn-stop, rest-sender, rest-receiver, rest, senders-passed, receivers-passed}
 
 -- `rest` is left of `whole`, which began at entry e of the arrays routes₀ and counts₀
-pub record Left (n : ℕ) (routes₀ counts₀ : List ℕ) (e : ℕ) (whole : List Move) (routes counts : List ℕ) (entries : ℕ)
+pub record MovesLeft (n : ℕ) (routes₀ counts₀ : List ℕ) (e : ℕ) (whole : List Move) (routes counts : List ℕ) (entries : ℕ)
     (rest : List Move) : Type 0 where
   pub routes-long : length routes ≡ length routes₀
   pub counts-long : length counts ≡ length counts₀
@@ -24,15 +24,15 @@ pub record Left (n : ℕ) (routes₀ counts₀ : List ℕ) (e : ℕ) (whole : Li
   pub entries-left : entries + length rest ≡ e + length whole
 
 module _ (n : ℕ) (routes₀ counts₀ : List ℕ) (e : ℕ) (whole : List Move) where
-  left-all : Left n routes₀ counts₀ e whole routes₀ counts₀ e whole
+  left-all : MovesLeft n routes₀ counts₀ e whole routes₀ counts₀ e whole
   left-all = record { routes-long = refl; counts-long = refl; routes-left = refl; counts-left = refl; entries-left = refl }
 
   -- a part of it is written
   left-part : (routes counts : List ℕ) (entries : ℕ) (part rest : List Move) (routes′ counts′ : List ℕ) (entries′ : ℕ)
-      → Left n routes₀ counts₀ e whole routes counts entries (part ++ rest)
+      → MovesLeft n routes₀ counts₀ e whole routes counts entries (part ++ rest)
       → routes′ ≡ sets routes entries (map (routeOf n) part) → counts′ ≡ sets counts entries (map countOf part)
       → entries′ ≡ entries + length part
-      → Left n routes₀ counts₀ e whole routes′ counts′ entries′ rest
+      → MovesLeft n routes₀ counts₀ e whole routes′ counts′ entries′ rest
   left-part routes counts entries part rest routes′ counts′ entries′ l er ec ee =
       record {
         routes-long = rw er (length-sets routes entries (map (routeOf n) part) ∙ l .routes-long);
@@ -50,7 +50,7 @@ module _ (n : ℕ) (routes₀ counts₀ : List ℕ) (e : ℕ) (whole : List Move
           ∙ ap (sets xs entries) (sym (map-append f part rest))
 
   -- nothing is left
-  left-none : (routes counts : List ℕ) (entries : ℕ) → Left n routes₀ counts₀ e whole routes counts entries []
+  left-none : (routes counts : List ℕ) (entries : ℕ) → MovesLeft n routes₀ counts₀ e whole routes counts entries []
       → (entries ≡ e + length whole) × ((routes ≡ sets routes₀ e (map (routeOf n) whole)) × (counts ≡ sets counts₀ e (map countOf whole)))
   left-none routes counts entries l = (omega (arith, l .entries-left), (l .routes-left, l .counts-left))
 
@@ -65,7 +65,7 @@ pub record Pending (nodes : ℕ) (surplus shortage : ℕ → ℕ) (n : ℕ) (rou
   pub r-le : r ≤ nodes
   pub left-is : s < nodes → sent + left ≡ surplus s
   pub missing-is : r < nodes → got + missing ≡ shortage r
-  pub moves : Left n routes₀ counts₀ e whole routes counts entries (rest nodes surplus shortage s sent r got)
+  pub moves : MovesLeft n routes₀ counts₀ e whole routes counts entries (rest nodes surplus shortage s sent r got)
 
 module _ (nodes : ℕ) (surplus shortage : ℕ → ℕ) where
   -- the next sender, and the next receiver, have the same moves before them
@@ -147,7 +147,7 @@ module _ (nodes : ℕ) (surplus shortage : ℕ → ℕ) where
           (ec : counts′ ≡ sets counts entries (map countOf (moveOf s r v))) where
         -- the moves that are left behind the pair's
         behind : (l l′ : List Move) → rest nodes surplus shortage s (p .sent) r (p .got) ≡ moveOf s r v ++ l → l ≡ l′
-            → Left n routes₀ counts₀ e whole routes′ counts′ entries′ l′
+            → MovesLeft n routes₀ counts₀ e whole routes′ counts′ entries′ l′
         behind l l′ q same =
             rw (← same) (left-part n routes₀ counts₀ e whole routes counts entries (moveOf s r v) l routes′ counts′ entries′
             (rw q at (p .moves)) er ec ee)

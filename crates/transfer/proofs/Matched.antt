@@ -23,7 +23,7 @@ use Rattle.moves.specs.Moves.{route, subdomain, sender, receiver, routeFine, co
 use Rattle.moves.proofs.Laws.{route-subdomain, route-sender, route-receiver, route-of, count-of}
 use Rattle.transfer.specs.Matching.{Move, surplusOf, shortageOf, matched, movesBetween, routeOf, countOf}
 use Rattle.transfer.specs.Apply.{fromCell, intoCell, moved, sends, receives}
-use Rattle.transfer.proofs.Turns.{Turn, walk}
+use Rattle.transfer.proofs.Turns.{Turn, turn-by-turn}
 use Rattle.transfer.proofs.Ends.{moved-none, moved-here, moved-other}
 
 -- ---- prefix sums
@@ -67,7 +67,7 @@ module _ (nodes : ℕ) (surplus shortage : ℕ → ℕ) where
         → length (matched nodes surplus shortage turns s sent r got) ≤ left s r
     unfolding left
     few-left =
-        walk nodes surplus shortage (λ s sent r got l. length l ≤ left s r)
+        turn-by-turn nodes surplus shortage (λ s sent r got l. length l ≤ left s r)
         (λ s sent r got e. omega arith)
         (λ s sent r got m s′ sent′ r′ got′ rest t e p. ⊎-elim
         (λ w. omega (arith, p, filled-up surplus s s′ (omega (arith, w)), ap (filledBelow shortage) (w .1)))
@@ -123,7 +123,7 @@ module _ (nodes : ℕ) (surplus shortage : ℕ → ℕ) where
       rise : (turns s sent r got : ℕ) → sent ≤ surplus s → got ≤ shortage r → 2 * nodes ≤ turns + (s + r)
           → rising (routeFine nodes) (route n s r) (map (routeOf n) (matched nodes surplus shortage turns s sent r got)) ≡ true
       rise =
-          walk nodes surplus shortage (λ s sent r got l. rising (routeFine nodes) (route n s r) (map (routeOf n) l) ≡ true)
+          turn-by-turn nodes surplus shortage (λ s sent r got l. rising (routeFine nodes) (route n s r) (map (routeOf n) l) ≡ true)
           (λ s sent r got e. rising-none (routeFine nodes) (route n s r))
           (λ s sent r got m s′ sent′ r′ got′ rest t e p.
           rising-from (routeFine nodes) (route n s′ r′) (route n s r) (map (routeOf n) rest)
@@ -147,7 +147,7 @@ module _ (nodes : ℕ) (surplus shortage : ℕ → ℕ) where
       → 2 * nodes ≤ turns + (s + r)
       → every countFine (map countOf (matched nodes surplus shortage turns s sent r got)) ≡ true
   counts-every most =
-      walk nodes surplus shortage (λ s sent r got l. every countFine (map countOf l) ≡ true)
+      turn-by-turn nodes surplus shortage (λ s sent r got l. every countFine (map countOf l) ≡ true)
       (λ s sent r got e. unfold every in refl)
       (λ s sent r got m s′ sent′ r′ got′ rest t e p. p)
       (λ s sent r got m s′ sent′ r′ got′ rest t h p.
@@ -165,7 +165,7 @@ module _ (nodes : ℕ) (surplus shortage : ℕ → ℕ) where
     routes-at : (turns s sent r got : ℕ) → sent ≤ surplus s → got ≤ shortage r → 2 * nodes ≤ turns + (s + r)
         → In (matched nodes surplus shortage turns s sent r got)
     routes-at =
-        walk nodes surplus shortage (λ s sent r got l. In l)
+        turn-by-turn nodes surplus shortage (λ s sent r got l. In l)
         (λ s sent r got e i l. absurd (omega arith))
         (λ s sent r got m s′ sent′ r′ got′ rest t e p. p)
         (λ s sent r got m s′ sent′ r′ got′ rest t h p. at-first s r m rest (omega (arith, t .s-lt)) (omega (arith, t .r-lt)) p)
@@ -181,13 +181,13 @@ module _ (nodes : ℕ) (surplus shortage : ℕ → ℕ) where
 
   module _ (equal : sum nodes surplus ≡ sum nodes shortage) (n k : ℕ) (h64 : nodes ≤ maxNodes) (hn : n < 64) (hk : k < nodes) where
     -- where p particles have moved, the sender and the receiver of p have so much left to send and to receive
-    abbrev Left : ℕ → ℕ → ℕ → ℕ → List Move → Type 0
-    Left s sent r got l =
+    abbrev LeftOver : ℕ → ℕ → ℕ → ℕ → List Move → Type 0
+    LeftOver s sent r got l =
         sum s surplus + sent ≡ sum r shortage + got
         → (sends (map (routeOf n) l) (map countOf l) (cell k n) ≡ beyond surplus k (sum s surplus + sent))
         × (receives (map (routeOf n) l) (map countOf l) (cell k n) ≡ beyond shortage k (sum r shortage + got))
 
-    left-stop : (s sent r got : ℕ) → (nodes ≤ s) ⊎ (nodes ≤ r) → Left s sent r got []
+    left-stop : (s sent r got : ℕ) → (nodes ≤ s) ⊎ (nodes ≤ r) → LeftOver s sent r got []
     left-stop s sent r got h q =
         let us = sum-fewer (k + 1) nodes surplus (omega arith) in
         let ur = sum-fewer (k + 1) nodes shortage (omega arith) in
@@ -209,7 +209,7 @@ module _ (nodes : ℕ) (surplus shortage : ℕ → ℕ) where
     ]
 
     left-move : (s sent r got m s′ sent′ r′ got′ : ℕ) (rest : List Move) → Turn nodes surplus shortage s sent r got m s′ sent′ r′ got′
-        → Left s′ sent′ r′ got′ rest → Left s sent r got (record { sender = s; receiver = r; count = m } ∷ rest)
+        → LeftOver s′ sent′ r′ got′ rest → LeftOver s sent r got (record { sender = s; receiver = r; count = m } ∷ rest)
     left-move s sent r got m s′ sent′ r′ got′ rest t p q =
         let ih = p (omega (arith, t .sends, t .gets)) in
         let hs : s < 64 = omega (arith, t .s-lt) in
@@ -221,9 +221,9 @@ module _ (nodes : ℕ) (surplus shortage : ℕ → ℕ) where
               (rw (route-receiver n s r hs hr, ed)) (t .shortage-le) (t .gets) (ih .1),
         )
 
-    left-all : Left 0 0 0 0 all
+    left-all : LeftOver 0 0 0 0 all
     left-all =
-        walk nodes surplus shortage Left left-stop
+        turn-by-turn nodes surplus shortage LeftOver left-stop
         (λ s sent r got m s′ sent′ r′ got′ rest t e p q.
         let ih = p (omega (arith, t .sends, t .gets)) in
         (omega (arith, ih .0, t .sends), omega (arith, ih .1, t .gets)))

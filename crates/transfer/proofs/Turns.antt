@@ -136,13 +136,13 @@ module _ (nodes : ℕ) (surplus shortage : ℕ → ℕ) where
       | no d ↦ rw (ne-eqb m 0 d) (move s sent r got m s′ sent′ r′ got′ rest t (omega arith) p)
     ]
 
-    pub walk : (turns s sent r got : ℕ) → sent ≤ surplus s → got ≤ shortage r → 2 * nodes ≤ turns + (s + r)
+    pub turn-by-turn : (turns s sent r got : ℕ) → sent ≤ surplus s → got ≤ shortage r → 2 * nodes ≤ turns + (s + r)
         → P s sent r got (matched nodes surplus shortage turns s sent r got)
-    walk zero s sent r got bs br f = rw (turn-stop zero s sent r got past) (stop s sent r got past)
+    turn-by-turn zero s sent r got bs br f = rw (turn-stop zero s sent r got past) (stop s sent r got past)
       where
         past : (nodes ≤ s) ⊎ (nodes ≤ r)
         past = elim (decLe nodes s) [ yes h ↦ inl h | no d ↦ inr (omega (arith, d)) ]
-    walk (suc turns) s sent r got bs br f = elim (decLe nodes s) [
+    turn-by-turn (suc turns) s sent r got bs br f = elim (decLe nodes s) [
       | yes h ↦ rw (turn-stop (suc turns) s sent r got (inl h)) (stop s sent r got (inl h))
       | no ds ↦ elim (decLe nodes r) [
         | yes h ↦ rw (turn-stop (suc turns) s sent r got (inr h)) (stop s sent r got (inr h))
@@ -155,13 +155,13 @@ module _ (nodes : ℕ) (surplus shortage : ℕ → ℕ) where
                   rw (turn-sender turns s sent r got hs hr h)
                   (turn s sent r got m (s + 1) 0 r (got + m) (matched nodes surplus shortage turns (s + 1) 0 r (got + m))
                   (sender-done s sent r got hs hr bs br h)
-                  (walk turns (s + 1) 0 r (got + m) (omega arith) (omega arith) (omega arith)))
+                  (turn-by-turn turns (s + 1) 0 r (got + m) (omega arith) (omega arith) (omega arith)))
               | no d ↦
                   let h : shortage r - got < surplus s - sent = omega (arith, d) in
                   rw (turn-receiver turns s sent r got hs hr h)
                   (turn s sent r got m s (sent + m) (r + 1) 0 (matched nodes surplus shortage turns s (sent + m) (r + 1) 0)
                   (receiver-done s sent r got hs hr bs br h)
-                  (walk turns s (sent + m) (r + 1) 0 (omega arith) (omega arith) (omega arith)))
+                  (turn-by-turn turns s (sent + m) (r + 1) 0 (omega arith) (omega arith) (omega arith)))
             ]
       ]
     ]

@@ -11,7 +11,7 @@ use borrow.Author.Tests.{eq-eqb, ne-eqb, le-leb, leb-true}
 use Rattle.fold.proofs.Tests.{only-is, all-at, all-of}
 use Rattle.plan.specs.Tree.{isRoot, Tree}
 use Rattle.tree.specs.Family.{helps, overHelpers}
-use Rattle.tree.specs.Weigh.{leastWithin, spareWithin, least, holds}
+use Rattle.tree.specs.Least.{leastWithin, spareWithin, least, holds}
 use Rattle.tree.specs.Down.{down}
 use Rattle.tree.specs.Division.{WithinLimit, ownOf}
 use Rattle.tree.proofs.Families.{helps-ne, helper-no-root, helpers-le, helpers-eq, helpers-in-turn}

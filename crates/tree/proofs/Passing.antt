@@ -35,18 +35,18 @@ through-helper nodes h inside n (suc steps) j l d e = elim (ℕ-discrete (walk h
 ]
 
 -- the state of a loop over the helpers of n once those below k are passed, and with them all nodes below them
-pub record Passed (nodes : ℕ) (h right : ℕ → ℕ) (n : ℕ) (before : List ℕ) (k : ℕ) (out : List ℕ) : Type 0 where
+pub record HelpersPassed (nodes : ℕ) (h right : ℕ → ℕ) (n : ℕ) (before : List ℕ) (k : ℕ) (out : List ℕ) : Type 0 where
   pub below : (i j steps : ℕ) → i < k → helps h n i ≡ true → j < nodes → walk h steps j ≡ i → at out j ≡ right j
   pub kept : (j : ℕ) → j < nodes → at before j ≡ right j → at out j ≡ right j
   pub behind : (j : ℕ) → nodes ≤ j → at out j ≡ at before j
 
 module _ {nodes : ℕ} {h right : ℕ → ℕ} {n : ℕ} {before : List ℕ} where
-  pub passed-none : Passed nodes h right n before 0 before
+  pub passed-none : HelpersPassed nodes h right n before 0 before
   passed-none = record { below = λ i j steps l. absurd (omega arith); kept = λ j l e. e; behind = λ j l. refl }
 
   -- from one helper to the next
-  pub passed-next : {m to : ℕ} {out : List ℕ} → Passed nodes h right n before m out → FirstFrom nodes (helps h n) m to
-      → Passed nodes h right n before to out
+  pub passed-next : {m to : ℕ} {out : List ℕ} → HelpersPassed nodes h right n before m out → FirstFrom nodes (helps h n) m to
+      → HelpersPassed nodes h right n before to out
   passed-next {m} p x =
       record {
         below = λ i j steps l e. elim (decLt i m) [
@@ -58,8 +58,8 @@ module _ {nodes : ℕ} {h right : ℕ → ℕ} {n : ℕ} {before : List ℕ} whe
       }
 
   -- the pass went down from helper k
-  pub passed-helper : {k : ℕ} {out after : List ℕ} → Passed nodes h right n before k out → Descended nodes h right k out after
-      → Passed nodes h right n before (k + 1) after
+  pub passed-helper : {k : ℕ} {out after : List ℕ} → HelpersPassed nodes h right n before k out → Descended nodes h right k out after
+      → HelpersPassed nodes h right n before (k + 1) after
   passed-helper {k} p w =
       record {
         below = λ i j steps l e m q. elim (ℕ-discrete i k) [
@@ -71,7 +71,7 @@ module _ {nodes : ℕ} {h right : ℕ → ℕ} {n : ℕ} {before : List ℕ} whe
       }
 
   -- all helpers are passed, and n has its entry
-  pub passed-all : {r : ℕ} {out : List ℕ} → Tree nodes h r → Passed nodes h right n before nodes out → at out n ≡ right n
+  pub passed-all : {r : ℕ} {out : List ℕ} → Tree nodes h r → HelpersPassed nodes h right n before nodes out → at out n ≡ right n
       → Descended nodes h right n before out
   passed-all {r} {out} t p e =
       record {
@@ -87,7 +87,7 @@ module _ {nodes : ℕ} {h right : ℕ → ℕ} {n : ℕ} {before : List ℕ} whe
 
 -- the entry of n is stored after its helpers
 pub passed-store : {nodes : ℕ} {h right : ℕ → ℕ} {n r : ℕ} {before out : List ℕ} → Tree nodes h r → n < nodes → n < length out
-    → Passed nodes h right n before nodes out → (v : ℕ) → v ≡ right n → Descended nodes h right n before (set out n v)
+    → HelpersPassed nodes h right n before nodes out → (v : ℕ) → v ≡ right n → Descended nodes h right n before (set out n v)
 passed-store {nodes} {h} {right} {n} {r} {before} {out} t l b p v e =
     passed-all t
     (record {

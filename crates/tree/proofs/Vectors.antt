@@ -9,7 +9,7 @@ use Rattle.fold.specs.Sum.{sum}
 use Rattle.fold.specs.All.{all}
 use Rattle.fold.specs.Collect.{collect}
 use Rattle.arrays.specs.Arrays.{padded, at, tabulate}
-use Rattle.tree.specs.Weigh.{leastWithin, least, holds}
+use Rattle.tree.specs.Least.{leastWithin, least, holds}
 
 -- "Taking L as every helper's spare: it keeps H's tree at 27, 39, 34, where the least of node 1 is 37."
 pub misstep : (tabulate 3 (least 3 (at (0 ∷ 0 ∷ 1 ∷ [])) (at (27 ∷ 39 ∷ 34 ∷ [])) 36) ≡ padded (27 ∷ 37 ∷ 34 ∷ []))

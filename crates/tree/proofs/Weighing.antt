@@ -3,7 +3,7 @@
 use mathlib.Core.Path.{_≡_, sym, ap, _∙_}
 use mathlib.Core.Logic.{_≢_}
 use mathlib.Core.Bool.{true}
-use Prim.Native.Nat.{ℕ, zero, suc, _+_, _-_, _<_}
+use Prim.Native.Nat.{ℕ, zero, suc, _+_, _-_, _≤_, _<_}
 use native.Mathlib.Numerals.{add-one, sub-one}
 use native.Mathlib.Omega.{arith}
 use lib.Dec.{leb}
@@ -12,10 +12,15 @@ use Rattle.plan.specs.Tree.{walk, Tree}
 use Rattle.plan.proofs.Trees.{walk-none, walk-suc}
 use Rattle.arrays.specs.Arrays.{at, tabulate}
 use Rattle.tree.specs.Family.{helps, overHelpers}
-use Rattle.tree.specs.Weigh.{leastWithin, spareWithin, least, holds}
+use Rattle.tree.specs.Least.{leastWithin, spareWithin, least, holds}
 use Rattle.tree.specs.Inner.{Shallow}
 use Rattle.tree.proofs.Families.{helps-of, helps-ne, helpers-eq}
 use Rattle.arrays.proofs.Tabulate.{tabulate-within}
+
+-- a least is at most the node's own count
+pub least-most : (nodes : ℕ) (h total : ℕ → ℕ) (limit n : ℕ) → least nodes h total limit n ≤ total n
+unfolding leastWithin
+least-most nodes h total limit n = omega arith
 
 -- ---- how deep a tree is
 
@@ -38,12 +43,12 @@ module _ (nodes : ℕ) (h : ℕ → ℕ) where
   shallow-of (suc depth) n l f = λ k b e. shallow-of depth k b (λ j c q. f j c (walk-suc h depth j ∙ ap h q ∙ helps-of h n k e))
 
   -- no helper is the root
-  pub helper-below : (r : ℕ) → Tree nodes h r → (n k : ℕ) → helps h n k ≡ true → k ≢ r
-  helper-below r t n k e q = helps-ne h n k e (q ∙ sym (t .own) ∙ ap h (sym q) ∙ helps-of h n k e)
+  pub root-no-helper : (r : ℕ) → Tree nodes h r → (n k : ℕ) → helps h n k ≡ true → k ≢ r
+  root-no-helper r t n k e q = helps-ne h n k e (q ∙ sym (t .own) ∙ ap h (sym q) ∙ helps-of h n k e)
 
   tree-shallow : (r : ℕ) → Tree nodes h r → (n : ℕ) → Shallow nodes h (suc nodes) n
   unfolding Shallow
-  tree-shallow r t n = λ k b e. shallow-of nodes k b (λ j c q. helper-below r t n k e (sym q ∙ t .reach j c))
+  tree-shallow r t n = λ k b e. shallow-of nodes k b (λ j c q. root-no-helper r t n k e (sym q ∙ t .reach j c))
 
   -- so much is enough for a pass from the root
   pub root-shallow : {r : ℕ} → Tree nodes h r → Shallow nodes h (nodes + 1) r

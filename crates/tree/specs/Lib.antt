@@ -1,6 +1,6 @@
 pub mod Primary
 pub mod Family
-pub mod Weigh
+pub mod Least
 pub mod Down
 pub mod Division
 pub mod Links

@@ -17,10 +17,11 @@ use Rattle.arrays.proofs.Tabulate.{length-row, tabulate-at, take-tabulate}
 use Rattle.sheet.specs.Sheet.{readSheet}
 use Rattle.sheet.specs.Table.{tableIn}
 use Rattle.sheet.specs.Totals.{totalOf, totalsIn}
+use Rattle.plan.specs.Plan.{helpandsOf}
 use Rattle.sheet.proofs.Accepted.{sheet-accepted}
 use Rattle.sheet.proofs.Tables.{table-within}
 use Rattle.sheet.proofs.Totalled.{total-le}
-use Rattle.tree.specs.Weigh.{leastWithin}
+use Rattle.tree.proofs.Weighing.{least-most}
 use Rattle.weigh.specs.declared.WeighAnswer.{WeighAnswer}
 use Rattle.weigh.specs.Weigh.{refused, leastIn, leastBytes, weighAnswer, weighBytes, LeastsReadBack}
 
@@ -37,13 +38,12 @@ module _ (s p : List ℕ) (z : readSheet s .refusal ≡ 0) where
       sym (ap (λ (xs : List ℕ). getD xs k 0) (take-tabulate n₀ f)) ∙ getD-take n₀ (tabulate n₀ f) k 0 l ∙ tabulate-at n₀ f k l
 
   least-small : (k : ℕ) → k < n₀ → leastIn s p k ≤ maxTotal
-  unfolding leastWithin
   least-small k l =
       let a = sheet-accepted s z in
       let t = totalOf n₀ (tableIn s) in
       let high = total-le (tableIn s) n₀ k (a .n-high) (omega (arith, a .n-high)) in
       let total : at (totalsIn s) k ≤ maxTotal = omega (arith, tabulate-at n₀ t k l, high, table-within s (readSheet s) a) in
-      omega arith
+      omega (arith, least-most n₀ (at (helpandsOf p n₀)) (at (totalsIn s)) (readSheet s .limit) k)
 
   leasts-fit : Below (2 ^ 32) leasts
   leasts-fit k l = let b : k < n₀ = omega (arith, length-row (leastIn s p) n₀) in omega (arith, least-at k b, least-small k b)

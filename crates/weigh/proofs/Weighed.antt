@@ -32,7 +32,7 @@ use Rattle.plan.specs.declared.PlanAnswer.{PlanAnswer}
 use Rattle.plan.specs.Tree.{Tree}
 use Rattle.plan.specs.Plan.{readPlan, helpandsOf}
 use Rattle.plan.proofs.AcceptedTree.{accepted-tree}
-use Rattle.tree.specs.Weigh.{least}
+use Rattle.tree.specs.Least.{least}
 use Rattle.tree.proofs.Weighing.{holds-tabulated}
 use Rattle.weigh.specs.declared.WeighAnswer.{WeighAnswer}
 use Rattle.weigh.specs.Weigh.{refused, weighed, leastIn, holdsIn, leastBytes, weighAnswer, weighBytes}

@@ -14,7 +14,7 @@ use Rattle.sheet.specs.Sheet.{readSheet, refusalNumber as sheetNumber}
 use Rattle.arrays.specs.Arrays.{at}
 use Rattle.plan.specs.Plan.{readPlan, helpandsOf, refusalNumber as planNumber}
 use Rattle.sheet.specs.Totals.{totalsIn}
-use Rattle.tree.specs.Weigh.{least, holds}
+use Rattle.tree.specs.Least.{least, holds}
 use Rattle.weigh.specs.declared.WeighRefusal.{WeighRefusal}
 use Rattle.weigh.specs.declared.WeighRefusal.the-variants.{Sheet as OfSheet, Plan as OfPlan, NodesDiffer, Primary, Buffer}
 use Rattle.weigh.specs.declared.Weighing.{Weighing}

@@ -41,9 +41,9 @@ fn leasts_of(sheet: &[u8], plan: &[u8], s: Sheet) -> [u32; 64]
     let table = sheet::table::unpack(sheet, s.e as usize);
     let totals = sheet::totals::totals(&table, nodes);
     let helpands = words::words_64(plan, 3, nodes);
-    let root = tree::weigh::find_root(helpands, nodes);
+    let root = tree::least::find_root(helpands, nodes);
     let links = tree::links::helper_links(&helpands, nodes);
-    tree::weigh::leasts(totals, helpands, &links, nodes, root, s.limit)
+    tree::least::leasts(totals, helpands, &links, nodes, root, s.limit)
 }
 
 // Weighs a sheet and a plan that were read.
@@ -64,7 +64,7 @@ fn weigh_read(sheet: &[u8], plan: &[u8], s: Sheet, p: Plan, least: &mut [u8]) ->
     }
     let leasts = leasts_of(sheet, plan, s);
     words::put_words(least, 0, &leasts, nodes);
-    Weighing::Weighed(tree::weigh::holds(leasts, nodes, s.limit))
+    Weighing::Weighed(tree::least::holds(leasts, nodes, s.limit))
 }
 
 // *Weigh*. The leasts are written also when the tree does not hold.

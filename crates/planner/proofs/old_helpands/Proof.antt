@@ -23,7 +23,9 @@ returns : tie.Need-returns
 returns c = let a = c .before .before .before .args in with-tree (now (a .old)) (a .nodes) _ (c .before .if1 .taken) (c .words-64 .ensures)
 
 returns-2 : tie.Need-returns-2
-returns-2 c = let a = c .before .before .before .args in without (now (a .old)) (a .nodes) _ (c .before .if1 .left) (c .own-numbers .ensures)
+returns-2 c =
+    let a = c .before .before .before .args in
+    without (now (a .old)) (a .nodes) _ (c .before .if1 .left) (c .own-numbers .ensures)
 
 pub old-helpands-spec : {M : Type 1} → statement M
 old-helpands-spec =

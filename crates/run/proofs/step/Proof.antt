@@ -9,7 +9,7 @@ use lib.Seq.{length-take-le}
 use denote.Ref.{now}
 use Rattle.words.specs.Buffer.{placed}
 use Rattle.run.specs.Run.{planSize, movesSize}
-use Rattle.run.proofs.Planned.{Answered, number-text, plan-front, moves-front, fronts-printable, fronts-text}
+use Rattle.run.proofs.Planned.{Answered, number-text, plan-in-front, moves-in-front, fronts-printable, fronts-text}
 use Rattle.run.proofs.step.Statement.{statement}
 use Rattle.run.proofs.step.Tie as tie
 
@@ -27,12 +27,12 @@ module _ (c : tie.After-answer) where
   abbrev out : List ℕ
   out = now (start .args .out)
 
-  -- the two buffers, which began as zeros
+  -- the two buffers, which began as zeros: the last of the four that were lent
   abbrev plan : List ℕ
-  plan = step .plan-step .last .1 .1 .0
+  plan = let buffers = step .plan-step .last .1 .1 in buffers .0
 
   abbrev moves : List ℕ
-  moves = let behind = step .plan-step .last .1 .1 in behind .1 .0
+  moves = let buffers = step .plan-step .last .1 .1 in buffers .1 .0
 
   answered : Answered (now (start .args .sheet)) (now (start .args .old)) (c .answer .result) (replicate planSize 0) (replicate movesSize 0)
       plan moves
@@ -59,10 +59,10 @@ abbrev planned : tie.Else1 → tie.After-answer
 planned c = c .before .before
 
 plan-within : (c : tie.Else1) → planned c .answer .result .plan ≤ length (plan (planned c))
-plan-within c = plan-front (answered (planned c)) (c .if1 .left) .within
+plan-within c = plan-in-front (answered (planned c)) (c .if1 .left) .within
 
 moves-within : (c : tie.Else1) → planned c .answer .result .moves ≤ length (moves (planned c))
-moves-within c = moves-front (answered (planned c)) (c .if1 .left) .within
+moves-within c = moves-in-front (answered (planned c)) (c .if1 .left) .within
 
 abbrev accepted : tie.After-moves3 → tie.Else1
 accepted c = c .before .before .before .before

@@ -17,7 +17,7 @@ use Rattle.tree.specs.Family.{helps}
 use Rattle.tree.specs.Down.{Descends}
 use Rattle.tree.proofs.Linking.{link-first, link-next}
 use Rattle.tree.proofs.Weighing.{shallow-some, shallow-helper}
-use Rattle.tree.proofs.Passing.{Passed, passed-none, passed-next, passed-helper, passed-all}
+use Rattle.tree.proofs.Passing.{HelpersPassed, passed-none, passed-next, passed-helper, passed-all}
 use Rattle.shares.specs.Inner.{amountsIn, shareIn}
 use Rattle.shares.proofs.Noting.{noted-right, descended-after}
 use Rattle.shares.proofs.KeptShares.{shares-described}
@@ -48,7 +48,7 @@ record DividedSoFar (nodes : ℕ) (h share : ℕ → ℕ) (n : ℕ) (noted out :
   k-le : k ≤ nodes
   helper : k < nodes → helps h n k ≡ true
   long : length out ≡ 64
-  passed : Passed nodes h share n noted k out
+  passed : HelpersPassed nodes h share n noted k out
 
 abbrev Inv : lts.InvT-loop
 Inv depth n table totals leasts helpands links nodes limit noted k₀ out k =

@@ -10,7 +10,7 @@ use denote.Ref.{now}
 use Rattle.limit.specs.Limit.{maxTotal}
 use Rattle.words.proofs.Words.{part-more, part-end}
 use Rattle.sheet.specs.Sheet.{countsOf, runningSum}
-use Rattle.sheet.proofs.Laws.{sum-more, sum-none, sum-over}
+use Rattle.sheet.proofs.Laws.{running-more, running-none, running-over}
 use Rattle.sheet.proofs.sum_counts.Statement.{statement}
 use Rattle.sheet.proofs.sum_counts.Tie as tie
 
@@ -49,11 +49,11 @@ sum-counts-spec =
     (λ c. search needs)  -- add-word-number
     (λ c. search needs)  -- add-word-number-2
     (λ c κs. search needs)  -- word-number-requires
-    (λ c. sym (here (c .before) ∙ sum-none _ _ _ (c .if1 .taken)))  -- returns
+    (λ c. sym (here (c .before) ∙ running-none _ _ _ (c .if1 .taken)))  -- returns
     (λ c. search needs)  -- sub-if2
-    (λ c. sym (here (c .before .before) ∙ sum-over _ _ _ (c .before .if1 .left) (omega arith)))  -- returns-2
+    (λ c. sym (here (c .before .before) ∙ running-over _ _ _ (c .before .if1 .left) (omega arith)))  -- returns-2
     (λ c. search needs)  -- add-sum
     (λ c. search needs)  -- add-i
     (λ c. search needs)  -- loop-less
-    (λ c. (omega arith, omega arith, here (c .before .before) ∙ sum-more _ _ _ (c .before .if1 .left) (omega arith)))  -- loop-again
+    (λ c. (omega arith, omega arith, here (c .before .before) ∙ running-more _ _ _ (c .before .if1 .left) (omega arith)))  -- loop-again
     returns-3)

@@ -1,4 +1,5 @@
--- `sheet::totals::add_row` meets its contract: the entries of the subdomains passed have the holder's count too, the others are as they were.
+-- `sheet::totals::add_row` meets its contract: the entries of the subdomains passed have the holder's count too, the others are as they
+-- were.
 -- Assumes nothing.
 use borrow.Author.Needs.{needs}
 use mathlib.Core.Path.{_≡_, refl, ap, _∙_}

@@ -12,7 +12,7 @@ use Rattle.sheet.specs.Table.{held}
 use Rattle.tree.specs.Division.{ownOf}
 use Rattle.transfer.specs.Due.{dueWith, dueOf}
 use Rattle.transfer.specs.Matching.{movesBetween, subdomainMoves}
-use Rattle.transfer.proofs.Subdomains.{moves-eq, few-all, Written, written-none, routes-long, counts-long, written-more, written-all, all-routes-eq, all-counts-eq}
+use Rattle.transfer.proofs.Subdomains.{moves-eq, few-all, WrittenBelow, written-none, routes-long, counts-long, written-more, written-all, all-routes-eq, all-counts-eq}
 use Rattle.transfer.proofs.matching.all_moves.Statement.{statement}
 use Rattle.arrays.proofs.Tabulate.{tabulate-at, tabulate-behind}
 use Rattle.sheet.specs.Totals.{totalOf}
@@ -24,7 +24,7 @@ dues helpands shares own n = dueWith (at helpands) (at shares) (at own n) n
 
 abbrev Inv-loop : tie.InvT-loop
 Inv-loop table nodes routes₀ counts₀ helpands shares own e₀ n₀ routes counts e n =
-    (n ≤ nodes) × Written nodes table (dues helpands shares own) routes₀ counts₀ n routes counts e
+    (n ≤ nodes) × WrittenBelow nodes table (dues helpands shares own) routes₀ counts₀ n routes counts e
 
 abbrev μ-loop : tie.MeasureT-loop
 μ-loop table nodes routes₀ counts₀ helpands shares own e₀ n₀ routes counts e n = nodes - n
@@ -65,7 +65,8 @@ loop-again c =
     let a = head .before .before .before .before .args in
     let d = dues (a .t3) (a .t4) (head .before .own-amounts .result) in
     let r = put .put-subdomain in
-    let arrays = r .last .1 .1 in
+    let behind = r .last .1 .1 in
+    let arrays = behind .1 .1 in
     let holding : ℕ → ℕ = λ k. held (now (a .table)) k (l .n) in
     let moves = movesBetween (a .nodes) (at (held-by .holdings .result)) (at (due .due-amounts .result)) in
     let same : moves ≡ subdomainMoves (a .nodes) (now (a .table)) d (l .n) =
@@ -74,7 +75,7 @@ loop-again c =
     (λ k b. ap (λ (xs : List ℕ). at xs k) (due .due-amounts .ensures) ∙ tabulate-at (a .nodes) (d (l .n)) k b) in (
       omega (arith, turn .loop-test .taken),
       written-more (a .nodes) (now (a .table)) d (now (a .routes)) (now (a .counts)) (l .n) (l .routes) (l .counts) (l .e) (l .inv .1) moves
-          (arrays .1 .1 .0) (arrays .1 .1 .1 .0) (r .result) same (r .ensures .0) (r .ensures .1 .0) (r .ensures .1 .1),
+          (arrays .0) (arrays .1 .0) (r .result) same (r .ensures .0) (r .ensures .1 .0) (r .ensures .1 .1),
     )
 
 returns : tie.Need-returns Inv-loop μ-loop

@@ -13,22 +13,22 @@ use denote.Ref.{now}
 use Rattle.fold.specs.First.{FirstFrom}
 use Rattle.arrays.specs.Arrays.{at}
 use Rattle.tree.specs.Family.{helps}
-use Rattle.tree.specs.Weigh.{least as leastOf}
+use Rattle.tree.specs.Least.{least as leastOf}
 use Rattle.tree.specs.Inner.{LinkedTree, Descended}
 use Rattle.tree.proofs.Linking.{link-first, link-next, Left, left-first, left-next, left-all}
 use Rattle.tree.proofs.Weighing.{shallow-some, shallow-helper, least-is}
-use Rattle.tree.proofs.Passing.{Passed, passed-none, passed-next, passed-helper, passed-store}
-use Rattle.tree.proofs.weigh.least.Reads as least
-use Rattle.tree.proofs.weigh.least.Kinds as least-kinds
-use Rattle.tree.proofs.weigh.+least+spare.Lts-least as least-lts
-use Rattle.tree.proofs.weigh.spare.Reads as spare
-use Rattle.tree.proofs.weigh.spare.Kinds as spare-kinds
-use Rattle.tree.proofs.weigh.+least+spare.Lts-spare as spare-lts
+use Rattle.tree.proofs.Passing.{HelpersPassed, passed-none, passed-next, passed-helper, passed-store}
+use Rattle.tree.proofs.least.least.Reads as least
+use Rattle.tree.proofs.least.least.Kinds as least-kinds
+use Rattle.tree.proofs.least.+least+spare.Lts-least as least-lts
+use Rattle.tree.proofs.least.spare.Reads as spare
+use Rattle.tree.proofs.least.spare.Kinds as spare-kinds
+use Rattle.tree.proofs.least.+least+spare.Lts-spare as spare-lts
 use Rattle.fold.proofs.numbers.saturating_sub.Reads as saturating-sub
 use Rattle.tree.proofs.links.first.Reads as first
 use Rattle.tree.proofs.links.next.Reads as next
-use Rattle.tree.proofs.weigh.+least+spare.{statement}
-use Rattle.tree.proofs.weigh.+least+spare.Tie.{close}
+use Rattle.tree.proofs.least.+least+spare.{statement}
+use Rattle.tree.proofs.least.+least+spare.Tie.{close}
 
 abbrev μ-least : Measures 4 least-kinds.ps ℕ
 μ-least κs a = a .0 + a .0
@@ -57,7 +57,7 @@ claims t = (first.Asked, first.Learnt, spare-below t, spare.Post, saturating-sub
 record WeighedSoFar (nodes : ℕ) (h total : ℕ → ℕ) (limit n : ℕ) (before out : List ℕ) (left k : ℕ) : Type 0 where
   long : length out ≡ 64
   spared : Left nodes h n (λ i. limit - leastOf nodes h total limit i) (total n) left k
-  passed : Passed nodes h (leastOf nodes h total limit) n before k out
+  passed : HelpersPassed nodes h (leastOf nodes h total limit) n before k out
 
 -- what is left is the least of n, which is stored
 ends : {nodes : ℕ} {h total : ℕ → ℕ} {limit n : ℕ} {before out links : List ℕ} {left k : ℕ} → LinkedTree nodes h links → n < nodes
@@ -122,7 +122,8 @@ module _ (t : ℕ) where
       let x = onward i (c .next .ensures) in
       record {
         long = s .1;
-        spared = left-next (v .spared) (i .loop-test .taken) (m .saturating-sub .ensures ∙ ap (λ (y : ℕ). i .before .loop .left - y) (s .0)) x;
+        spared =
+            left-next (v .spared) (i .loop-test .taken) (m .saturating-sub .ensures ∙ ap (λ (y : ℕ). i .before .loop .left - y) (s .0)) x;
         passed = passed-next (passed-helper (v .passed) (s .2)) x;
       }
 

@@ -1,13 +1,13 @@
--- `tree::weigh::find_root` meets its contract: no node passed is a root, so each tree's root is still ahead. Assumes nothing.
+-- `tree::least::find_root` meets its contract: no node passed is a root, so each tree's root is still ahead. Assumes nothing.
 use borrow.Author.Needs.{needs}
 use Prim.Native.Nat.{ℕ, _+_, _≤_, _<_, _-_}
 use native.Mathlib.Decide.{ℕ-discrete}
 use native.Mathlib.Omega.{arith}
 use Rattle.plan.specs.Tree.{Tree}
 use Rattle.plan.proofs.Trees.{tree-alone}
-use Rattle.tree.proofs.weigh.find_root.Statement.{statement}
+use Rattle.tree.proofs.least.find_root.Statement.{statement}
 use Rattle.arrays.specs.Arrays.{at}
-use Rattle.tree.proofs.weigh.find_root.Tie as tie
+use Rattle.tree.proofs.least.find_root.Tie as tie
 
 abbrev Inv-loop : tie.InvT-loop
 Inv-loop nodes helpands node₀ node = (node < nodes) × ((r : ℕ) → Tree nodes (at helpands) r → node ≤ r)

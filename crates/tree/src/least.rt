@@ -11,7 +11,7 @@ ghost use Rattle.fold.specs.All.{all};
 ghost use Rattle.limit.specs.Limit.{maxNodes};
 ghost use Rattle.plan.specs.Tree.{Tree};
 ghost use Rattle.arrays.specs.Arrays.{at, tabulate};
-ghost use Rattle.tree.specs.Weigh.{least};
+ghost use Rattle.tree.specs.Least.{least};
 ghost use Rattle.tree.specs.Links.{Linked};
 ghost use Rattle.tree.specs.Inner.{LinkedTree, Shallow, Descended};
 

@@ -1,12 +1,12 @@
--- `tree::weigh::leasts` meets its contract: every chain comes to the root, so the pass down from there leaves every least.
+-- `tree::least::leasts` meets its contract: every chain comes to the root, so the pass down from there leaves every least.
 -- Assumes nothing.
 use borrow.Author.Needs.{needs}
 use mathlib.Core.Path.{refl}
 use Rattle.arrays.specs.Arrays.{at}
 use Rattle.tree.proofs.Weighing.{root-shallow}
 use Rattle.tree.proofs.Passing.{descended-root}
-use Rattle.tree.proofs.weigh.leasts.Statement.{statement}
-use Rattle.tree.proofs.weigh.leasts.Tie as tie
+use Rattle.tree.proofs.least.leasts.Statement.{statement}
+use Rattle.tree.proofs.least.leasts.Tie as tie
 
 least-requires : tie.Need-least-requires
 least-requires c κs =
