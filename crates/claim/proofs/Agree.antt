@@ -1,15 +1,15 @@
 -- Divisions, trees and due amounts look at the nodes' own helpands and shares alone: two pairs of functions that agree below N give the
 -- same. So an array and what a record has of it may stand for each other. Assumes nothing.
-use mathlib.Core.Path.{_≡_, refl, sym, ap, ap₂, _∙_}
-use mathlib.Core.Bool.{_&&_, not}
+use mathlib.Core.Path.{_≡_, sym, ap, ap₂, _∙_}
+use mathlib.Core.Bool.{not}
 use Prim.Native.Nat.{ℕ, zero, suc, _+_, _-_, _<_}
 use native.Mathlib.Omega.{arith}
 use lib.Dec.{eqb}
 use Rattle.fold.specs.Sum.{only}
-use Rattle.fold.proofs.Sums.{sum-eq}
 use Rattle.plan.specs.Tree.{walk, Tree}
 use Rattle.plan.proofs.Trees.{walk-none, walk-more}
-use Rattle.tree.specs.Family.{helps, overHelpers}
+use Rattle.tree.specs.Family.{overHelpers}
+use Rattle.tree.proofs.Families.{helpers-agree}
 use Rattle.tree.specs.Division.{Division, WithinLimit, OnTarget, load, ownOf}
 use Rattle.transfer.specs.Due.{dueOf}
 use Rattle.transfer.proofs.Dues.{due-parts}
@@ -35,9 +35,7 @@ module _ (nodes : ℕ) (h h′ : ℕ → ℕ) (same : (k : ℕ) → k < nodes �
 
   module _ (total share share′ : ℕ → ℕ) (shares : (k : ℕ) → k < nodes → share k ≡ share′ k) where
     over-agree : (n : ℕ) → overHelpers nodes h n share ≡ overHelpers nodes h′ n share′
-    over-agree n =
-        sum-eq nodes (λ k. only (helps h n k) (share k)) (λ k. only (helps h′ n k) (share′ k))
-        (λ k l. ap₂ (λ (x y : ℕ). only (eqb x n && not (eqb k n)) y) (same k l) (shares k l))
+    over-agree = helpers-agree nodes h h′ share share′ same shares
 
     own-agree : (n : ℕ) → ownOf nodes h total share n ≡ ownOf nodes h′ total share′ n
     own-agree n = ap (λ (x : ℕ). total n - x) (over-agree n)

@@ -11,7 +11,7 @@ use Rattle.fold.specs.All.{all}
 abbrev pub helpandsBelow : ℕ → (ℕ → ℕ) → Bool
 helpandsBelow n h = all n (λ k. ltb (h k) n)
 
--- ---- 17: "the wrong shape. Shape: kind 0 has only roots; kinds 1 and 2 have one root. The first node whose chain of helpands
+-- ---- 17: "the wrong shape", and "Shape: kind 0 has only roots; kinds 1 and 2 have one root. The first node whose chain of helpands
 -- fails to reach the root within N steps ends the search with 17."
 
 -- "A root's helpand is its own number"

@@ -9,8 +9,6 @@ use native.Mathlib.Omega.{arith}
 use borrow.Author.Tests.{ne-eqb}
 use lib.ListN.{length, take}
 use lib.Seq.{getD-take}
-use Rattle.fold.specs.Sum.{only}
-use Rattle.fold.proofs.Sums.{sum-eq}
 use Rattle.arrays.specs.Arrays.{at}
 use Rattle.sheet.specs.Sheet.{readSheet}
 use Rattle.sheet.specs.Totals.{totalsIn}
@@ -19,7 +17,8 @@ use Rattle.plan.specs.Plan.{readPlan}
 use Rattle.plan.proofs.Accepted.{plan-accepted}
 use Rattle.moves.specs.declared.MovesAnswer.{MovesAnswer}
 use Rattle.moves.specs.Moves.{readMoves}
-use Rattle.tree.specs.Family.{helps, overHelpers}
+use Rattle.tree.specs.Family.{overHelpers}
+use Rattle.tree.proofs.Families.{helpers-agree}
 use Rattle.transfer.specs.Inner.{Allotted}
 use Rattle.planner.specs.declared.StepAnswer.{StepAnswer}
 use Rattle.planner.specs.Step.{planned, decisionIn, planIn, movesIn, stepAnswer, planAfter, movesAfter}
@@ -51,10 +50,8 @@ allotted-front n h share total a =
     record { inside = λ k l. omega (arith, getD-take n h k 0 l, a .inside k l); enough = λ m l. omega (arith, same m, a .enough m l) }
   where
     same : (m : ℕ) → overHelpers n (at (take n h)) m (at (take n share)) ≡ overHelpers n (at h) m (at share)
-    same m =
-        sum-eq n (λ k. only (helps (at (take n h)) m k) (at (take n share) k)) (λ k. only (helps (at h) m k) (at share k)) λ k l.
-        ap (λ (x : ℕ). only (helps (λ j. x) m k) (at (take n share) k)) (getD-take n h k 0 l)
-        ∙ ap (only (helps (at h) m k)) (getD-take n share k 0 l)
+    same =
+        helpers-agree n (at (take n h)) (at h) (at (take n share)) (at share) (λ k l. getD-take n h k 0 l) (λ k l. getD-take n share k 0 l)
 
 -- THEOREM. What is planned can be printed.
 pub printable : (s o : List ℕ) → Plannable s o → Printable s (planIn s o) (movesIn s o)

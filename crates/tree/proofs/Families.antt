@@ -1,5 +1,5 @@
 -- Laws of families: who helps whom, and sums over the helpers of a node. Assumes nothing.
-use mathlib.Core.Path.{_≡_, refl, sym, ap, _∙_}
+use mathlib.Core.Path.{_≡_, refl, sym, ap, ap₂, _∙_}
 use mathlib.Core.Logic.{_≢_, _⊎_, inl, inr}
 use mathlib.Core.Bool.{Bool, true, false, not, _&&_}
 use Prim.Native.Nat.{ℕ, _+_, _-_, _≤_, _<_, min}
@@ -105,3 +105,10 @@ module _ (h : ℕ → ℕ) (n : ℕ) (f : ℕ → ℕ) where
         | yes e ↦ omega (arith, only-is (eqb k n) (f k) (eq-eqb k n e), only-not (helps h n k) (f k) (helps-self h n k e))
         | no d ↦ omega (arith, only-not (eqb k n) (f k) (ne-eqb k n d), by k d (either (helps h n k)))
       ]
+
+-- sums over helpers look at the nodes' own helpands and amounts alone
+pub helpers-agree : (nodes : ℕ) (h h′ f g : ℕ → ℕ) → ((k : ℕ) → k < nodes → h k ≡ h′ k) → ((k : ℕ) → k < nodes → f k ≡ g k) → (n : ℕ)
+    → overHelpers nodes h n f ≡ overHelpers nodes h′ n g
+helpers-agree nodes h h′ f g same amounts n =
+    sum-eq nodes (λ k. only (helps h n k) (f k)) (λ k. only (helps h′ n k) (g k))
+    (λ k l. ap₂ (λ (x y : ℕ). only (eqb x n && not (eqb k n)) y) (same k l) (amounts k l))
