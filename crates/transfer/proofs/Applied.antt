@@ -48,25 +48,25 @@ entry-read table moves e i ready h route count is-route is-count =
       counts = part-more moves (2 + e) e i h (omega (arith, ready .long));
     })
 
--- ---- what the moves from entry i on end with at cell c
+-- ---- the counts of the moves from entry i on that end at cell c, added up
 
 module _ (end : ℕ → ℕ) (moves : List ℕ) (e i : ℕ) where
-  abbrev pub rest : ℕ → ℕ
-  rest c = moved end (drop i (routesOf moves e)) (drop i (countsOf moves e)) c
+  abbrev pub movedFrom : ℕ → ℕ
+  movedFrom c = moved end (drop i (routesOf moves e)) (drop i (countsOf moves e)) c
 
-  pub rest-none : e ≤ i → (c : ℕ) → rest c ≡ 0
-  rest-none h c = rw (part-end moves 2 e i h, part-end moves (2 + e) e i h) (moved-none end [] c)
+  pub moved-from-none : e ≤ i → (c : ℕ) → movedFrom c ≡ 0
+  moved-from-none h c = rw (part-end moves 2 e i h, part-end moves (2 + e) e i h) (moved-none end [] c)
 
-pub rest-more : (end : ℕ → ℕ) (moves : List ℕ) (e i route count : ℕ) → Entry moves e i route count → (c : ℕ)
-    → rest end moves e i c ≡ only (eqb (end route) c) count + rest end moves e (i + 1) c
-rest-more end moves e i route count entry c =
+pub moved-from-more : (end : ℕ → ℕ) (moves : List ℕ) (e i route count : ℕ) → Entry moves e i route count → (c : ℕ)
+    → movedFrom end moves e i c ≡ only (eqb (end route) c) count + movedFrom end moves e (i + 1) c
+moved-from-more end moves e i route count entry c =
     rw (entry .routes, entry .counts) (moved-one end route count (drop (i + 1) (routesOf moves e)) (drop (i + 1) (countsOf moves e)) c)
 
-pub rest-here : (end : ℕ → ℕ) (moves : List ℕ) (e i route count : ℕ) → Entry moves e i route count
-    → rest end moves e i (end route) ≡ count + rest end moves e (i + 1) (end route)
-rest-here end moves e i route count entry =
+pub moved-from-here : (end : ℕ → ℕ) (moves : List ℕ) (e i route count : ℕ) → Entry moves e i route count
+    → movedFrom end moves e i (end route) ≡ count + movedFrom end moves e (i + 1) (end route)
+moved-from-here end moves e i route count entry =
     let c = end route in
-    omega (arith, rest-more end moves e i route count entry c, only-is (eqb c c) count (eq-eqb c c refl))
+    omega (arith, moved-from-more end moves e i route count entry c, only-is (eqb c c) count (eq-eqb c c refl))
 
 -- ---- each cell of a table
 

@@ -12,14 +12,14 @@ use Rattle.arrays.specs.Arrays.{at}
 use Rattle.moves.specs.Moves.{routesOf, countsOf}
 use Rattle.transfer.specs.Apply.{intoCell, receives}
 use Rattle.transfer.specs.Inner.{Room}
-use Rattle.transfer.proofs.Applied.{into-below, Entry, entry-read, rest, rest-none, rest-more, rest-here, each-is, plus-at}
+use Rattle.transfer.proofs.Applied.{into-below, Entry, entry-read, movedFrom, moved-from-none, moved-from-more, moved-from-here, each-is, plus-at}
 use Rattle.transfer.proofs.apply.add_receipts.Statement.{statement}
 use Rattle.transfer.proofs.apply.add_receipts.Tie as tie
 
 record Adding (old moves : List ℕ) (e : ℕ) (table : List ℕ) (i : ℕ) : Type 0 where
   i-le : i ≤ e
   size : length table ≡ tableSize
-  added : (c : ℕ) → at table c + rest intoCell moves e i c ≡ at old c + receives (routesOf moves e) (countsOf moves e) c
+  added : (c : ℕ) → at table c + movedFrom intoCell moves e i c ≡ at old c + receives (routesOf moves e) (countsOf moves e) c
 
 abbrev Inv-loop : tie.InvT-loop
 Inv-loop old moves e i₀ table i = Adding old moves e table i
@@ -38,7 +38,7 @@ module _ (old moves : List ℕ) (e : ℕ) (table : List ℕ) (i : ℕ) (s : Addi
   fits : Room old moves e → (into : ℕ) → into ≡ cell → at table into + count ≤ maxTotal
   fits room into is =
       rw is
-      (omega (arith, room cell (into-below route (entry .below)), s .added cell, rest-here intoCell moves e i route count entry))
+      (omega (arith, room cell (into-below route (entry .below)), s .added cell, moved-from-here intoCell moves e i route count entry))
 
   -- what holds at the loop's head holds again
   after : Adding old moves e (set table cell (at table cell + count)) (i + 1)
@@ -47,7 +47,7 @@ module _ (old moves : List ℕ) (e : ℕ) (table : List ℕ) (i : ℕ) (s : Addi
       record {
         i-le = omega arith;
         size = simp length-set (s .size);
-        added = λ c. omega (arith, s .added c, rest-more intoCell moves e i route count entry c, plus-at table cell count b c);
+        added = λ c. omega (arith, s .added c, moved-from-more intoCell moves e i route count entry c, plus-at table cell count b c);
       }
 
 -- ---- at the cell that was computed
@@ -94,7 +94,7 @@ returns c =
     let m = now (p .args .moves) in
     let e = p .args .e in
     each-is (λ j x. x + receives (routesOf m e) (countsOf m e) j) (now (p .args .table)) (l .table) (l .inv .size ∙ sym (p .pre .0 .size))
-    (λ j b. omega (arith, l .inv .added j, rest-none intoCell m e (l .i) (c .loop-test .left) j))
+    (λ j b. omega (arith, l .inv .added j, moved-from-none intoCell m e (l .i) (c .loop-test .left) j))
 
 pub add-receipts-spec : {M : Type 1} → statement M
 add-receipts-spec =

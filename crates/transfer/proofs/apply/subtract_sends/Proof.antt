@@ -12,14 +12,14 @@ use Rattle.limit.specs.Limit.{tableSize}
 use Rattle.arrays.specs.Arrays.{at}
 use Rattle.moves.specs.Moves.{routesOf, countsOf}
 use Rattle.transfer.specs.Apply.{fromCell, sends, sendsWithin, lessSends}
-use Rattle.transfer.proofs.Applied.{from-below, Entry, entry-read, rest, rest-none, rest-more, rest-here, each-is, within-of, within-false, less-at}
+use Rattle.transfer.proofs.Applied.{from-below, Entry, entry-read, movedFrom, moved-from-none, moved-from-more, moved-from-here, each-is, within-of, within-false, less-at}
 use Rattle.transfer.proofs.apply.subtract_sends.Statement.{statement}
 use Rattle.transfer.proofs.apply.subtract_sends.Tie as tie
 
 record Subtracting (old moves : List ℕ) (e : ℕ) (table : List ℕ) (i : ℕ) : Type 0 where
   i-le : i ≤ e
   size : length table ≡ tableSize
-  left : (c : ℕ) → at table c + sends (routesOf moves e) (countsOf moves e) c ≡ at old c + rest fromCell moves e i c
+  left : (c : ℕ) → at table c + sends (routesOf moves e) (countsOf moves e) c ≡ at old c + movedFrom fromCell moves e i c
 
 abbrev Inv-loop : tie.InvT-loop
 Inv-loop old moves e i₀ table i = Subtracting old moves e table i
@@ -38,7 +38,7 @@ module _ (old moves : List ℕ) (e : ℕ) (table : List ℕ) (i : ℕ) (s : Subt
   fails : length old ≡ tableSize → at table cell < count → sendsWithin old (routesOf moves e) (countsOf moves e) ≡ false
   fails same l =
       within-false old (routesOf moves e) (countsOf moves e) cell (omega (arith, from-below route (entry .below)))
-      (omega (arith, s .left cell, rest-here fromCell moves e i route count entry))
+      (omega (arith, s .left cell, moved-from-here fromCell moves e i route count entry))
 
   -- what holds at the loop's head holds again
   after : count ≤ at table cell → Subtracting old moves e (set table cell (at table cell - count)) (i + 1)
@@ -47,7 +47,7 @@ module _ (old moves : List ℕ) (e : ℕ) (table : List ℕ) (i : ℕ) (s : Subt
       record {
         i-le = omega arith;
         size = simp length-set (s .size);
-        left = λ c. omega (arith, s .left c, rest-more fromCell moves e i route count entry c, less-at table cell count b c l);
+        left = λ c. omega (arith, s .left c, moved-from-more fromCell moves e i route count entry c, less-at table cell count b c l);
       }
 
 -- ---- no move is left
@@ -55,7 +55,7 @@ module _ (old moves : List ℕ) (e : ℕ) (table : List ℕ) (i : ℕ) (s : Subt
 module _ (old moves : List ℕ) (e : ℕ) (table : List ℕ) (i : ℕ) (s : Subtracting old moves e table i) (h : e ≤ i)
     (same : length old ≡ tableSize) where
   left-all : (c : ℕ) → at table c + sends (routesOf moves e) (countsOf moves e) c ≡ at old c
-  left-all c = omega (arith, s .left c, rest-none fromCell moves e i h c)
+  left-all c = omega (arith, s .left c, moved-from-none fromCell moves e i h c)
 
   passes : sendsWithin old (routesOf moves e) (countsOf moves e) ≡ true
   passes = within-of old (routesOf moves e) (countsOf moves e) (λ c l. omega (arith, left-all c))
