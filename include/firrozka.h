@@ -18,9 +18,9 @@
 extern "C" {
 #endif
 
-/* The version, 100 × major + minor: 1.0 is 100. CHANGELOG.md says what each brought. firrozka_version() is the archive's own: where the
+/* The version, 100 × major + minor: 1.1 is 101. CHANGELOG.md says what each brought. firrozka_version() is the archive's own: where the
  * two differ, a program was compiled with the header of another version. */
-#define FIRROZKA_VERSION 100
+#define FIRROZKA_VERSION 101
 uint32_t firrozka_version(void);
 
 /* Buffers of so many bytes are long enough for every call. */
@@ -50,7 +50,7 @@ enum firrozka_refusal {
     /* sheet */
     FIRROZKA_SHEET_SHORT = 1,     /* under 12 bytes */
     FIRROZKA_SHEET_NODES = 2,     /* N is not 1 to 64 */
-    FIRROZKA_SHEET_TOLERANCE = 3, /* t is not 1 to 99 */
+    FIRROZKA_SHEET_TOLERANCE = 3, /* t is not 1 to 999 */
     FIRROZKA_SHEET_ENTRIES = 4,   /* E is above N × N */
     FIRROZKA_SHEET_LENGTH = 5,    /* the length is not 4 × (3 + 2E) bytes */
     FIRROZKA_SHEET_CELL = 6,      /* a cell does not rise, or names a node not below N */
@@ -59,7 +59,7 @@ enum firrozka_refusal {
     FIRROZKA_PLAN_SHORT = 11,   /* under 12 bytes */
     FIRROZKA_PLAN_NODES = 12,   /* N is not 1 to 64 */
     FIRROZKA_PLAN_KIND = 13,    /* the kind is above 2, or not 0 with one node */
-    FIRROZKA_PLAN_LIMIT = 14,   /* the limit is above 1,990,000,000 */
+    FIRROZKA_PLAN_LIMIT = 14,   /* the limit is above 1,999,000,000 */
     FIRROZKA_PLAN_LENGTH = 15,  /* the length is not 4 × (3 + 2N) bytes */
     FIRROZKA_PLAN_HELPAND = 16, /* a helpand is not below N */
     FIRROZKA_PLAN_SHAPE = 17,   /* the wrong shape: kind 0 has only roots; kinds 1 and 2 have one root, which every chain of helpands
@@ -84,7 +84,7 @@ enum firrozka_refusal {
     FIRROZKA_SHEET_BUFFER = 43        /* the buffer is too short */
 };
 
-/* Read sheet: N, the tolerance t, the number of cells E, the total P and the limit L. Refused: 1 to 7. */
+/* Read sheet: N, the tolerance t in tenths of a percent, the number of cells E, the total P and the limit L. Refused: 1 to 7. */
 struct firrozka_sheet {
     uint32_t refusal, n, t, e, p, limit;
 };

@@ -28,7 +28,7 @@ static void put(uint8_t *record, size_t index, uint32_t word)
 static void make_sheet(uint32_t crowded, uint32_t count)
 {
     put(sheet, 0, NODES);
-    put(sheet, 1, 10);
+    put(sheet, 1, 100);
     put(sheet, 2, NODES * NODES);
     for (uint32_t holder = 0; holder < NODES; holder++)
         for (uint32_t n = 0; n < NODES; n++) {

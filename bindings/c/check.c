@@ -3,18 +3,18 @@
 #include <stdlib.h>
 #include "firrozka.h"
 
-#if FIRROZKA_VERSION < 100
+#if FIRROZKA_VERSION < 101
 #error "the preprocessor can test the version"
 #endif
 
 /* Step D's sheet; the old plan with helpands 0, 0, 1 and the sheet of step H; and step J's plan, of kind 0. */
-static const uint8_t sheet[] = {3, 0, 0, 0, 10,  0, 0, 0, 3,  0, 0, 0, 0, 0, 0, 0, 65, 0, 0, 0,
+static const uint8_t sheet[] = {3, 0, 0, 0, 100, 0, 0, 0, 3,  0, 0, 0, 0, 0, 0, 0, 65, 0, 0, 0,
                                 130, 0, 0, 0, 90, 0, 0, 0, 6, 0, 0, 0, 4, 0, 0, 0};
 static const uint8_t chain[] = {3, 0, 0, 0, 2, 0, 0, 0, 36, 0, 0, 0, 0, 0, 0, 0, 0, 0, 0, 0, 1, 0, 0, 0,
                                 0, 0, 0, 0, 0, 0, 0, 0, 0,  0, 0, 0};
 static const uint8_t roots[] = {3, 0, 0, 0, 0, 0, 0, 0, 36, 0, 0, 0, 0, 0, 0, 0, 1, 0, 0, 0, 2, 0, 0, 0,
                                 0, 0, 0, 0, 0, 0, 0, 0, 0,  0, 0, 0};
-static const uint8_t sheet_h[] = {3, 0, 0, 0, 10, 0, 0, 0, 2, 0, 0, 0, 0, 0, 0, 0, 65, 0, 0, 0, 28, 0, 0, 0, 72, 0, 0, 0};
+static const uint8_t sheet_h[] = {3, 0, 0, 0, 100, 0, 0, 0, 2, 0, 0, 0, 0, 0, 0, 0, 65, 0, 0, 0, 28, 0, 0, 0, 72, 0, 0, 0};
 
 static uint8_t plan[FIRROZKA_PLAN_BYTES], moves[FIRROZKA_MOVES_BYTES], next[FIRROZKA_SHEET_BYTES], least[FIRROZKA_LEAST_BYTES];
 
@@ -30,7 +30,7 @@ static void check(int line, int good)
 static void check_readers(void)
 {
     struct firrozka_sheet s = firrozka_read_sheet(sheet, sizeof sheet);
-    CHECK(!s.refusal && s.n == 3 && s.t == 10 && s.e == 3 && s.p == 100 && s.limit == 36);
+    CHECK(!s.refusal && s.n == 3 && s.t == 100 && s.e == 3 && s.p == 100 && s.limit == 36);
     struct firrozka_plan p = firrozka_read_plan(chain, sizeof chain);
     CHECK(!p.refusal && p.n == 3 && p.kind == FIRROZKA_REBUILT && p.limit == 36);
     s = firrozka_read_sheet(sheet, sizeof sheet - 1);

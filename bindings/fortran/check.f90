@@ -17,13 +17,13 @@ program check
     type(firrozka_written) :: written
     type(firrozka_part) :: part
 
-    d = words_to_bytes([3, 10, 3, 0, 65, 130, 90, 6, 4])
+    d = words_to_bytes([3, 100, 3, 0, 65, 130, 90, 6, 4])
     chain = words_to_bytes([3, 2, 36, 0, 0, 1, 0, 0, 0])
-    h = words_to_bytes([3, 10, 2, 0, 65, 28, 72])
+    h = words_to_bytes([3, 100, 2, 0, 65, 28, 72])
     roots = words_to_bytes([3, 0, 36, 0, 1, 2, 0, 0, 0])
 
     sheet = firrozka_read_sheet(d, size(d, kind=c_size_t))
-    call same([sheet%refusal, sheet%n, sheet%t, sheet%e, sheet%p, sheet%limit], [0, 3, 10, 3, 100, 36])
+    call same([sheet%refusal, sheet%n, sheet%t, sheet%e, sheet%p, sheet%limit], [0, 3, 100, 3, 100, 36])
     sheet = firrozka_read_sheet(d, 35_c_size_t)
     call same([sheet%refusal, sheet%n, sheet%t, sheet%e, sheet%p, sheet%limit], &
               [integer :: firrozka_sheet_length, 0, 0, 0, 0, 0])

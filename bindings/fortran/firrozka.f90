@@ -14,8 +14,8 @@ module firrozka
     public :: firrozka_weigh, firrozka_plan_step, firrozka_carry_out, firrozka_tree_in_force
     public :: words_to_bytes, word_at
 
-    ! The version that this module was written for, 100 × major + minor: 1.0 is 100. firrozka_version() is the archive's own.
-    integer(c_int32_t), parameter, public :: firrozka_module_version = 100
+    ! The version that this module was written for, 100 × major + minor: 1.1 is 101. firrozka_version() is the archive's own.
+    integer(c_int32_t), parameter, public :: firrozka_module_version = 101
 
     ! Buffers of so many bytes are long enough for every call.
     integer(c_size_t), parameter, public :: &
@@ -33,7 +33,7 @@ module firrozka
         ! sheet
         firrozka_sheet_short = 1, &     ! under 12 bytes
         firrozka_sheet_nodes = 2, &     ! N is not 1 to 64
-        firrozka_sheet_tolerance = 3, & ! t is not 1 to 99
+        firrozka_sheet_tolerance = 3, & ! t is not 1 to 999
         firrozka_sheet_entries = 4, &   ! E is above N × N
         firrozka_sheet_length = 5, &    ! the length is not 4 × (3 + 2E) bytes
         firrozka_sheet_cell = 6, &      ! a cell does not rise, or names a node not below N
@@ -42,7 +42,7 @@ module firrozka
         firrozka_plan_short = 11, &   ! under 12 bytes
         firrozka_plan_nodes = 12, &   ! N is not 1 to 64
         firrozka_plan_kind = 13, &    ! the kind is above 2, or not 0 with one node
-        firrozka_plan_limit = 14, &   ! the limit is above 1,990,000,000
+        firrozka_plan_limit = 14, &   ! the limit is above 1,999,000,000
         firrozka_plan_length = 15, &  ! the length is not 4 × (3 + 2N) bytes
         firrozka_plan_helpand = 16, & ! a helpand is not below N
         firrozka_plan_shape = 17, &   ! the wrong shape: kind 0 has only roots; kinds 1 and 2 have one root,
@@ -66,7 +66,7 @@ module firrozka
         firrozka_moves_sends = 42, &        ! some cell sends in all more than the old sheet gives it
         firrozka_sheet_buffer = 43          ! the buffer is too short
 
-    ! The answers: 0 or a refusal number, and the values named, all 0 in a refusal.
+    ! The answers: 0 or a refusal number, and the values named, all 0 in a refusal. The tolerance t is in tenths of a percent.
     type, bind(c), public :: firrozka_sheet
         integer(c_int32_t) :: refusal, n, t, e, p, limit
     end type

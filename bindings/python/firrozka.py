@@ -13,8 +13,8 @@ import struct
 from pathlib import Path
 from typing import NamedTuple
 
-# The version that this module was written for, 100 × major + minor: 1.0 is 100. version() is the archive's own.
-VERSION = 100
+# The version that this module was written for, 100 × major + minor: 1.1 is 101. version() is the archive's own.
+VERSION = 101
 
 # Buffers of so many bytes are long enough for every call.
 SHEET_BYTES = 32780
@@ -33,7 +33,7 @@ NEW_PLAN = 2
 REFUSALS = {
     1: ("sheet", "under 12 bytes"),
     2: ("sheet", "N is not 1 to 64"),
-    3: ("sheet", "t is not 1 to 99"),
+    3: ("sheet", "t is not 1 to 999"),
     4: ("sheet", "E is above N × N"),
     5: ("sheet", "the length is not 4 × (3 + 2E) bytes"),
     6: ("sheet", "a cell does not rise, or names a node not below N"),
@@ -41,7 +41,7 @@ REFUSALS = {
     11: ("plan", "under 12 bytes"),
     12: ("plan", "N is not 1 to 64"),
     13: ("plan", "the kind is above 2, or not 0 with one node"),
-    14: ("plan", "the limit is above 1,990,000,000"),
+    14: ("plan", "the limit is above 1,999,000,000"),
     15: ("plan", "the length is not 4 × (3 + 2N) bytes"),
     16: ("plan", "a helpand is not below N"),
     17: ("plan", "the wrong shape: kind 0 has only roots; kinds 1 and 2 have one root, which every chain of helpands reaches"),
@@ -202,7 +202,7 @@ def _call(name, *slices):
 
 
 def read_sheet(sheet):
-    """Read sheet, with its cells."""
+    """Read sheet, with its cells. Its t is in tenths of a percent."""
     sheet = _bytes("sheet", sheet)
     answer = _call("read_sheet", sheet)
     words = to_words(sheet)

@@ -11,24 +11,24 @@ from concurrent.futures import ProcessPoolExecutor
 
 import firrozka
 
-SHEET = firrozka.to_bytes([3, 10, 3, 0, 65, 130, 90, 6, 4])
+SHEET = firrozka.to_bytes([3, 100, 3, 0, 65, 130, 90, 6, 4])
 PLAN = firrozka.to_bytes([3, 2, 36, 0, 0, 0, 0, 27, 29])
 MOVES = firrozka.to_bytes([3, 2, 1, 2, 27, 29])
 
 # Steps H and I: the old plan by its helpands, and the sheets.
 CHAIN = firrozka.to_bytes([3, 2, 36, 0, 0, 1, 0, 0, 0])
-SHEET_H = firrozka.to_bytes([3, 10, 2, 0, 65, 28, 72])
-SHEET_I = firrozka.to_bytes([3, 10, 2, 0, 65, 27, 73])
+SHEET_H = firrozka.to_bytes([3, 100, 2, 0, 65, 28, 72])
+SHEET_I = firrozka.to_bytes([3, 100, 2, 0, 65, 27, 73])
 
 
 class Operations(unittest.TestCase):
     def test_step_d(self):
         self.assertEqual(firrozka.plan_step(SHEET), (2, 36, PLAN, MOVES))
         following = firrozka.carry_out(SHEET, MOVES)
-        self.assertEqual(firrozka.to_words(following), [3, 10, 5, 0, 64, 65, 128, 130, 34, 27, 6, 29, 4])
+        self.assertEqual(firrozka.to_words(following), [3, 100, 5, 0, 64, 65, 128, 130, 34, 27, 6, 29, 4])
 
     def test_records(self):
-        self.assertEqual(firrozka.read_sheet(SHEET), (3, 10, 3, 100, 36, [(0, 0, 90), (1, 1, 6), (2, 2, 4)]))
+        self.assertEqual(firrozka.read_sheet(SHEET), (3, 100, 3, 100, 36, [(0, 0, 90), (1, 1, 6), (2, 2, 4)]))
         self.assertEqual(firrozka.read_plan(PLAN), (3, 2, 36, [0, 0, 0], [0, 27, 29]))
         self.assertEqual(firrozka.read_moves(MOVES), (3, 2, [(0, 0, 1, 27), (0, 0, 2, 29)]))
 
@@ -122,8 +122,8 @@ class Arguments(unittest.TestCase):
         self.assertEqual(str(caught.exception), f"{name}: a bytes-like object is needed, not {given}")
 
     def test_a_wrong_type_is_named(self):
-        self.assert_named("record", "list", firrozka.to_words, [3, 10])
-        self.assert_named("sheet", "str", firrozka.read_sheet, "3 10 0")
+        self.assert_named("record", "list", firrozka.to_words, [3, 100])
+        self.assert_named("sheet", "str", firrozka.read_sheet, "3 100 0")
         self.assert_named("plan", "NoneType", firrozka.read_plan, None)
         self.assert_named("moves", "int", firrozka.read_moves, 3)
         self.assert_named("plan", "Plan", firrozka.weigh, SHEET, firrozka.read_plan(PLAN))

@@ -4,7 +4,8 @@
 #include <string.h>
 #include "firrozka.h"
 
-enum { NODES = 5, TOLERANCE = 10, STEPS = 12 };
+/* The tolerance is in tenths of a percent. */
+enum { NODES = 5, TOLERANCE = 100, STEPS = 12 };
 
 /* How many particles of each subdomain each node holds: held[node][subdomain]. */
 static uint32_t held[NODES][NODES];

@@ -10,7 +10,8 @@
 
 #include "firrozka.h"
 
-constexpr std::uint32_t nodes = 5, tolerance = 10, steps = 12;
+// The tolerance is in tenths of a percent.
+constexpr std::uint32_t nodes = 5, tolerance = 100, steps = 12;
 
 using Bytes = std::vector<std::uint8_t>;
 using Words = std::vector<std::uint32_t>;

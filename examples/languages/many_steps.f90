@@ -4,7 +4,8 @@ program many_steps
     use firrozka
     implicit none
 
-    integer, parameter :: nodes = 5, tolerance = 10, steps = 12
+    ! The tolerance is in tenths of a percent.
+    integer, parameter :: nodes = 5, tolerance = 100, steps = 12
     integer :: held(0:nodes - 1, 0:nodes - 1) ! how many particles of subdomain n node k holds: held(n, k)
     integer(c_int8_t), dimension(firrozka_sheet_bytes) :: sheet, next
     integer(c_int8_t) :: plans(firrozka_plan_bytes, 2), moves(firrozka_moves_bytes)

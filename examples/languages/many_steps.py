@@ -2,7 +2,8 @@
 
 import firrozka
 
-NODES, TOLERANCE, STEPS = 5, 10, 12
+# The tolerance is in tenths of a percent.
+NODES, TOLERANCE, STEPS = 5, 100, 12
 
 
 def flow(held, step):

@@ -7,7 +7,8 @@ use firrozka::{
 };
 
 const NODES: usize = 5;
-const TOLERANCE: u32 = 10;
+/// In tenths of a percent.
+const TOLERANCE: u32 = 100;
 const STEPS: u32 = 12;
 
 /// How many particles of each subdomain each node holds: `held[node][subdomain]`.

@@ -41,8 +41,8 @@ static void print_step(const uint8_t *sheet, struct firrozka_step step)
 
 int main(void)
 {
-    /* The words 3 10 3 0 65 130 90 6 4. */
-    static const uint8_t sheet[] = {3,  0, 0, 0, 10,  0, 0, 0, 3,  0, 0, 0, 0, 0, 0, 0, 65, 0,
+    /* The words 3 100 3 0 65 130 90 6 4: 3 nodes, a tolerance of 100 tenths of a percent, 3 cells. */
+    static const uint8_t sheet[] = {3,  0, 0, 0, 100, 0, 0, 0, 3,  0, 0, 0, 0, 0, 0, 0, 65, 0,
                                     0,  0, 130, 0, 0, 0, 90, 0, 0, 0, 6, 0, 0, 0, 4, 0, 0,  0};
     struct firrozka_step step =
         firrozka_plan_step(sheet, sizeof sheet, NULL, 0, plan, sizeof plan, moves, sizeof moves);

@@ -48,7 +48,8 @@ std::array<std::uint32_t, 64> own_amounts(const std::vector<std::uint32_t> &shee
 }
 
 int main() {
-    const Bytes sheet = to_bytes({3, 10, 3, 0, 65, 130, 90, 6, 4});
+    // 3 nodes, a tolerance of 100 tenths of a percent, 3 cells.
+    const Bytes sheet = to_bytes({3, 100, 3, 0, 65, 130, 90, 6, 4});
     const Step step = plan_step(sheet, {});
     if (step.answer.refusal != FIRROZKA_ACCEPTED) {
         std::cout << "refused " << step.answer.refusal << '\n';

@@ -4,7 +4,8 @@ program step_d
     use firrozka
     implicit none
 
-    integer, parameter :: words(9) = [3, 10, 3, 0, 65, 130, 90, 6, 4]
+    ! 3 nodes, a tolerance of 100 tenths of a percent, 3 cells.
+    integer, parameter :: words(9) = [3, 100, 3, 0, 65, 130, 90, 6, 4]
     integer(c_int8_t) :: sheet(4 * size(words)), no_plan(1), plan(firrozka_plan_bytes), moves(firrozka_moves_bytes)
     type(firrozka_step) :: step
     integer :: n, k

@@ -2,7 +2,8 @@
 
 import firrozka
 
-sheet = firrozka.to_bytes([3, 10, 3, 0, 65, 130, 90, 6, 4])
+# 3 nodes, a tolerance of 100 tenths of a percent, 3 cells.
+sheet = firrozka.to_bytes([3, 100, 3, 0, 65, 130, 90, 6, 4])
 step = firrozka.plan_step(sheet)
 plan = firrozka.read_plan(step.plan)
 

@@ -19,7 +19,8 @@ fn own(sheet: &[u8], plan: &[u8]) -> Result<Vec<u32>, Refusal> {
 }
 
 fn main() -> Result<(), Refusal> {
-    let sheet = to_bytes(&[3, 10, 3, 0, 65, 130, 90, 6, 4]);
+    // 3 nodes, a tolerance of 100 tenths of a percent, 3 cells.
+    let sheet = to_bytes(&[3, 100, 3, 0, 65, 130, 90, 6, 4]);
     let (mut plan, mut moves) = ([0; PLAN_BYTES], [0; MOVES_BYTES]);
     let step = plan_step(&sheet, NO_PLAN, &mut plan, &mut moves)?;
 

@@ -69,7 +69,7 @@ fn sheet_bounds() -> Vec<Vec<u8>> {
     let own = [0, 65];
     let sheet = |t: u32, cells: &[u32], counts: &[u32]| sheets::sheet(2, t, cells, counts);
     let nodes = [0, 1, 2, 63, 64, 65].map(|n| sheets::sheet(n, 10, &[], &[]));
-    let tolerances = [0, 1, 99, 100].map(|t| sheet(t, &own, &[3, 1]));
+    let tolerances = [0, 1, 999, 1_000].map(|t| sheet(t, &own, &[3, 1]));
     let entries = [(1, 1), (1, 2), (2, 4), (2, 5)].map(|(n, e)| {
         let cells: Vec<u32> = (0..e).map(|k| sheets::cell(k / n, k % n)).collect();
         sheets::sheet(n, 10, &cells, &vec![1; cells.len()])
@@ -149,7 +149,11 @@ fn deep_trees() -> Vec<Vec<u8>> {
     let down: Vec<u32> = (0..64).map(|node: u32| 63.min(node + 1)).collect();
     let mut ring = up.clone();
     ring[62] = 63;
-    let step = worked::own(10, &[[9, 0].as_slice(), &[0; 62]].concat(), Vec::new());
+    let step = worked::own(
+        worked::TEN_PERCENT,
+        &[[9, 0].as_slice(), &[0; 62]].concat(),
+        Vec::new(),
+    );
     let old = |helpands: Vec<u32>| plans::plan(1, 36, &helpands, &[0; 64]);
     [up, down, ring]
         .map(|helpands| behind(&step, old(helpands)))

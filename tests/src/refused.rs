@@ -3,7 +3,7 @@
 
 use crate::records::{plans, sheets, Record};
 use crate::steps::Step;
-use crate::worked;
+use crate::worked::{self, TEN_PERCENT};
 
 /// The refusal numbers and their steps.
 pub fn all() -> Vec<(u32, Step)> {
@@ -25,17 +25,18 @@ pub fn all() -> Vec<(u32, Step)> {
 /// Sheets, 1 to 7.
 pub fn sheets() -> Vec<(u32, Vec<u8>)> {
     let cells = [0, 65, 130];
-    let good = || sheets::sheet(3, 10, &cells, &[90, 6, 4]);
+    let sheet = |n, cells: &[u32], counts: &[u32]| sheets::sheet(n, TEN_PERCENT, cells, counts);
+    let good = || sheet(3, &cells, &[90, 6, 4]);
     let ten: Vec<u32> = (0..10).collect();
-    let beyond = sheets::sheet(3, 10, &[0, 65, 131], &[90, 6, 4]);
+    let beyond = sheet(3, &[0, 65, 131], &[90, 6, 4]);
     vec![
         (1, cut(good(), 11)),
-        (2, sheets::sheet(65, 10, &[], &[]).bytes()),
-        (3, sheets::sheet(3, 100, &[], &[]).bytes()),
-        (4, sheets::sheet(3, 10, &ten, &[1; 10]).bytes()),
+        (2, sheet(65, &[], &[]).bytes()),
+        (3, sheets::sheet(3, 1_000, &[], &[]).bytes()),
+        (4, sheet(3, &ten, &[1; 10]).bytes()),
         (5, cut(good(), 35)),
         (6, beyond.bytes()),
-        (7, sheets::sheet(3, 10, &cells, &[90, 0, 4]).bytes()),
+        (7, sheet(3, &cells, &[90, 0, 4]).bytes()),
     ]
 }
 
@@ -48,7 +49,7 @@ pub fn plans() -> Vec<(u32, Vec<u8>)> {
         (11, cut(good(), 11)),
         (12, plans::plan(2, 36, &[], &[]).bytes()),
         (13, plans::plan(3, 36, &star, &shares).bytes()),
-        (14, plans::plan(2, 1_990_000_001, &star, &shares).bytes()),
+        (14, plans::plan(2, 1_999_000_001, &star, &shares).bytes()),
         (15, cut(good(), 35)),
         (16, plans::plan(2, 36, &[0, 0, 3], &shares).bytes()),
         (17, plans::plan(2, 36, &[0, 2, 1], &shares).bytes()),

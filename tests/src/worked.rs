@@ -4,6 +4,12 @@
 use crate::records::{plans, sheets};
 use crate::steps::Step;
 
+/// Document 01's t 1. Request 2026-01: "The worked steps take ten times their t."
+pub const ONE_PERCENT: u32 = 10;
+
+/// Its t 10.
+pub const TEN_PERCENT: u32 = 100;
+
 /// All of them, with their letters.
 pub fn all() -> [(char, Step); 11] {
     [
@@ -23,7 +29,7 @@ pub fn all() -> [(char, Step); 11] {
 
 /// "A: N 1, E 0", "A has t 1"
 pub fn a() -> Step {
-    let sheet = sheets::sheet(1, 1, &[], &[]).bytes();
+    let sheet = sheets::sheet(1, ONE_PERCENT, &[], &[]).bytes();
     Step {
         sheet,
         old: Vec::new(),
@@ -32,17 +38,17 @@ pub fn a() -> Step {
 
 /// "B: t 1, counts 2, 1"
 pub fn b() -> Step {
-    own(1, &[2, 1], Vec::new())
+    own(ONE_PERCENT, &[2, 1], Vec::new())
 }
 
 /// "C: t 1, counts 3, 0, no plan"
 pub fn c() -> Step {
-    own(1, &[3, 0], Vec::new())
+    own(ONE_PERCENT, &[3, 0], Vec::new())
 }
 
 /// "D: 90, 6, 4"
 pub fn d() -> Step {
-    own(10, &[90, 6, 4], Vec::new())
+    own(TEN_PERCENT, &[90, 6, 4], Vec::new())
 }
 
 /// "E: D's plan; subdomain 0 held 30, 27, 30 by nodes 0, 1, 2; node 1 holds 6
@@ -51,39 +57,39 @@ pub fn e() -> Step {
     let cells = [(0, 0), (0, 2), (1, 0), (1, 1), (2, 0), (2, 2)];
     let cells = cells.map(|(holder, subdomain)| sheets::cell(holder, subdomain));
     Step {
-        sheet: sheets::sheet(3, 10, &cells, &[30, 3, 27, 6, 30, 4]).bytes(),
+        sheet: sheets::sheet(3, TEN_PERCENT, &cells, &[30, 3, 27, 6, 30, 4]).bytes(),
         old: d_plan(),
     }
 }
 
 /// "F: D's plan, 50, 40, 10"
 pub fn f() -> Step {
-    own(10, &[50, 40, 10], d_plan())
+    own(TEN_PERCENT, &[50, 40, 10], d_plan())
 }
 
 /// "G: t 1, counts 0, 5, 2, old helpands 2, 0, 2"
 pub fn g() -> Step {
-    own(1, &[0, 5, 2], old(&[2, 0, 2]))
+    own(ONE_PERCENT, &[0, 5, 2], old(&[2, 0, 2]))
 }
 
 /// "H: old helpands 0, 0, 1; 28, 72, 0"
 pub fn h() -> Step {
-    own(10, &[28, 72, 0], old(&[0, 0, 1]))
+    own(TEN_PERCENT, &[28, 72, 0], old(&[0, 0, 1]))
 }
 
 /// "I: the same, 27, 73, 0"
 pub fn i() -> Step {
-    own(10, &[27, 73, 0], old(&[0, 0, 1]))
+    own(TEN_PERCENT, &[27, 73, 0], old(&[0, 0, 1]))
 }
 
 /// "J: 36, 36, 28"
 pub fn j() -> Step {
-    own(10, &[36, 36, 28], Vec::new())
+    own(TEN_PERCENT, &[36, 36, 28], Vec::new())
 }
 
 /// "K: 37, 35, 28, no plan"
 pub fn k() -> Step {
-    own(10, &[37, 35, 28], Vec::new())
+    own(TEN_PERCENT, &[37, 35, 28], Vec::new())
 }
 
 /// "Each node holds its own subdomain unless said."

@@ -1,6 +1,6 @@
-//! Every bound of document 01: the value at it is accepted, the value one past
+//! Every bound of document 01 and of request 2026-01: the value at it is accepted, the value one past
 //! it is refused with the number that the paper gives. The numbers here are
-//! written down from the paper and shared with no other file.
+//! written down from the papers and shared with no other file.
 #![forbid(unsafe_code)]
 
 use firrozka_tests::boundary;
@@ -14,7 +14,7 @@ use firrozka_tests::records::sheets::{all_cells, cell, sheet};
 use firrozka_tests::records::{shown, to_bytes, Record};
 
 const MOST: u32 = 1_000_000_000;
-const MOST_LIMIT: u32 = 1_990_000_000;
+const MOST_LIMIT: u32 = 1_999_000_000;
 const TOP: u32 = u32::MAX;
 
 /// All answers agree, and the refusal is this one.
@@ -67,7 +67,12 @@ fn counted(counts: &[u32]) -> Record {
 #[test]
 fn sheet_length() {
     expect_lengths(&SHEET, sheet(1, 1, &[], &[]), 12, [1, 5]);
-    expect_lengths(&SHEET, sheet(3, 10, &[0, 65, 130], &[90, 6, 4]), 12, [1, 5]);
+    expect_lengths(
+        &SHEET,
+        sheet(3, 100, &[0, 65, 130], &[90, 6, 4]),
+        12,
+        [1, 5],
+    );
 }
 
 #[test]
@@ -75,7 +80,16 @@ fn sheet_nodes_and_tolerance() {
     for (n, refusal) in [(0, 2), (1, 0), (2, 0), (63, 0), (64, 0), (65, 2), (TOP, 2)] {
         expect_record(&SHEET, sheet(n, 1, &[], &[]), refusal);
     }
-    for (t, refusal) in [(0, 3), (1, 0), (98, 0), (99, 0), (100, 3), (TOP, 3)] {
+    for (t, refusal) in [
+        (0, 3),
+        (1, 0),
+        (99, 0),
+        (100, 0),
+        (998, 0),
+        (999, 0),
+        (1_000, 3),
+        (TOP, 3),
+    ] {
         expect_record(&SHEET, sheet(1, t, &[], &[]), refusal);
     }
 }
@@ -145,18 +159,25 @@ fn sheet_limit() {
     let cases = [
         // N, t, P, L
         (1, 1, 1, 1),
-        (1, 99, 2, 3),
-        (1, 99, MOST, 1_990_000_000),
-        (2, 99, 1, 1),
-        (2, 1, 3, 2),
-        (3, 1, 7, 3),
-        (3, 10, 100, 36),
-        (3, 50, 100, 50),
-        (7, 33, 1_000, 190),
-        (3, 1, MOST, 336_666_666),
+        (1, 999, 2, 3),
+        (1, 990, MOST, 1_990_000_000),
+        (1, 999, MOST, 1_999_000_000),
+        (2, 999, 1, 1),
+        (2, 10, 3, 2),
+        (3, 10, 7, 3),
+        (3, 100, 100, 36),
+        (3, 500, 100, 50),
+        (7, 330, 1_000, 190),
+        (3, 1, MOST, 333_666_666),
+        (3, 10, MOST, 336_666_666),
         (64, 1, 65, 2),
-        (64, 1, MOST, 15_781_250),
-        (64, 99, MOST, 31_093_750),
+        (64, 1, MOST, 15_640_625),
+        (64, 10, MOST, 15_781_250),
+        (64, 999, MOST, 31_234_375),
+        // Between 3 and 4 percent: 10,300,000, 10,350,000 and 10,400,000 over 3,000.
+        (3, 30, 10_000, 3_433),
+        (3, 35, 10_000, 3_450),
+        (3, 40, 10_000, 3_466),
     ];
     for (n, t, p, limit) in cases {
         let bytes = sheet(n, t, &[0], &[p]).bytes();
@@ -203,7 +224,10 @@ fn plan_nodes_and_kind() {
 
 #[test]
 fn plan_limit() {
-    for (limit, refusal) in [(0, 0), (MOST_LIMIT, 0), (MOST_LIMIT + 1, 14), (TOP, 14)] {
+    let accepted = [0, 1_990_000_000, 1_990_000_001, MOST_LIMIT - 1, MOST_LIMIT];
+    let refused = [MOST_LIMIT + 1, TOP];
+    let accepted = accepted.map(|limit| (limit, 0));
+    for (limit, refusal) in accepted.into_iter().chain(refused.map(|limit| (limit, 14))) {
         expect_record(&PLAN, plan_of(0, limit, &[0]), refusal);
         expect_record(&PLAN, plan_of(1, limit, &[0, 0]), refusal);
     }

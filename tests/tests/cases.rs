@@ -66,7 +66,7 @@ fn refusals() {
 #[test]
 fn header_refused() {
     for e in [10, 1 << 29, 1 << 30, u32::MAX] {
-        let words = [3, 10, e, 0, 65, 130, 90, 6, 4];
+        let words = [3, 100, e, 0, 65, 130, 90, 6, 4];
         let bytes = to_bytes(&words);
         assert_eq!(bench(&bytes), "refused 4\n");
     }

@@ -53,12 +53,12 @@ fn every_word() {
         for at in 0..draft.records[which].words.len() {
             let word = draft.records[which].words[at];
             let (less, more) = (word.wrapping_sub(1), word.wrapping_add(1));
-            let edges = [0, 1, 2, 3, 4, 63, 64, 65, 99, 100, 4_095, 4_096, 36, 37];
+            let edges = [0, 1, 2, 3, 4, 63, 64, 65, 999, 1_000, 4_095, 4_096, 36, 37];
             let high = [
                 MOST,
                 MOST + 1,
-                1_990_000_000,
-                1_990_000_001,
+                1_999_000_000,
+                1_999_000_001,
                 1 << 31,
                 u32::MAX,
             ];
@@ -118,7 +118,7 @@ fn the_largest_records() {
         let even = sheets::sheet(n, 1, &cells, &counts).bytes();
         counts.fill(1);
         counts[last] = MOST - (n * n - 1);
-        let uneven = sheets::sheet(n, 99, &cells, &counts).bytes();
+        let uneven = sheets::sheet(n, 999, &cells, &counts).bytes();
         for sheet in [even, uneven] {
             for helpands in [plans::chain(n), vec![0; n as usize]] {
                 let old = match n {

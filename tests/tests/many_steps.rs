@@ -7,7 +7,8 @@ use firrozka_tests::reference::table::Table;
 use firrozka_tests::reference::{moves, plan, sheet};
 
 const NODES: usize = 5;
-const TOLERANCE: u32 = 10;
+/// In tenths of a percent.
+const TOLERANCE: u32 = 100;
 const STEPS: u32 = 12;
 
 /// The flow of a step: a quarter, rounded down, of what a node holds of a

@@ -266,7 +266,7 @@ fn what_arrives_cannot_be_sent() {
         let words = to_words(&next.expect("accepted"));
         assert_eq!(
             words,
-            [3, 10, 6, 0, 2, 64, 65, 128, 130, 27, 3, 30, 6, 30, 4]
+            [3, 100, 6, 0, 2, 64, 65, 128, 130, 27, 3, 30, 6, 30, 4]
         );
     }
 }
@@ -295,7 +295,10 @@ fn carry_out_writes() {
             .carried_out(&step.sheet, &record)
             .expect("accepted");
         let cells = [cell(0, 1), cell(1, 1), cell(2, 0), cell(2, 2)];
-        assert_eq!(next, sheet(3, 10, &cells, &[2, 4, 90, 4]).bytes());
+        assert_eq!(
+            next,
+            sheet(3, worked::TEN_PERCENT, &cells, &[2, 4, 90, 4]).bytes()
+        );
         for step in some_steps() {
             let planned = implementation.plan(&step);
             let next = implementation.carried_out(&step.sheet, &planned.moves);

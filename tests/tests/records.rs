@@ -37,7 +37,7 @@ fn sheets() {
             a.n == n && a.p == 1_000_000_000
         });
     }
-    for t in [1, 99] {
+    for t in [1, 999] {
         some(&sheets, "this t", |_, a| a.t == t);
     }
     some(&sheets, "counts of 1 only", |_, a| a.e > 100 && a.p == a.e);
@@ -67,11 +67,11 @@ fn plans() {
             });
         }
     }
-    for limit in [0, 1_990_000_000] {
+    for limit in [0, 1_999_000_000] {
         some(&plans, "this limit", |_, a| a.limit == limit && a.kind > 0);
     }
     some(&plans, "a share at the largest limit", |w, a| {
-        w[3 + a.n as usize..].contains(&1_990_000_000)
+        w[3 + a.n as usize..].contains(&1_999_000_000)
     });
     some(&plans, "a root in the middle", |w, a| {
         a.kind > 0 && a.n == 64 && (1..63).any(|k| w[3 + k] as usize == k)

@@ -29,7 +29,7 @@ fn flows(helpands: &[u32], totals: &[u64], rooms: &[u64]) -> bool {
 /// the least of node 1 is 37." And "Comparing P with N × L: it keeps I."
 #[test]
 fn plausible_missteps() {
-    let step = worked::own(10, &[27, 39, 34], worked::old(&[0, 0, 1]));
+    let step = worked::own(worked::TEN_PERCENT, &[27, 39, 34], worked::old(&[0, 0, 1]));
     for implementation in IMPLEMENTATIONS {
         let weighed = |step: &Step| weighed(implementation, step);
         assert_eq!(weighed(&step), (vec![27, 37, 34], false));
@@ -52,7 +52,7 @@ fn every_small_tree() {
         for counts in exhaustive::rows(n, bound) {
             let totals: Vec<u64> = counts.iter().map(|&count| u64::from(count)).collect();
             for helpands in &trees {
-                let step = worked::own(1, &counts, worked::old(helpands));
+                let step = worked::own(worked::ONE_PERCENT, &counts, worked::old(helpands));
                 let limit = read_sheet(&step.sheet).limit;
                 let needed = counts.iter().any(|&count| count > limit);
                 let rooms = vec![u64::from(limit); n];

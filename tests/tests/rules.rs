@@ -6,8 +6,9 @@ use firrozka_tests::demands::{judged, Judged};
 use firrozka_tests::implementations::IMPLEMENTATIONS;
 use firrozka_tests::records::plans::plan;
 use firrozka_tests::records::sheets::{cell, sheet};
+use firrozka_tests::records::to_words;
 use firrozka_tests::steps::Step;
-use firrozka_tests::worked::{old, own};
+use firrozka_tests::worked::{old, own, ONE_PERCENT, TEN_PERCENT};
 
 /// The step leads to this kind, these helpands and these shares.
 fn leads_to<const N: usize>(step: &Step, kind: u32, helpands: [u32; N], shares: [u32; N]) {
@@ -21,6 +22,29 @@ fn leads_to<const N: usize>(step: &Step, kind: u32, helpands: [u32; N], shares: 
 
 const NO_PLAN: Vec<u8> = Vec::new();
 
+/// Request 2026-01: with 10,000 particles on 3 nodes the limit is 3,450 at 3.5
+/// percent, and 3,446 at 3.4.
+#[test]
+fn a_tenth_of_a_percent_decides() {
+    let level = |t| own(t, &[3_450, 3_300, 3_250], NO_PLAN);
+    leads_to(&level(35), 0, [0, 1, 2], [0; 3]);
+    leads_to(&level(34), 2, [0, 0, 0], [0, 33, 83]);
+    let chain = |t| own(t, &[3_100, 6_900, 0], old(&[0, 0, 1]));
+    leads_to(&chain(35), 1, [0, 0, 1], [0, 0, 3_450]);
+    leads_to(&chain(34), 2, [1, 1, 1], [234, 0, 3_333]);
+}
+
+/// The largest limit that a sheet can have, in a plan that is read back.
+#[test]
+fn the_largest_limit() {
+    for implementation in IMPLEMENTATIONS {
+        let planned = implementation.plan(&own(999, &[1_000_000_000], NO_PLAN));
+        assert_eq!(to_words(&planned.plan), [1, 0, 1_999_000_000, 0, 0]);
+        let read = (implementation.read_plan)(&planned.plan);
+        assert_eq!((read.refusal, read.limit), (0, 1_999_000_000));
+    }
+}
+
 // Which kind.
 
 /// "kind 0 whatever the old tree", even if that holds.
@@ -28,7 +52,7 @@ const NO_PLAN: Vec<u8> = Vec::new();
 fn primary_before_kept() {
     for helpands in [[0, 0, 0], [0, 0, 1], [2, 2, 2]] {
         leads_to(
-            &own(10, &[36, 36, 28], old(&helpands)),
+            &own(TEN_PERCENT, &[36, 36, 28], old(&helpands)),
             0,
             [0, 1, 2],
             [0; 3],
@@ -40,7 +64,7 @@ fn primary_before_kept() {
 #[test]
 fn primary_with_moves() {
     let cells = [cell(0, 1), cell(1, 0), cell(2, 2)];
-    let sheet = sheet(3, 10, &cells, &[36, 36, 28]).bytes();
+    let sheet = sheet(3, TEN_PERCENT, &cells, &[36, 36, 28]).bytes();
     let step = Step {
         sheet,
         old: NO_PLAN,
@@ -59,15 +83,21 @@ fn primary_with_moves() {
 #[test]
 fn shares_and_limit_of_the_old_plan() {
     for kind in [1, 2] {
-        for (limit, shares) in [(0, [0; 3]), (5, [0, 5, 5]), (1_990_000_000, [0, 9, 72])] {
+        let largest = [1_990_000_001, 1_999_000_000].map(|limit| (limit, [0, 9, 72]));
+        for (limit, shares) in [(0, [0; 3]), (5, [0, 5, 5])].into_iter().chain(largest) {
             let old = plan(kind, limit, &[0, 0, 1], &shares).bytes();
             leads_to(
-                &own(10, &[28, 72, 0], old.clone()),
+                &own(TEN_PERCENT, &[28, 72, 0], old.clone()),
                 1,
                 [0, 0, 1],
                 [0, 0, 36],
             );
-            leads_to(&own(10, &[27, 73, 0], old), 2, [1, 1, 1], [7, 0, 33]);
+            leads_to(
+                &own(TEN_PERCENT, &[27, 73, 0], old),
+                2,
+                [1, 1, 1],
+                [7, 0, 33],
+            );
         }
     }
 }
@@ -77,7 +107,12 @@ fn shares_and_limit_of_the_old_plan() {
 fn no_old_tree() {
     let roots = plan(0, 7, &[0, 1, 2], &[0; 3]).bytes();
     for old in [NO_PLAN, roots] {
-        leads_to(&own(10, &[50, 40, 10], old), 2, [1, 1, 0], [7, 0, 23]);
+        leads_to(
+            &own(TEN_PERCENT, &[50, 40, 10], old),
+            2,
+            [1, 1, 0],
+            [7, 0, 23],
+        );
     }
 }
 
@@ -87,7 +122,7 @@ fn no_old_tree() {
 /// divided, so that 12 remain for it.
 #[test]
 fn share_before_own_subdomain() {
-    let step = own(10, &[60, 30, 10], old(&[0, 0, 1]));
+    let step = own(TEN_PERCENT, &[60, 30, 10], old(&[0, 0, 1]));
     leads_to(&step, 1, [0, 0, 1], [0, 24, 18]);
 }
 
@@ -96,7 +131,7 @@ fn share_before_own_subdomain() {
 #[test]
 fn helpers_keep_up_to_their_space() {
     let cells = [cell(0, 0), cell(1, 0), cell(1, 1), cell(2, 2)];
-    let sheet = sheet(3, 10, &cells, &[20, 40, 30, 10]).bytes();
+    let sheet = sheet(3, TEN_PERCENT, &cells, &[20, 40, 30, 10]).bytes();
     let old = old(&[0, 0, 1]);
     leads_to(&Step { sheet, old }, 1, [0, 0, 1], [0, 32, 26]);
 }
@@ -106,7 +141,7 @@ fn helpers_keep_up_to_their_space() {
 #[test]
 fn the_rest_fills_up() {
     let cells = [cell(0, 0), cell(1, 0), cell(1, 1), cell(2, 0), cell(2, 2)];
-    let sheet = sheet(3, 10, &cells, &[20, 10, 6, 60, 4]).bytes();
+    let sheet = sheet(3, TEN_PERCENT, &cells, &[20, 10, 6, 60, 4]).bytes();
     let old = old(&[0, 0, 0]);
     leads_to(&Step { sheet, old }, 1, [0, 0, 0], [0, 22, 32]);
 }
@@ -116,7 +151,7 @@ fn the_rest_fills_up() {
 fn other_nodes_keep_nothing() {
     // Node 2 helps node 1 and holds all of subdomain 0.
     let cells = [cell(1, 1), cell(2, 0), cell(2, 2)];
-    let sheet = sheet(3, 10, &cells, &[30, 60, 10]).bytes();
+    let sheet = sheet(3, TEN_PERCENT, &cells, &[30, 60, 10]).bytes();
     let old = old(&[0, 0, 1]);
     leads_to(&Step { sheet, old }, 1, [0, 0, 1], [0, 24, 18]);
 }
@@ -127,7 +162,7 @@ fn other_nodes_keep_nothing() {
 /// Targets 11, 10, 10, 10: nodes 0 and 1 both need 6, and node 1 is first.
 #[test]
 fn smallest_load_not_largest_need() {
-    let step = own(1, &[5, 4, 17, 15], NO_PLAN);
+    let step = own(ONE_PERCENT, &[5, 4, 17, 15], NO_PLAN);
     leads_to(&step, 2, [3, 2, 2, 2], [6, 6, 0, 1]);
 }
 
@@ -135,15 +170,20 @@ fn smallest_load_not_largest_need() {
 /// 11, 10, 10: nodes 0 and 1 both have 15, and node 0 is helped first.
 #[test]
 fn largest_load_not_largest_surplus() {
-    leads_to(&own(1, &[15, 15, 1], NO_PLAN), 2, [1, 1, 0], [5, 0, 9]);
+    leads_to(
+        &own(ONE_PERCENT, &[15, 15, 1], NO_PLAN),
+        2,
+        [1, 1, 0],
+        [5, 0, 9],
+    );
 }
 
 /// "lowest number on ties", for l and for g.
 #[test]
 fn ties() {
-    let step = own(1, &[2, 2, 19, 17], NO_PLAN);
+    let step = own(ONE_PERCENT, &[2, 2, 19, 17], NO_PLAN);
     leads_to(&step, 2, [2, 3, 2, 2], [8, 8, 0, 1]);
-    let step = own(1, &[2, 2, 18, 18], NO_PLAN);
+    let step = own(ONE_PERCENT, &[2, 2, 18, 18], NO_PLAN);
     leads_to(&step, 2, [2, 3, 2, 2], [8, 8, 0, 0]);
 }
 
@@ -151,7 +191,7 @@ fn ties() {
 /// 0 takes 3 of node 3's 5, and the 2 left are not enough for node 1.
 #[test]
 fn old_helpand_lacks_the_need_by_then() {
-    let step = own(1, &[0, 0, 5, 5], old(&[3, 3, 3, 3]));
+    let step = own(ONE_PERCENT, &[0, 0, 5, 5], old(&[3, 3, 3, 3]));
     leads_to(&step, 2, [3, 2, 2, 2], [3, 3, 0, 0]);
 }
 
@@ -159,10 +199,10 @@ fn old_helpand_lacks_the_need_by_then() {
 /// node 1 has, although node 2 has more.
 #[test]
 fn old_helpand_has_just_the_need() {
-    let step = own(1, &[0, 2, 4], old(&[1, 1, 1]));
+    let step = own(ONE_PERCENT, &[0, 2, 4], old(&[1, 1, 1]));
     leads_to(&step, 2, [1, 2, 2], [2, 2, 0]);
     // Targets 2, 2, 1: node 0 takes both of node 2's.
-    let step = own(1, &[0, 3, 2], old(&[2, 2, 2]));
+    let step = own(ONE_PERCENT, &[0, 3, 2], old(&[2, 2, 2]));
     leads_to(&step, 2, [2, 1, 1], [2, 0, 1]);
 }
 
@@ -171,16 +211,26 @@ fn old_helpand_has_just_the_need() {
 fn old_helpand_not_in_b() {
     let star = || old(&[0, 0, 0]);
     // Node 2 needs 23. Node 0 has 30, but that is under its target 34.
-    leads_to(&own(10, &[30, 60, 10], star()), 2, [1, 1, 1], [4, 0, 23]);
+    leads_to(
+        &own(TEN_PERCENT, &[30, 60, 10], star()),
+        2,
+        [1, 1, 1],
+        [4, 0, 23],
+    );
     // Node 2 needs 3. Node 0 had 25 and is finished.
-    leads_to(&own(10, &[25, 45, 30], star()), 2, [1, 1, 1], [9, 0, 3]);
+    leads_to(
+        &own(TEN_PERCENT, &[25, 45, 30], star()),
+        2,
+        [1, 1, 1],
+        [9, 0, 3],
+    );
 }
 
 /// "Group A holds nodes with load under target, group B the others": node 0 is
 /// at its target 34, helped by node 2 and then in need itself.
 #[test]
 fn at_target_is_in_b() {
-    let step = own(10, &[34, 60, 6], old(&[0, 0, 0]));
+    let step = own(TEN_PERCENT, &[34, 60, 6], old(&[0, 0, 0]));
     leads_to(&step, 2, [1, 1, 0], [27, 0, 27]);
 }
 
@@ -189,9 +239,9 @@ fn at_target_is_in_b() {
 /// node 1.
 #[test]
 fn old_helpand_before_the_largest() {
-    let step = own(10, &[41, 50, 9], old(&[0, 0, 0]));
+    let step = own(TEN_PERCENT, &[41, 50, 9], old(&[0, 0, 0]));
     leads_to(&step, 2, [1, 1, 0], [17, 0, 24]);
-    let step = own(10, &[41, 50, 9], NO_PLAN);
+    let step = own(TEN_PERCENT, &[41, 50, 9], NO_PLAN);
     leads_to(&step, 2, [0, 0, 1], [0, 7, 24]);
 }
 
@@ -199,7 +249,7 @@ fn old_helpand_before_the_largest() {
 /// to 4 are at their targets 10 once node 0 is finished, and 1 is the lowest.
 #[test]
 fn the_lowest_in_b_is_the_root() {
-    let step = own(1, &[0, 10, 10, 10, 20], old(&[0, 0, 1, 2, 3]));
+    let step = own(ONE_PERCENT, &[0, 10, 10, 10, 20], old(&[0, 0, 1, 2, 3]));
     // Node 0 was the root and helps the largest.
     leads_to(&step, 2, [4, 1, 1, 1, 1], [10, 0, 0, 0, 0]);
 }
@@ -212,7 +262,7 @@ fn the_lowest_in_b_is_the_root() {
 fn pairs_in_rising_order() {
     // Subdomain 4 is held by all, and they are all of its family.
     let cells = [cell(0, 4), cell(1, 4), cell(2, 4), cell(3, 4), cell(4, 4)];
-    let sheet = sheet(5, 1, &cells, &[7, 2, 4, 1, 1]).bytes();
+    let sheet = sheet(5, ONE_PERCENT, &cells, &[7, 2, 4, 1, 1]).bytes();
     let old = old(&[4, 4, 4, 4, 4]);
     // L is 3, and all of it is 15: every node has 3.
     let step = Step { sheet, old };

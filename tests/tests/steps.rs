@@ -72,7 +72,7 @@ fn step_c() {
 #[test]
 fn step_d() {
     let step = worked::d();
-    assert_eq!(to_words(&step.sheet), [3, 10, 3, 0, 65, 130, 90, 6, 4]);
+    assert_eq!(to_words(&step.sheet), [3, 100, 3, 0, 65, 130, 90, 6, 4]);
     for implementation in IMPLEMENTATIONS {
         let planned = implementation.plan(&step);
         assert_eq!(to_words(&planned.plan), [3, 2, 36, 0, 0, 0, 0, 27, 29]);
@@ -178,7 +178,7 @@ fn corners() -> Vec<Corner> {
             let what = format!("kind {kind} and N {n}");
             add(what, of_kind(kind, move |step| step.sheet.n == n));
         }
-        for t in [1, 99] {
+        for t in [1, 999] {
             let what = format!("kind {kind} and t {t}");
             add(what, of_kind(kind, move |step| step.sheet.t == t));
         }
@@ -311,7 +311,7 @@ fn small_steps() {
             let olds = exhaustive::trees(n).into_iter();
             let olds = olds.map(|helpands| worked::old(&helpands));
             for old in olds.chain([Vec::new()]) {
-                let step = worked::own(1, &counts, old);
+                let step = worked::own(worked::ONE_PERCENT, &counts, old);
                 for implementation in IMPLEMENTATIONS {
                     judged(implementation, &step, "a small step");
                 }

@@ -108,11 +108,31 @@ fn rounds_the_limit_down() {
         }
         let read = read_sheet(sheet);
         let [p, n, t] = [read.p, read.n, read.t].map(u64::from);
-        let limit = (p * (100 + t) / (100 * n)) as u32;
+        let limit = (p * (1000 + t) / (1000 * n)) as u32;
         plan[8..12].copy_from_slice(&limit.to_le_bytes());
         StepAnswer { limit, ..answer }
     }
     let planner = wrong_planner("rounds the limit down", wrong);
+    PLAN_STEP.must_report(&planner);
+    is_judged(&planner);
+}
+
+/// The sheet that is meant where t counts whole percents, as before request
+/// 2026-01.
+fn in_percent(sheet: &[u8]) -> Vec<u8> {
+    let mut meant = sheet.to_vec();
+    if let Some(&[t @ 1..=99, 0, 0, 0]) = sheet.get(4..8) {
+        meant[4..8].copy_from_slice(&to_bytes(&[10 * u32::from(t)]));
+    }
+    meant
+}
+
+#[test]
+fn plans_in_percent() {
+    fn wrong(sheet: &[u8], old: &[u8], plan: &mut [u8], moves: &mut [u8]) -> StepAnswer {
+        plan_step(&in_percent(sheet), old, plan, moves)
+    }
+    let planner = wrong_planner("takes t as percents", wrong);
     PLAN_STEP.must_report(&planner);
     is_judged(&planner);
 }
@@ -280,6 +300,7 @@ fn weighs_wrong() {
         ("weighs by the plan's limit", by_plan_limit as _),
         ("writes only what holds", only_if_it_holds as _),
         ("24 before 21", kind_first as _),
+        ("takes t as percents", weighs_in_percent as _),
     ] {
         let wrong = Implementation {
             name,
@@ -318,6 +339,10 @@ fn kind_first(sheet: &[u8], plan: &[u8], least: &mut [u8]) -> WeighedAnswer {
         (21, Ok(plan)) if plan.kind == 0 => Answer::refused(24),
         _ => answer,
     }
+}
+
+fn weighs_in_percent(sheet: &[u8], plan: &[u8], least: &mut [u8]) -> WeighedAnswer {
+    weigh(&in_percent(sheet), plan, least)
 }
 
 #[test]

@@ -2,7 +2,7 @@
 
 use crate::files::{self, STANDARD};
 use crate::task::Task;
-use crate::text::Piece;
+use crate::text::{Fault, Piece};
 use crate::verbs::{self, Verb, FLAGS};
 use std::collections::{BTreeMap, VecDeque};
 
@@ -95,12 +95,17 @@ impl Given {
         self.options.contains_key(option)
     }
 
-    /// The number behind an option, written as in a text.
-    pub fn number(&self, option: &str, name: &str) -> Result<u32, String> {
+    /// What stands behind an option, read as in a text.
+    pub fn value<'a>(
+        &'a self,
+        option: &str,
+        name: &str,
+        read: fn(Piece<'a>) -> Result<u32, Fault>,
+    ) -> Result<u32, String> {
         let text = self.options.get(option);
         let text = text.ok_or_else(|| format!("{option} {name} is missing"))?;
-        let number = Piece::first(text).number();
-        number.map_err(|fault| format!("{option}: {}", fault.what))
+        let value = read(Piece::first(text));
+        value.map_err(|fault| format!("{option}: {}", fault.what))
     }
 
     /// The next plain argument, one of these words.

@@ -6,6 +6,7 @@
 //! |---|---|
 //! | `text` | pieces of text with line and column, and what is wrong with them |
 //! | `words` | words as text, both ways |
+//! | `tolerance` | the tolerance in percent, both ways |
 //! | `record` | the three records, and why some bytes are none |
 //! | `table` | tables to the words of records |
 //! | `show` | records as tables |
@@ -24,6 +25,7 @@ pub mod step;
 pub mod table;
 pub mod task;
 pub mod text;
+pub mod tolerance;
 pub mod verbs;
 pub mod words;
 

@@ -3,6 +3,7 @@
 
 use crate::record::{explained, Record};
 use crate::table::{Form, MOVES, PLAN, SHEET};
+use crate::tolerance::to_percent;
 use firrozka::{read_moves, read_plan, read_sheet, Refusal};
 
 /// The record in these bytes as text, or why the library refuses it.
@@ -17,11 +18,12 @@ pub fn show(record: Record, bytes: &[u8]) -> Result<String, String> {
 
 fn sheet(bytes: &[u8]) -> Result<String, Refusal> {
     let sheet = read_sheet(bytes)?;
-    let (n, t, e, p, limit) = (sheet.n, sheet.t, sheet.e, sheet.p, sheet.limit);
+    let (n, e, p, limit) = (sheet.n, sheet.e, sheet.p, sheet.limit);
+    let percent = to_percent(sheet.t);
     let cells = sheet.entries();
     Ok(table(
         &format!("sheet: cells {e}, particles {p}, limit {limit}"),
-        &format!("nodes {n} tolerance {t}"),
+        &format!("nodes {n} tolerance {percent} percent"),
         &SHEET,
         cells.map(|cell| format!("{},{},{}", cell.holder, cell.subdomain, cell.count)),
     ))

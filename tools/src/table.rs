@@ -6,6 +6,7 @@
 
 use crate::record::Record;
 use crate::text::{Fault, Piece};
+use crate::tolerance::{of_percent, to_percent};
 use std::collections::BTreeMap;
 
 /// How a record looks as a table: its head line, in which names and numbers take
@@ -16,7 +17,7 @@ pub struct Form {
 }
 
 pub const SHEET: Form = Form {
-    head: "nodes N tolerance T",
+    head: "nodes N tolerance T percent",
     columns: "holder,subdomain,count",
 };
 
@@ -47,7 +48,7 @@ pub fn sheet(text: &str, given: Option<Sizes>) -> Result<Vec<u32>, String> {
     let mut lines = Piece::lines(text).peekable();
     let is_head = |line: &Piece| line.words().next().map_or(false, |word| word.is("nodes"));
     let [n, t] = match given {
-        None => SHEET.sizes(lines.next())?,
+        None => sheet_sizes(lines.next())?,
         Some(sizes) => match lines.next_if(is_head) {
             Some(line) => agreed(line, [sizes.n, sizes.t])?,
             None => [sizes.n, sizes.t],
@@ -68,12 +69,21 @@ pub fn sheet(text: &str, given: Option<Sizes>) -> Result<Vec<u32>, String> {
     ))
 }
 
+/// N and t in the head line of a sheet.
+fn sheet_sizes(line: Option<Piece>) -> Result<[u32; 2], Fault> {
+    let [n, percent] = SHEET.sizes(line)?;
+    Ok([n.number()?, of_percent(percent)?])
+}
+
 /// The sizes, if the head line and the call agree.
 fn agreed(line: Piece, given: [u32; 2]) -> Result<[u32; 2], Fault> {
     let [n, t] = given;
-    match SHEET.sizes(Some(line))? {
+    match sheet_sizes(Some(line))? {
         sizes if sizes == given => Ok(given),
-        _ => Err(line.fault(format!("this line differs from -n {n} -t {t}"))),
+        _ => {
+            let percent = to_percent(t);
+            Err(line.fault(format!("this line differs from -n {n} -t {percent}")))
+        }
     }
 }
 
@@ -100,7 +110,7 @@ fn counts(n: u32, rows: &[[Piece; 3]]) -> Result<BTreeMap<u32, u32>, Fault> {
 /// The words of the plan in this table: N is the number of its lines.
 pub fn plan(text: &str) -> Result<Vec<u32>, String> {
     let mut lines = Piece::lines(text);
-    let [kind, limit] = PLAN.sizes(lines.next())?;
+    let [kind, limit] = PLAN.numbers(lines.next())?;
     let rows: Vec<[Piece; 3]> = PLAN.rows(lines)?;
     let n = rows.len() as u32;
     let (mut helpands, mut shares) = (BTreeMap::new(), BTreeMap::new());
@@ -126,7 +136,7 @@ pub fn plan(text: &str) -> Result<Vec<u32>, String> {
 /// 64 + receiver."
 pub fn moves(text: &str) -> Result<Vec<u32>, String> {
     let mut lines = Piece::lines(text);
-    let [n] = MOVES.sizes(lines.next())?;
+    let [n] = MOVES.numbers(lines.next())?;
     // N by itself: a route is made of nodes below 64.
     Record::Moves.of_words(&[n, 0])?;
     let mut counts = BTreeMap::new();
@@ -153,19 +163,25 @@ fn record<'a>(
 }
 
 impl Form {
-    /// The K numbers of the head line.
-    fn sizes<const K: usize>(&self, line: Option<Piece>) -> Result<[u32; K], Fault> {
+    /// The K sizes of the head line, as they stand there.
+    fn sizes<'a, const K: usize>(&self, line: Option<Piece<'a>>) -> Result<[Piece<'a>; K], Fault> {
         let head = self.head;
         let line = line.unwrap_or_else(|| Piece::first(""));
         let words: Vec<Piece> = line.words().collect();
         let mut names = words.iter().step_by(2).zip(head.split(' ').step_by(2));
-        if words.len() != 2 * K || !names.all(|(word, name)| word.is(name)) {
+        if words.len() != head.split(' ').count() || !names.all(|(word, name)| word.is(name)) {
             let what = format!("the first line is {}, not '{head}'", line.quoted());
             return Err(line.fault(what));
         }
+        let sizes: Vec<Piece> = words.into_iter().skip(1).step_by(2).collect();
+        Ok(sizes.try_into().expect("the head line has K sizes"))
+    }
+
+    /// The K sizes of the head line, where all are numbers.
+    fn numbers<const K: usize>(&self, line: Option<Piece>) -> Result<[u32; K], Fault> {
         let mut numbers = [0; K];
-        for (number, word) in numbers.iter_mut().zip(words.iter().skip(1).step_by(2)) {
-            *number = word.number()?;
+        for (number, size) in numbers.iter_mut().zip(self.sizes::<K>(line)?) {
+            *number = size.number()?;
         }
         Ok(numbers)
     }

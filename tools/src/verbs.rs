@@ -4,6 +4,8 @@ use crate::arguments::Given;
 use crate::record::Record;
 use crate::table::Sizes;
 use crate::task::Task;
+use crate::text::Piece;
+use crate::tolerance::of_percent;
 
 /// What the tool can be called for.
 pub struct Verb {
@@ -78,7 +80,7 @@ holds, or that no tree is needed.
 TABLE has a line for each count, holder,subdomain,count, in any order. The first
 line may be these three names. A count of 0 is left out of the sheet.
   -n N       the number of nodes, 1 to 64
-  -t T       the tolerance in percent, 1 to 99
+  -t T       the tolerance in percent, 0.1 to 99.9: 10 or 3.5
   --empty    a table without a count is meant, and makes a sheet without particles
   -o SHEET   the file for the sheet
 ",
@@ -93,10 +95,11 @@ line may be these three names. A count of 0 is left out of the sheet.
         more: "\
 TEXT is what 'firrozka show' prints of a record: a head line, the names of the
 columns, which may be left away, and a line for each entry:
-  sheet      nodes N tolerance T    holder,subdomain,count
-  plan       kind K limit L         node,helps,share
-  moves      nodes N                subdomain,from,to,count
-Or it is the record's words: numbers with blanks or new lines between them. A
+  sheet      nodes N tolerance T percent    holder,subdomain,count
+  plan       kind K limit L                 node,helps,share
+  moves      nodes N                        subdomain,from,to,count
+Or it is the record's words: numbers with blanks or new lines between them, in
+which a sheet's tolerance counts tenths of a percent: 35 is 3.5 percent. A
 record that the library refuses is not written. 'any' takes words and writes their
 bytes, whatever they are.
   -o RECORD  the file for the record
@@ -143,9 +146,10 @@ fn named(name: &str, all: &str) -> Result<Record, String> {
 
 /// N and t, if a sheet can have them.
 fn sizes(given: &mut Given) -> Result<Sizes, String> {
-    let (n, t) = (given.number("-n", "N")?, given.number("-t", "T")?);
+    let n = given.value("-n", "N", Piece::number)?;
+    let t = given.value("-t", "T", of_percent)?;
     let accepted = Record::Sheet.of_words(&[n, t, 0]);
-    accepted.map_err(|refused| format!("-n {n} -t {t}: {refused}"))?;
+    accepted.map_err(|refused| format!("-n {n}: {refused}"))?;
     let empty = given.has("--empty");
     Ok(Sizes { n, t, empty })
 }

@@ -82,11 +82,11 @@ fn a_wrong_call_is_told_what_is_wrong_and_then_the_usage() {
         ),
         (
             &["table", "-n", "65", "-t", "10"],
-            "table: -n 65 -t 10: refused 2: sheet: N is not 1 to 64",
+            "table: -n 65: refused 2: sheet: N is not 1 to 64",
         ),
         (
             &["table", "-n", "3", "-t", "0"],
-            "table: -n 3 -t 0: refused 3: sheet: t is not 1 to 99",
+            "table: -t: the tolerance is 0.1 to 99.9 percent",
         ),
         (&["write"], "write: sheet, plan, moves or any is missing"),
         (
@@ -154,7 +154,7 @@ fn a_dash_is_the_standard_input_or_output() {
         next,
         written(&["carry", "-", &moves, "-o", "-"], &bytes(&sheet))
     );
-    assert!(next.starts_with(&[3, 0, 0, 0, 10, 0, 0, 0, 5, 0, 0, 0]));
+    assert!(next.starts_with(&[3, 0, 0, 0, 100, 0, 0, 0, 5, 0, 0, 0]));
     let words = written(&["words", "-", "-o", "-"], &bytes(&plan));
     assert_eq!(words, b"3 2 36 0 0 0 0 27 29\n");
 }
@@ -175,7 +175,7 @@ fn what_cannot_be_read_or_written_is_named() {
     assert_eq!(no_folder, format!("no-such-folder/file: {what}"));
     // Nor is the other one.
     assert!(fs::metadata(&plan).is_err());
-    let unwritten = said(&["write", "any", "-o", folder], b"3 10 0");
+    let unwritten = said(&["write", "any", "-o", folder], b"3 100 0");
     let what = "cannot be written: Is a directory (os error 21)";
     assert_eq!(unwritten, format!("{folder}: {what}"));
 }

@@ -29,7 +29,7 @@ fn plan_and_moves_are_saved_for_the_next_step() {
     assert_eq!(bytes(&moves), bytes(&example("step-d/moves")));
 
     assert_eq!(printed(&["carry", &sheet, &moves, "-o", &next]), "");
-    let words = "3 10 5 0 64 65 128 130 34 27 6 29 4\n";
+    let words = "3 100 5 0 64 65 128 130 34 27 6 29 4\n";
     assert_eq!(printed(&["words", &next]), words);
     let kept = "kind 1 limit 36\n\
         node 0 helps 0 share 0 own 34\n\
@@ -78,7 +78,7 @@ fn an_empty_old_plan_is_no_rebuild() {
 #[test]
 fn a_refused_file_is_named_with_the_reason() {
     let [sheet_d, plan_d] = ["step-d/sheet", "step-d/plan"].map(example);
-    let sheet = record("bad-sheet", "3 10 2 65 0 6 90");
+    let sheet = record("bad-sheet", "3 100 2 65 0 6 90");
     let plan = record("bad-plan", "3 7 36 0 0 0 0 27 29");
     let moves = record("bad-moves", "3 1 0 5");
     let output = fresh("bad-output");
@@ -184,7 +184,7 @@ fn a_tree_is_weighed() {
 #[test]
 fn a_step_that_needs_no_tree_is_said_to() {
     // J, with H's plan: its tree would hold, and is not kept.
-    let sheet = record("sheet-j", "3 10 3 0 65 130 36 36 28");
+    let sheet = record("sheet-j", "3 100 3 0 65 130 36 36 28");
     let plan = example("step-h/plan");
     let weighed = "limit 36\n\
         node 0 least 28\n\
@@ -194,7 +194,7 @@ fn a_step_that_needs_no_tree_is_said_to() {
     assert_eq!(printed(&["weigh", &sheet, &plan]), weighed);
     assert!(printed(&["plan", &sheet, &plan]).starts_with("kind 0 limit 36\n"));
     // One more, and a tree is needed.
-    let sheet = record("sheet-j-and-one", "3 10 3 0 65 130 37 35 28");
+    let sheet = record("sheet-j-and-one", "3 100 3 0 65 130 37 35 28");
     assert!(printed(&["weigh", &sheet, &plan]).ends_with("\nthe tree holds\n"));
     assert!(printed(&["plan", &sheet, &plan]).starts_with("kind 1 limit 36\n"));
 }

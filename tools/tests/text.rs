@@ -19,7 +19,7 @@ fn step_d(record: &str) -> Vec<u8> {
 }
 
 const WORDS_D: [(&str, &str); 3] = [
-    ("sheet", "3 10 3 0 65 130 90 6 4\n"),
+    ("sheet", "3 100 3 0 65 130 90 6 4\n"),
     ("plan", "3 2 36 0 0 0 0 27 29\n"),
     ("moves", "3 2 1 2 27 29\n"),
 ];
@@ -32,7 +32,7 @@ fn words_become_records_and_come_back() {
         assert_eq!(written(&["write", "any"], words.as_bytes()), bytes);
         assert_eq!(written(&["words"], &bytes), words.as_bytes());
     }
-    let spread = b"# D\n  3\t10 3\r\n\n0 65 130\n90\n6 4";
+    let spread = b"# D\n  3\t100 3\r\n\n0 65 130\n90\n6 4";
     assert_eq!(written(&["write", "sheet"], spread), step_d("sheet"));
     assert_eq!(written(&["write", "any"], b"4294967295"), [255; 4]);
 }
@@ -41,7 +41,7 @@ const TABLES_D: [(&str, &str); 3] = [
     (
         "sheet",
         "# sheet: cells 3, particles 100, limit 36\n\
-        nodes 3 tolerance 10\n\
+        nodes 3 tolerance 10 percent\n\
         holder,subdomain,count\n\
         0,0,90\n\
         1,1,6\n\
@@ -74,10 +74,11 @@ fn what_is_shown_can_be_written() {
         assert_eq!(written(&["write", record], &shown), step_d(record));
     }
     let words = [
-        ("sheet", "64 99 0"),
+        ("sheet", "64 999 0"),
+        ("sheet", "3 35 1 0 10000"),
         ("sheet", "64 1 3 63 64 4095 1 999999998 1"),
         ("plan", "1 0 0 0 0"),
-        ("plan", "4 1 1990000000 1 2 3 3 7 1990000000 0 0"),
+        ("plan", "4 1 1999000000 1 2 3 3 7 1999000000 0 0"),
         ("moves", "64 0"),
         ("moves", "64 2 1 262142 1000000000 1"),
     ];
@@ -100,11 +101,11 @@ fn tables_may_be_written_in_other_ways() {
     }
     let moves = b"NODES 3\n0,0,2,29\n0,0,1,27";
     assert_eq!(written(&["write", "moves"], moves), step_d("moves"));
-    let sheet = b"nodes 3 tolerance 10\n2,2,4\n0,1,0\n1,1,6\n0,0,90";
+    let sheet = b"nodes 3 Tolerance 10.0 percent\n2,2,4\n0,1,0\n1,1,6\n0,0,90";
     assert_eq!(written(&["write", "sheet"], sheet), step_d("sheet"));
     // `table` takes a head line too, if it says the same.
     assert_eq!(written(&TABLE, sheet), step_d("sheet"));
-    let other = said(&TABLE, b"\nnodes 3 tolerance 11\n0,0,90");
+    let other = said(&TABLE, b"\nnodes 3 tolerance 11 percent\n0,0,90");
     assert_eq!(other, "line 2, column 1: this line differs from -n 3 -t 10");
 }
 
@@ -123,13 +124,13 @@ fn a_table_becomes_a_sheet() {
     }
     // Step E's rows by subdomain; its cells rise.
     let step_e = b"0,0,30\n1,0,27\n2,0,30\n1,1,6\n0,2,3\n2,2,4\n";
-    let words = b"3 10 6 0 2 64 65 128 130 30 3 27 6 30 4";
+    let words = b"3 100 6 0 2 64 65 128 130 30 3 27 6 30 4";
     assert_eq!(written(&TABLE, step_e), written(&["write", "any"], words));
 }
 
 #[test]
 fn an_empty_table_is_refused_unless_asked_for() {
-    let none = written(&["write", "any"], b"3 10 0");
+    let none = written(&["write", "any"], b"3 100 0");
     let what = "there is no count in it; --empty makes a sheet without particles";
     let asked = [&TABLE[..], &["--empty"]].concat();
     let empty = [
@@ -137,7 +138,7 @@ fn an_empty_table_is_refused_unless_asked_for() {
         "\n\n",
         "# nothing\n",
         "holder,subdomain,count\n",
-        "nodes 3 tolerance 10",
+        "nodes 3 tolerance 10 percent",
     ];
     for text in empty {
         assert_eq!(said(&TABLE, text.as_bytes()), what);
@@ -196,7 +197,18 @@ fn a_wrong_head_line_is_named() {
         (
             "sheet",
             "holder,subdomain,count",
-            "the first line is 'holder,subdomain,count', not 'nodes N tolerance T'",
+            "the first line is 'holder,subdomain,count', not 'nodes N tolerance T percent'",
+        ),
+        // A tolerance without its unit.
+        (
+            "sheet",
+            "nodes 3 tolerance 10",
+            "the first line is 'nodes 3 tolerance 10', not 'nodes N tolerance T percent'",
+        ),
+        (
+            "sheet",
+            "nodes 3 tolerance 10 tenths",
+            "the first line is 'nodes 3 tolerance 10 tenths', not 'nodes N tolerance T percent'",
         ),
         (
             "moves",
@@ -210,10 +222,67 @@ fn a_wrong_head_line_is_named() {
     }
     let number = said(&["write", "plan"], b"kind two limit 36");
     assert_eq!(number, "line 1, column 6: 't' is no digit");
-    let nodes = said(&["write", "sheet"], b"nodes 65 tolerance 10\n64,0,1");
+    let nodes = said(
+        &["write", "sheet"],
+        b"nodes 65 tolerance 10 percent\n64,0,1",
+    );
     assert_eq!(nodes, "refused 2: sheet: N is not 1 to 64");
     let nodes = said(&["write", "moves"], b"nodes 65\n64,0,1,1");
     assert_eq!(nodes, "refused 32: moves: N is not 1 to 64");
+}
+
+/// In tables and calls the tolerance is in percent, in words in tenths of one.
+#[test]
+fn the_tolerance_is_in_percent() {
+    let cases = [
+        ("0.1", 1, "0.1"),
+        ("3.5", 35, "3.5"),
+        ("10", 100, "10"),
+        ("10.0", 100, "10"),
+        ("99.9", 999, "99.9"),
+    ];
+    for (percent, t, shown) in cases {
+        let words = format!("3 {t} 1 0 10000");
+        let record = written(&["write", "sheet"], words.as_bytes());
+        let call = ["table", "-n", "3", "-t", percent];
+        assert_eq!(written(&call, b"0,0,10000"), record);
+        let table = format!("nodes 3 tolerance {percent} percent\n0,0,10000");
+        assert_eq!(written(&["write", "sheet"], table.as_bytes()), record);
+        let table = written(&["show", "sheet"], &record);
+        let head = format!("\nnodes 3 tolerance {shown} percent\n");
+        let table = String::from_utf8_lossy(&table);
+        assert!(table.contains(&head), "{table}");
+    }
+}
+
+#[test]
+fn what_is_no_tolerance_is_explained() {
+    let range = "the tolerance is 0.1 to 99.9 percent";
+    let cases = [
+        ("0", 0, range),
+        ("0.0", 0, range),
+        ("100", 0, range),
+        ("350", 0, range),
+        ("4294967295", 0, range),
+        ("3.55", 0, "'3.55' is not written as 10 or 3.5"),
+        ("3.", 0, "'3.' is not written as 10 or 3.5"),
+        ("3.x", 0, "'3.x' is not written as 10 or 3.5"),
+        ("3.5.1", 0, "'3.5.1' is not written as 10 or 3.5"),
+        ("3,5", 0, "'3,5' has a comma: write a point"),
+        (".5", 0, "a number is missing"),
+        ("10%", 2, "'%' is no digit"),
+        ("-3.5", 0, "'-3' has a sign: a number is digits only"),
+        ("4294967296", 0, "the number is above 4,294,967,295"),
+    ];
+    for (percent, place, what) in cases {
+        let table = format!("\nnodes 3 tolerance {percent} percent\n0,0,90");
+        let in_table = format!("line 2, column {}: {what}", 19 + place);
+        assert_eq!(said(&["write", "sheet"], table.as_bytes()), in_table);
+        let call = ["table", "-n", "3", "-t", percent];
+        let in_call = common::failed(common::firrozka(&call, b"0,0,90"), 2);
+        let front = format!("firrozka: table: -t: {what}\n");
+        assert!(in_call.starts_with(&front), "{in_call}");
+    }
 }
 
 #[test]
@@ -263,7 +332,7 @@ fn what_is_no_number_is_explained() {
 #[test]
 fn what_is_no_text_is_refused_with_line_and_column() {
     let cases: [(&[u8], &str); 3] = [
-        (b"3 10\n3 \xff", "line 2, column 3: this is no UTF-8 text"),
+        (b"3 100\n3 \xff", "line 2, column 3: this is no UTF-8 text"),
         // A mark of byte order is no column.
         (
             b"\xef\xbb\xbf3 \xff",
@@ -377,7 +446,7 @@ fn bad_tables_of_plans_and_moves_are_refused() {
 
 #[test]
 fn a_table_above_the_largest_total_is_refused_where_it_passes_it() {
-    let most = written(&["write", "any"], b"3 10 2 0 65 400000000 600000000");
+    let most = written(&["write", "any"], b"3 100 2 0 65 400000000 600000000");
     assert_eq!(written(&TABLE, b"1,1,600000000\n0,0,400000000"), most);
     let above = "this count brings the total above 1,000,000,000";
     let cases = [
@@ -400,7 +469,7 @@ fn a_table_above_the_largest_total_is_refused_where_it_passes_it() {
 fn refusals_are_explained() {
     let words = |words: &str| written(&["write", "any"], words.as_bytes());
     let cases = [
-        ("sheet", "3 10 2 65 0 6 90", "refused 6: sheet: a cell does not rise, or names a node not below N"),
+        ("sheet", "3 100 2 65 0 6 90", "refused 6: sheet: a cell does not rise, or names a node not below N"),
         ("plan", "1 2 36 0 0", "refused 13: plan: the kind is above 2, or not 0 with one node"),
         ("moves", "3 1 0 5", "refused 35: moves: a route does not rise, names a node not below N, or has one node as sender and receiver"),
     ];
@@ -421,12 +490,12 @@ fn typed_words_are_counted_in_words() {
         ),
         (
             "sheet",
-            "3 10",
+            "3 100",
             "refused 1: sheet: at least 3 words expected, 2 given",
         ),
         (
             "sheet",
-            "3 10 5 0 64 65 128 130 34 27 6 29",
+            "3 100 5 0 64 65 128 130 34 27 6 29",
             "refused 5: sheet: 13 words expected, 12 given",
         ),
         (

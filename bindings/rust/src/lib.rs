@@ -5,8 +5,8 @@
 //! docs/FORMATS.md; names are document 01's.
 //!
 //! ```
-//! // Step D: 3 nodes, tolerance 10, cells 0, 65 and 130 with 90, 6 and 4.
-//! let sheet = firrozka::to_bytes(&[3, 10, 3, 0, 65, 130, 90, 6, 4]);
+//! // Step D: 3 nodes, tolerance 10 percent, cells 0, 65 and 130 with 90, 6 and 4.
+//! let sheet = firrozka::to_bytes(&[3, 100, 3, 0, 65, 130, 90, 6, 4]);
 //! let mut plan = [0; firrozka::PLAN_BYTES];
 //! let mut moves = [0; firrozka::MOVES_BYTES];
 //! let step = firrozka::plan_step(&sheet, firrozka::NO_PLAN, &mut plan, &mut moves)?;

@@ -12,7 +12,7 @@ const NODES: u32 = 64;
 pub struct Sheet<'a> {
     /// N, the number of nodes.
     pub n: u32,
-    /// t, the tolerance in percent.
+    /// t, the tolerance in tenths of a percent.
     pub t: u32,
     /// E, the number of cells.
     pub e: u32,

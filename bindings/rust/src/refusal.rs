@@ -42,7 +42,7 @@ macro_rules! refusals {
 refusals! {
     SheetShort = 1, "sheet", "under 12 bytes";
     SheetNodes = 2, "sheet", "N is not 1 to 64";
-    SheetTolerance = 3, "sheet", "t is not 1 to 99";
+    SheetTolerance = 3, "sheet", "t is not 1 to 999";
     SheetEntries = 4, "sheet", "E is above N × N";
     SheetLength = 5, "sheet", "the length is not 4 × (3 + 2E) bytes";
     SheetCell = 6, "sheet", "a cell does not rise, or names a node not below N";
@@ -50,7 +50,7 @@ refusals! {
     PlanShort = 11, "plan", "under 12 bytes";
     PlanNodes = 12, "plan", "N is not 1 to 64";
     PlanKind = 13, "plan", "the kind is above 2, or not 0 with one node";
-    PlanLimit = 14, "plan", "the limit is above 1,990,000,000";
+    PlanLimit = 14, "plan", "the limit is above 1,999,000,000";
     PlanLength = 15, "plan", "the length is not 4 × (3 + 2N) bytes";
     PlanHelpand = 16, "plan", "a helpand is not below N";
     PlanShape = 17, "plan", "the wrong shape: kind 0 has only roots; \

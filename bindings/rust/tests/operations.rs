@@ -7,7 +7,7 @@ use firrozka::{
 use std::thread;
 
 /// Step D: "sheet words", "plan words", "moves words".
-const SHEET: [u32; 9] = [3, 10, 3, 0, 65, 130, 90, 6, 4];
+const SHEET: [u32; 9] = [3, 100, 3, 0, 65, 130, 90, 6, 4];
 const PLAN: [u32; 9] = [3, 2, 36, 0, 0, 0, 0, 27, 29];
 const MOVES: [u32; 6] = [3, 2, 1, 2, 27, 29];
 
@@ -45,7 +45,7 @@ fn step_d_is_planned_and_carried_out() -> Result<(), Refusal> {
     let next = read_sheet(carry_out(&sheet, step.moves, &mut next)?)?;
     assert_eq!(numbers(next.cells), [0, 64, 65, 128, 130]);
     assert_eq!(numbers(next.counts), [34, 27, 6, 29, 4]);
-    assert_eq!((next.t, next.p), (10, 100));
+    assert_eq!((next.t, next.p), (100, 100));
     Ok(())
 }
 
@@ -55,7 +55,7 @@ fn records_are_taken_apart() -> Result<(), Refusal> {
     let sheet = read_sheet(&bytes)?;
     assert_eq!(
         [sheet.n, sheet.t, sheet.e, sheet.p, sheet.limit],
-        [3, 10, 3, 100, 36]
+        [3, 100, 3, 100, 36]
     );
     let last = sheet.entries().last();
     let (holder, subdomain, count) = (2, 2, 4);
@@ -124,11 +124,11 @@ fn kinds_come_from_numbers_and_print_as_words() {
 fn the_tree_of_step_h_holds_and_that_of_step_i_does_not() -> Result<(), Refusal> {
     let old = to_bytes(&[3, 2, 36, 0, 0, 1, 0, 0, 0]);
     let mut least = [0xa5; LEAST_BYTES];
-    let h = to_bytes(&[3, 10, 2, 0, 65, 28, 72]);
+    let h = to_bytes(&[3, 100, 2, 0, 65, 28, 72]);
     let weighed = weigh(&h, &old, &mut least)?;
     assert!(weighed.holds);
     assert_eq!(numbers(weighed.leasts), [28, 36, 0]);
-    let i = to_bytes(&[3, 10, 2, 0, 65, 27, 73]);
+    let i = to_bytes(&[3, 100, 2, 0, 65, 27, 73]);
     let weighed = weigh(&i, &old, &mut least)?;
     assert!(!weighed.holds);
     assert_eq!(numbers(weighed.leasts), [27, 37, 0]);
@@ -139,7 +139,7 @@ fn the_tree_of_step_h_holds_and_that_of_step_i_does_not() -> Result<(), Refusal>
 #[test]
 fn the_tree_in_force_is_a_part_of_a_plan() -> Result<(), Refusal> {
     let old = to_bytes(&[3, 2, 36, 0, 0, 1, 0, 0, 0]);
-    let h = to_bytes(&[3, 10, 2, 0, 65, 28, 72]);
+    let h = to_bytes(&[3, 100, 2, 0, 65, 28, 72]);
     let mut buffers = Buffers::new();
     let kept = buffers.plan_step(&h, &old)?;
     assert_eq!(kept.kind, Kind::Kept);
@@ -211,7 +211,7 @@ fn long_chain() -> (Vec<u8>, Vec<u8>) {
         .chain([0; 64])
         .collect();
     let counts = (0..4096).map(|cell| if cell % 64 == 0 { 112 } else { 100 });
-    let sheet: Vec<u32> = [64, 10, 4096]
+    let sheet: Vec<u32> = [64, 100, 4096]
         .into_iter()
         .chain(0..4096)
         .chain(counts)

@@ -121,6 +121,10 @@ fn all_have_the_version() {
     has("bindings/python/firrozka.py", "\nVERSION =", "\n", number);
     let (major, minor) = (VERSION / 100, VERSION % 100);
     has("CHANGELOG.md", "\n## ", "\n", format!("{major}.{minor}"));
+    let cargo = format!("\"{major}.{minor}.0\"");
+    for name in ["bindings/rust/Cargo.toml", "tools/Cargo.toml"] {
+        has(name, "\nversion =", "\n", cargo.clone());
+    }
 }
 
 #[test]

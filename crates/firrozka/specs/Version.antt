@@ -3,4 +3,4 @@ use Prim.Native.Nat.{ℕ}
 
 -- 100 × major + minor: 1.0 is 100, and 1.14 will be 114.
 abbrev pub version : ℕ
-version = 100
+version = 101

@@ -1,8 +1,8 @@
 -- Laws of ranges and of the limit. Assumes nothing.
 use mathlib.Core.Path.{_≡_}
 use mathlib.Core.Bool.{true}
-use Prim.Native.Nat.{ℕ, _+_, _-_, _*_, _/_, _≤_}
-use native.Mathlib.Nat.{le-refl, mul-comm, mul-le-mul, div-le-of-le-mul, lt-div-mul-add}
+use Prim.Native.Nat.{ℕ, _+_, _-_, _*_, _/_, _≤_, max}
+use native.Mathlib.Nat.{le-refl, mul-comm, mul-left-comm, mul-le-mul, mul-div-mul-left, div-le-of-le-mul, lt-div-mul-add}
 use native.Mathlib.Omega.{arith}
 use borrow.Author.Tests.{leb-true, le-leb}
 use lib.Dec.{leb}
@@ -47,3 +47,12 @@ limit-even p n t = omega arith
 pub limit-enough : (p n t : ℕ) → 1 ≤ n → p ≤ n * limitOf p n t
 limit-enough p n t hn =
     omega (arith, lt-div-mul-add {a = p + n - 1} {b = n} hn, mul-comm ((p + n - 1) / n) n, mul-le-mul (le-refl n) (limit-even p n t))
+
+-- THEOREM. Request 2026-01: "The worked steps take ten times their t." At ten times its t each sheet, not these alone, has the limit that
+-- document 01 gave it: "the larger of P/N rounded up and P × (100+t) / (100 × N) rounded down."
+pub whole-percents : (p n t : ℕ) → limitOf p n (10 * t) ≡ max ((p + n - 1) / n) (p * (100 + t) / (100 * n))
+unfolding limitOf
+whole-percents p n t =
+    let above : toleranceScale + 10 * t ≡ 10 * (100 + t) = omega arith in
+    let below : toleranceScale * n ≡ 10 * (100 * n) = omega arith in
+    rw (above, below, mul-left-comm p 10 (100 + t), mul-div-mul-left {m = 10} (p * (100 + t)) (100 * n) (omega arith))

@@ -3,7 +3,8 @@ use Prim.Native.Nat.{ℕ, _+_, _-_, _*_, _/_, max}
 use mathlib.Core.Bool.{Bool, _&&_}
 use lib.Dec.{leb}
 
--- "N is 1 to 64, tolerance t is 1 to 99 percent, and the total P is at most 1,000,000,000."
+-- "N is 1 to 64", "and the total P is at most 1,000,000,000." Request 2026-01: "From now on t in the sheet counts tenths of a percent, 1 to
+-- 999".
 abbrev pub maxNodes : ℕ
 maxNodes = 64
 
@@ -16,19 +17,19 @@ abbrev pub tableSize : ℕ
 tableSize = 4096
 
 abbrev pub maxTolerance : ℕ
-maxTolerance = 99
+maxTolerance = 999
 
--- t counts parts of this many
+-- t counts parts of this many: tenths of a percent
 abbrev pub toleranceScale : ℕ
-toleranceScale = 100
+toleranceScale = 1000
 
 abbrev pub maxTotal : ℕ
 maxTotal = 1000000000
 
--- *Read plan*: "14, limit above 1,990,000,000"
+-- *Read plan*. Request 2026-01: "14 allows up to 1,999,000,000".
 abbrev pub maxLimit : ℕ
-maxLimit = 1990000000
+maxLimit = 1999000000
 
--- "Limit L: the larger of P/N rounded up and P × (100+t) / (100 × N) rounded down."
+-- "Limit L: the larger of P/N rounded up and" a second part, which by request 2026-01 "is P × (1000+t) / (1000 × N) rounded down."
 unfoldable pub limitOf : ℕ → ℕ → ℕ → ℕ
 limitOf p n t = max ((p + n - 1) / n) (p * (toleranceScale + t) / (toleranceScale * n))

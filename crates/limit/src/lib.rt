@@ -1,4 +1,4 @@
-// The ranges of document 01's numbers, and the limit of a node's load.
+// The ranges of the papers' numbers, and the limit of a node's load.
 ghost use mathlib.Core.Path.{_≡_};
 ghost use Prim.Native.Nat.{_≤_};
 ghost use Rattle.limit.specs.Limit.{maxNodes, maxTolerance, maxTotal, oneTo, limitOf};
@@ -8,13 +8,14 @@ pub const MAX_NODES: u32 = 64;
 // A table has a count for each of 64 holders and 64 subdomains.
 pub const TABLE_SIZE: usize = 4096;
 
-pub const MAX_TOLERANCE: u32 = 99;
+// t counts tenths of a percent.
+pub const MAX_TOLERANCE: u32 = 999;
 
-pub const TOLERANCE_SCALE: u32 = 100;
+pub const TOLERANCE_SCALE: u32 = 1000;
 
 pub const MAX_TOTAL: u32 = 1000000000;
 
-pub const MAX_LIMIT: u32 = 1990000000;
+pub const MAX_LIMIT: u32 = 1999000000;
 
 // Whether x is 1 to `most`: asked of N and of t.
 pub fn one_to(most: u32, x: u32) -> bool

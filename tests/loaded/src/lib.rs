@@ -22,6 +22,7 @@ const RTLD_NOW: c_int = 2;
 
 /// Where the functions of a loaded archive lie.
 struct Archive {
+    version: AtomicPtr<c_void>,
     weigh: AtomicPtr<c_void>,
     plan_step: AtomicPtr<c_void>,
     carry_out: AtomicPtr<c_void>,
@@ -31,6 +32,7 @@ impl Archive {
     /// None was loaded yet.
     const fn none() -> Archive {
         Archive {
+            version: AtomicPtr::new(ptr::null_mut()),
             weigh: AtomicPtr::new(ptr::null_mut()),
             plan_step: AtomicPtr::new(ptr::null_mut()),
             carry_out: AtomicPtr::new(ptr::null_mut()),
@@ -40,6 +42,7 @@ impl Archive {
 
 static PLACES: [Archive; 2] = [Archive::none(), Archive::none()];
 
+type Version = extern "C" fn() -> u32;
 type Weigh = extern "C" fn(*const u8, usize, *const u8, usize, *mut u8, usize) -> WeighedAnswer;
 type CarryOut = extern "C" fn(*const u8, usize, *const u8, usize, *mut u8, usize) -> WrittenAnswer;
 type PlanStep =
@@ -55,6 +58,7 @@ pub fn load(file: &Path, place: usize) -> Result<(), String> {
     }
     let archive = &PLACES[place];
     for (function, name) in [
+        (&archive.version, "firrozka_version"),
         (&archive.weigh, "firrozka_weigh"),
         (&archive.plan_step, "firrozka_plan_step"),
         (&archive.carry_out, "firrozka_carry_out"),
@@ -87,6 +91,13 @@ fn loaded(function: &AtomicPtr<c_void>) -> *mut c_void {
     let found = function.load(Ordering::Relaxed);
     assert!(!found.is_null(), "no archive was loaded");
     found
+}
+
+/// The version of the archive at this place.
+pub fn version(place: usize) -> u32 {
+    // SAFETY: what has this name in an archive has this type.
+    let version: Version = unsafe { mem::transmute(loaded(&PLACES[place].version)) };
+    version()
 }
 
 /// *Weigh*, as the archive at this place does it.

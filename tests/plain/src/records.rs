@@ -44,7 +44,7 @@ pub fn read_sheet(bytes: &[u8]) -> Result<Sheet, u32> {
     if !(1..=64).contains(&n) {
         return Err(2);
     }
-    if !(1..=99).contains(&t) {
+    if !(1..=999).contains(&t) {
         return Err(3);
     }
     if e > n * n {
@@ -72,7 +72,7 @@ pub fn read_sheet(bytes: &[u8]) -> Result<Sheet, u32> {
 }
 
 fn limit(p: u32, n: u32, t: u32) -> u32 {
-    let loose = u64::from(p) * u64::from(100 + t) / u64::from(100 * n);
+    let loose = u64::from(p) * u64::from(1000 + t) / u64::from(1000 * n);
     let even = (p + n - 1) / n;
     even.max(loose as u32)
 }
@@ -88,7 +88,7 @@ pub fn read_plan(bytes: &[u8]) -> Result<Plan, u32> {
     if kind > 2 || (kind != 0 && n == 1) {
         return Err(13);
     }
-    if limit > 1_990_000_000 {
+    if limit > 1_999_000_000 {
         return Err(14);
     }
     let nodes = n as usize;

@@ -6,7 +6,7 @@ use crate::random::Random;
 
 /// Small values at which some check changes its mind.
 const SMALL: [u32; 15] = [
-    0, 1, 2, 3, 62, 63, 64, 65, 98, 99, 100, 4_095, 4_096, 262_143, 262_144,
+    0, 1, 2, 3, 62, 63, 64, 65, 998, 999, 1_000, 4_095, 4_096, 262_143, 262_144,
 ];
 
 /// Large ones, and those at which narrow sums wrap or turn negative.

@@ -30,7 +30,7 @@ pub fn build(random: &mut Random) -> Record {
     let n = nodes(random);
     let (low, high) = (*TOLERANCE.start(), *TOLERANCE.end());
     let any = random.between(low, high);
-    let t = random.one_of(&[low, high, 10, any]);
+    let t = random.one_of(&[low, high, 35, any]);
     let e = how_many(n * n, random);
     let places = distinct(e, n * n, random);
     let cells: Vec<u32> = places.iter().map(|k| cell(k / n, k % n)).collect();

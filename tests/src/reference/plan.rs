@@ -29,7 +29,7 @@ pub fn read(bytes: &[u8]) -> Result<Plan, u32> {
     if kind > 2 || (kind != 0 && n == 1) {
         return Err(13);
     }
-    // "14, limit above 1,990,000,000"
+    // "14 allows up to 1,999,000,000"
     if limit > MOST_LIMIT {
         return Err(14);
     }

@@ -94,10 +94,11 @@ impl Sheet {
     }
 }
 
-/// L: "the larger of P/N rounded up and P × (100+t) / (100 × N) rounded down".
+/// L: "the larger of P/N rounded up and" the second part, which "is P × (1000+t) /
+/// (1000 × N) rounded down".
 pub fn limit(p: u64, n: u64, t: u64) -> u64 {
     let even = (p + n - 1) / n;
-    let tolerated = p * (100 + t) / (100 * n);
+    let tolerated = p * (1000 + t) / (1000 * n);
     even.max(tolerated)
 }
 

@@ -4,6 +4,7 @@
 //! both are linked in each place that functions may have in a line, and a run
 //! is the average over these places.
 
+use super::jobs::Job;
 use super::table::Row;
 use super::timing::in_turn;
 use crate::implementations::{Implementation, REFERENCE};
@@ -91,20 +92,35 @@ fn link(archive: &Path, moved: usize, object: &Path) -> io::Result<()> {
 
 /// Lower quartiles for one call of both archives, as they are loaded.
 fn in_this_place(row: &Row, samples: usize) -> [f64; 2] {
+    let quartiles = with_jobs(row, |[earlier, later]| {
+        in_turn(
+            later,
+            samples,
+            [
+                &mut |buffers| earlier.run(&EARLIER, buffers),
+                &mut |buffers| later.run(&LATER, buffers),
+            ],
+        )
+    });
+    quartiles.map(|[lower, ..]| lower)
+}
+
+/// Does something with the calls of a row for each archive, which are the same
+/// if both count the tolerance in the same unit.
+fn with_jobs<T>(row: &Row, act: impl FnOnce([&Job; 2]) -> T) -> T {
     let job = row.job(64);
-    let [earlier, later] = in_turn(
-        &job,
-        samples,
-        [&mut |buffers| job.run(&EARLIER, buffers), &mut |buffers| {
-            job.run(&LATER, buffers)
-        }],
-    );
-    [earlier[0], later[0]]
+    let in_percent = job.in_percent();
+    act([0, 1].map(|place| match loaded::version(place) {
+        100 => &in_percent,
+        _ => &job,
+    }))
 }
 
 /// Whether both archives write the same bytes in all calls of a row.
 pub fn agree(row: &Row) -> bool {
-    row.job(64).agrees(&EARLIER, &LATER)
+    with_jobs(row, |[earlier, later]| {
+        earlier.written(&EARLIER) == later.written(&LATER)
+    })
 }
 
 /// The median of some numbers.

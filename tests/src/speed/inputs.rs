@@ -8,8 +8,8 @@ use crate::records::to_words;
 use crate::reference::table::Table;
 use crate::steps::{totals, Step};
 
-/// The tolerance of all sheets, in percent.
-const TOLERANCE: u32 = 10;
+/// The tolerance of all sheets, in tenths of a percent.
+const TOLERANCE: u32 = 100;
 
 /// How many particles a node has on average.
 const AVERAGE: u64 = 100_000;

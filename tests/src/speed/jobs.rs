@@ -4,6 +4,8 @@
 use super::inputs::{step, Filling, Outcome};
 use crate::implementations::{Implementation, MOVES_BYTES, PLAN_BYTES, REFERENCE, SHEET_BYTES};
 use crate::random::Random;
+use crate::records::{to_bytes, to_words};
+use std::ops::Range;
 use std::sync::atomic::{compiler_fence, Ordering};
 
 /// What is measured.
@@ -31,7 +33,9 @@ impl Measured {
     }
 }
 
-/// One call: two records to read, and the lengths of what is written.
+/// One call: two records to read, the sheet first, and the lengths of what is
+/// written.
+#[derive(Clone)]
 struct Call {
     records: [Vec<u8>; 2],
     written: [usize; 2],
@@ -40,7 +44,11 @@ struct Call {
 /// Two buffers that are long enough for everything.
 pub type Buffers = [Vec<u8>; 2];
 
+/// Where a sheet's tolerance lies.
+const TOLERANCE: Range<usize> = 4..8;
+
 /// Some calls of one operation.
+#[derive(Clone)]
 pub struct Job {
     measured: Measured,
     calls: Vec<Call>,
@@ -72,6 +80,18 @@ impl Job {
             calls: (0..calls).map(call).collect(),
         };
         job.settle();
+        job
+    }
+
+    /// The same calls for an archive of version 1.0, which counts the tolerance in
+    /// percents: its sheets have a tenth of it.
+    pub fn in_percent(&self) -> Job {
+        let mut job = self.clone();
+        for call in &mut job.calls {
+            let t = &mut call.records[0][TOLERANCE];
+            let tenth = to_words(t)[0] / 10;
+            t.copy_from_slice(&to_bytes(&[tenth]));
+        }
         job
     }
 
@@ -113,19 +133,26 @@ impl Job {
         }
     }
 
-    /// Compares lengths and buffers of two, call by call.
+    /// Compares what two write, call by call.
     pub fn check(&self, by: &Implementation, other: &Implementation) {
-        let agree = self.agrees(by, other);
+        let agree = self.written(by) == self.written(other);
         assert!(agree, "{} and {} differ", by.name, other.name);
     }
 
-    /// Whether two write the same, in all calls.
-    pub fn agrees(&self, by: &Implementation, other: &Implementation) -> bool {
-        self.calls.iter().all(|call| {
-            let (mut ours, mut theirs) = (Job::buffers(), Job::buffers());
-            let answer = one(self.measured, by, call, &mut ours);
-            answer == one(self.measured, other, call, &mut theirs) && ours == theirs
-        })
+    /// What somebody writes in each call: lengths and buffers. In place of a
+    /// sheet's tolerance, which may be counted in another unit elsewhere, stands
+    /// whether it is that of the sheet before.
+    pub fn written(&self, by: &Implementation) -> Vec<([usize; 2], Buffers)> {
+        let write = |call: &Call| {
+            let mut buffers = Job::buffers();
+            let lengths = one(self.measured, by, call, &mut buffers);
+            if self.measured == Measured::CarryOut {
+                let same = buffers[0][TOLERANCE] == call.records[0][TOLERANCE];
+                buffers[0][TOLERANCE].fill(same.into());
+            }
+            (lengths, buffers)
+        };
+        self.calls.iter().map(write).collect()
     }
 }
 

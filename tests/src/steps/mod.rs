@@ -83,7 +83,7 @@ pub fn largest() -> Step {
     let crowded = |cell: &u32| if cell % 64 == 7 { 12 } else { 10 };
     let counts: Vec<u32> = cells.iter().map(crowded).collect();
     Step {
-        sheet: sheets::sheet(64, 10, &cells, &counts).bytes(),
+        sheet: sheets::sheet(64, 100, &cells, &counts).bytes(),
         old: plans::plan(2, 36, &plans::chain(64), &[0; 64]).bytes(),
     }
 }

@@ -25,7 +25,7 @@ impl Setting {
         };
         let (low, high) = (*TOLERANCE.start(), *TOLERANCE.end());
         let any = random.between(low, high);
-        let t = random.one_of(&[low, low, high, 10, any]);
+        let t = random.one_of(&[low, low, high, 35, any]);
         let p = particles(u64::from(n), random);
         let n = n as usize;
         Setting { n, t, p }
@@ -41,11 +41,11 @@ impl Setting {
         }
     }
 
-    /// A setting in which L is P/N rounded up: t is 1 and P/N at most 99. Often
-    /// it is so small that some nodes have nothing and need all.
+    /// A setting in which L is P/N rounded up: t is 1 and P/N at most 999.
+    /// Often it is so small that some nodes have nothing and need all.
     pub fn tight(size: Size, random: &mut Random) -> Setting {
         let setting = Setting::of_many(size, random);
-        let each = random.one_of(&[3, 99]);
+        let each = random.one_of(&[3, 999]);
         let p = random.amount(0, each * setting.n as u64);
         Setting { t: 1, p, ..setting }
     }

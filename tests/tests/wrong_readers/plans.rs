@@ -66,9 +66,10 @@ fn sizes() {
         "kind 3 accepted", 13, |p| p.sizes[1] > 3 || tree_of_one(p);
         "the kind's low byte", 13, |p| p.sizes[1] % 256 > 2 || tree_of_one(p);
         "a tree of one node accepted", 13, |p| p.sizes[1] > 2;
-        "the largest limit refused", 14, |p| p.sizes[2] >= 1_990_000_000;
-        "a larger limit accepted", 14, |p| p.sizes[2] > 1_990_000_001;
-        "a signed limit", 14, |p| p.sizes[2] as i32 > 1_990_000_000;
+        "the largest limit refused", 14, |p| p.sizes[2] >= 1_999_000_000;
+        "a larger limit accepted", 14, |p| p.sizes[2] > 1_999_000_001;
+        "only a limit of whole percents accepted", 14, |p| p.sizes[2] > 1_990_000_000;
+        "a signed limit", 14, |p| p.sizes[2] as i32 > 1_999_000_000;
         "longer plans accepted", 15, |p| p.length < 4 * (3 + 2 * p.sizes[0]);
         "bytes behind the last word accepted", 15, |p| p.length / 4 != 3 + 2 * p.sizes[0];
     });

@@ -62,14 +62,26 @@ fn sizes() {
         "N 0 accepted", 2, |s| s.n_outside(0, 64);
         "N 64 refused", 2, |s| s.n_outside(1, 63);
         "N 65 accepted", 2, |s| s.n_outside(1, 65);
-        "t 0 accepted", 3, |s| s.sizes[1] > 99;
-        "t 99 refused", 3, |s| !(1..99).contains(&s.sizes[1]);
-        "t 100 accepted", 3, |s| !(1..=100).contains(&s.sizes[1]);
+        "t 0 accepted", 3, |s| s.sizes[1] > 999;
+        "t 999 refused", 3, |s| !(1..999).contains(&s.sizes[1]);
+        "t 1,000 accepted", 3, |s| !(1..=1_000).contains(&s.sizes[1]);
+        "t 100 refused", 3, |s| !(1..100).contains(&s.sizes[1]);
         "E at N × N refused", 4, |s| s.sizes[2] >= s.sizes[0].pow(2);
         "E up to 4,096 accepted", 4, |s| s.sizes[2] > 4_096;
         "longer sheets accepted", 5, |s| s.length < 4 * (3 + 2 * s.sizes[2]);
         "bytes behind the last word accepted", 5, |s| s.length / 4 != 3 + 2 * s.sizes[2];
     });
+}
+
+#[test]
+fn limit() {
+    fn in_percent(bytes: &[u8]) -> SheetAnswer {
+        let answer = read_sheet(bytes);
+        let [p, n, t] = [answer.p, answer.n, answer.t].map(u64::from);
+        let limit = reference::limit(p, n.max(1), 10 * t) as u32;
+        SheetAnswer { limit, ..answer }
+    }
+    reported(&[("t taken as percents", in_percent)]);
 }
 
 #[test]
