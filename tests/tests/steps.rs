@@ -68,7 +68,7 @@ fn step_c() {
 }
 
 /// "D: 90, 6, 4: sheet words 3 10 3 0 65 130 90 6 4; plan words 3 2 36 0 0 0 0
-/// 27 29; moves words 3 2 1 2 27 29."
+/// 27 29; moves words 3 2 1 2 27 29." With ten times its t.
 #[test]
 fn step_d() {
     let step = worked::d();

@@ -74,15 +74,15 @@ holds, or that no tree is needed.
     },
     Verb {
         name: "table",
-        form: "-n N -t T [--empty] [-o SHEET] [TABLE]",
+        form: "-n N -t PERCENT [--empty] [-o SHEET] [TABLE]",
         does: "makes a sheet from a table of counts",
         more: "\
 TABLE has a line for each count, holder,subdomain,count, in any order. The first
 line may be these three names. A count of 0 is left out of the sheet.
-  -n N       the number of nodes, 1 to 64
-  -t T       the tolerance in percent, 0.1 to 99.9: 10 or 3.5
-  --empty    a table without a count is meant, and makes a sheet without particles
-  -o SHEET   the file for the sheet
+  -n N        the number of nodes, 1 to 64
+  -t PERCENT  the tolerance in percent, 0.1 to 99.9, such as 10 or 3.5
+  --empty     a table without a count is meant, and makes a sheet without particles
+  -o SHEET    the file for the sheet
 ",
         options: &["-n", "-t", "--empty", "-o"],
         files: &["[TABLE]"],
@@ -147,7 +147,7 @@ fn named(name: &str, all: &str) -> Result<Record, String> {
 /// N and t, if a sheet can have them.
 fn sizes(given: &mut Given) -> Result<Sizes, String> {
     let n = given.value("-n", "N", Piece::number)?;
-    let t = given.value("-t", "T", of_percent)?;
+    let t = given.value("-t", "PERCENT", of_percent)?;
     let accepted = Record::Sheet.of_words(&[n, t, 0]);
     accepted.map_err(|refused| format!("-n {n}: {refused}"))?;
     let empty = given.has("--empty");

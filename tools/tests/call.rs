@@ -63,7 +63,7 @@ fn a_wrong_call_is_told_what_is_wrong_and_then_the_usage() {
         (&["carry", "a"], "carry: -o NEXT is missing"),
         (&["carry", "a", "-o", "c"], "carry: MOVES is missing"),
         (&["table", "-t", "10"], "table: -n N is missing"),
-        (&["table", "-n", "3"], "table: -t T is missing"),
+        (&["table", "-n", "3"], "table: -t PERCENT is missing"),
         (
             &["table", "-n", "3", "-t"],
             "table: nothing stands behind -t",
