@@ -1,5 +1,5 @@
-//! The bounds of document 01 and of request 2026-01, each written down once. tests/bounds.rs has the
-//! numbers a second time, so a slip here does not pass.
+//! The bounds of document 01 and of request 2026-01, each written down once.
+//! tests/bounds.rs has the numbers a second time, so a slip here does not pass.
 
 use std::ops::RangeInclusive;
 

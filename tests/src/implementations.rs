@@ -5,7 +5,7 @@ use crate::answers::{
     MovesAnswer, PartAnswer, PlanAnswer, SheetAnswer, StepAnswer, WeighedAnswer, WrittenAnswer,
 };
 use crate::bounds::NODES;
-use crate::records::to_words;
+use crate::records::{to_bytes, to_words};
 use crate::steps::Step;
 use crate::{boundary, plain, reference};
 
@@ -66,6 +66,26 @@ pub const PLAIN: Implementation = Implementation {
     carry_out: plain::carry_out,
     ..REFERENCE
 };
+
+/// The second implementation with t in whole percents, as version 1.0 had it.
+pub const IN_PERCENT: Implementation = Implementation {
+    name: "t in percents",
+    weigh: |sheet, plan, least| reference::weigh(&from_percent(sheet), plan, least),
+    plan_step: |sheet, old, plan, moves| {
+        reference::plan_step(&from_percent(sheet), old, plan, moves)
+    },
+    ..REFERENCE
+};
+
+/// A sheet of version 1.0 as it is today: with ten times its t. A t that 1.0
+/// refused stays.
+fn from_percent(sheet: &[u8]) -> Vec<u8> {
+    let mut today = sheet.to_vec();
+    if let Some(&[t @ 1..=99, 0, 0, 0]) = sheet.get(4..8) {
+        today[4..8].copy_from_slice(&to_bytes(&[10 * u32::from(t)]));
+    }
+    today
+}
 
 /// All who are tested.
 pub const IMPLEMENTATIONS: [&Implementation; 2] = [&REFERENCE, &ARCHIVE];

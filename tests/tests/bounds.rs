@@ -1,6 +1,7 @@
-//! Every bound of document 01 and of request 2026-01: the value at it is accepted, the value one past
-//! it is refused with the number that the paper gives. The numbers here are
-//! written down from the papers and shared with no other file.
+//! Every bound of document 01 and of request 2026-01: the value at it is
+//! accepted, the value one past it is refused with the number that the paper
+//! gives. The numbers here are written down from the papers and shared with no
+//! other file.
 #![forbid(unsafe_code)]
 
 use firrozka_tests::boundary;

@@ -6,7 +6,7 @@ use firrozka_tests::answers::{self, Answer, PartAnswer, StepAnswer, WeighedAnswe
 use firrozka_tests::calls::{CARRY_OUT, OPERATIONS, PLAN_STEP, TREE_IN_FORCE, WEIGH};
 use firrozka_tests::demands::judge;
 use firrozka_tests::implementations::{
-    Implementation, PlanStep, MOVES_BYTES, PLAN_BYTES, REFERENCE,
+    Implementation, PlanStep, IN_PERCENT, MOVES_BYTES, PLAN_BYTES, REFERENCE,
 };
 use firrozka_tests::records::{to_bytes, to_words};
 use firrozka_tests::reference::moves::{self, parts};
@@ -117,24 +117,12 @@ fn rounds_the_limit_down() {
     is_judged(&planner);
 }
 
-/// The sheet that is meant where t counts whole percents, as before request
-/// 2026-01.
-fn in_percent(sheet: &[u8]) -> Vec<u8> {
-    let mut meant = sheet.to_vec();
-    if let Some(&[t @ 1..=99, 0, 0, 0]) = sheet.get(4..8) {
-        meant[4..8].copy_from_slice(&to_bytes(&[10 * u32::from(t)]));
-    }
-    meant
-}
-
+/// As before request 2026-01: planning and weighing.
 #[test]
-fn plans_in_percent() {
-    fn wrong(sheet: &[u8], old: &[u8], plan: &mut [u8], moves: &mut [u8]) -> StepAnswer {
-        plan_step(&in_percent(sheet), old, plan, moves)
-    }
-    let planner = wrong_planner("takes t as percents", wrong);
-    PLAN_STEP.must_report(&planner);
-    is_judged(&planner);
+fn takes_t_as_percents() {
+    PLAN_STEP.must_report(&IN_PERCENT);
+    WEIGH.must_report(&IN_PERCENT);
+    is_judged(&IN_PERCENT);
 }
 
 #[test]
@@ -300,7 +288,6 @@ fn weighs_wrong() {
         ("weighs by the plan's limit", by_plan_limit as _),
         ("writes only what holds", only_if_it_holds as _),
         ("24 before 21", kind_first as _),
-        ("takes t as percents", weighs_in_percent as _),
     ] {
         let wrong = Implementation {
             name,
@@ -339,10 +326,6 @@ fn kind_first(sheet: &[u8], plan: &[u8], least: &mut [u8]) -> WeighedAnswer {
         (21, Ok(plan)) if plan.kind == 0 => Answer::refused(24),
         _ => answer,
     }
-}
-
-fn weighs_in_percent(sheet: &[u8], plan: &[u8], least: &mut [u8]) -> WeighedAnswer {
-    weigh(&in_percent(sheet), plan, least)
 }
 
 #[test]
