@@ -120,7 +120,9 @@ fn all_have_the_version() {
     has(fortran, "firrozka_module_version =", "\n", number.clone());
     has("bindings/python/firrozka.py", "\nVERSION =", "\n", number);
     let (major, minor) = (VERSION / 100, VERSION % 100);
-    has("CHANGELOG.md", "\n## ", "\n", format!("{major}.{minor}"));
+    let name = format!("{major}.{minor}");
+    has("README.md", "\nThis is version ", ":", name.clone());
+    has("CHANGELOG.md", "\n## ", "\n", name);
     let cargo = format!("\"{major}.{minor}.0\"");
     for name in ["bindings/rust/Cargo.toml", "tools/Cargo.toml"] {
         has(name, "\nversion =", "\n", cargo.clone());

@@ -1,10 +1,9 @@
--- The ranges of document 01's numbers, each in one definition, and the limit.
+-- The ranges of the papers' numbers, each in one definition, and the limit.
 use Prim.Native.Nat.{ℕ, _+_, _-_, _*_, _/_, max}
 use mathlib.Core.Bool.{Bool, _&&_}
 use lib.Dec.{leb}
 
--- "N is 1 to 64", "and the total P is at most 1,000,000,000." Request 2026-01: "From now on t in the sheet counts tenths of a percent, 1 to
--- 999".
+-- "N is 1 to 64"
 abbrev pub maxNodes : ℕ
 maxNodes = 64
 
@@ -16,13 +15,15 @@ oneTo most x = leb 1 x && leb x most
 abbrev pub tableSize : ℕ
 tableSize = 4096
 
+-- Request 2026-01: "From now on t in the sheet counts tenths of a percent, 1 to 999"
 abbrev pub maxTolerance : ℕ
 maxTolerance = 999
 
--- t counts parts of this many: tenths of a percent
+-- t counts parts of this many
 abbrev pub toleranceScale : ℕ
 toleranceScale = 1000
 
+-- "the total P is at most 1,000,000,000."
 abbrev pub maxTotal : ℕ
 maxTotal = 1000000000
 
