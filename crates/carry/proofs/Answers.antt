@@ -5,6 +5,7 @@ use Prim.Native.Nat.{ℕ}
 use native.Mathlib.Omega.{arith}
 use borrow.Author.Tests.{le-leb, lt-leb, ne-eqb}
 use lib.Dec.{eqb, leb}
+use Rattle.words.specs.declared.WrittenAnswer.{WrittenAnswer}
 use Rattle.sheet.specs.declared.SheetRefusal.{SheetRefusal}
 use Rattle.sheet.specs.Sheet.{refusalNumber as sheetNumber}
 use Rattle.sheet.proofs.Answers.{refusalOf as sheetRefusal, numbered as sheet-numbered}
@@ -15,7 +16,6 @@ use Rattle.carry.specs.declared.CarryRefusal.{CarryRefusal}
 use Rattle.carry.specs.declared.CarryRefusal.the-variants.{Sheet, Moves, NodesDiffer, Sends, Buffer}
 use Rattle.carry.specs.declared.Carrying.{Carrying}
 use Rattle.carry.specs.declared.Carrying.the-variants.{Carried, Refused}
-use Rattle.carry.specs.declared.CarryAnswer.{CarryAnswer}
 use Rattle.carry.specs.Carry.{answerOf}
 
 -- the refusal of a number
@@ -25,7 +25,7 @@ refusalOf k =
     (cond (leb k 36) (Moves (movesRefusal k)) (cond (eqb k 41) NodesDiffer (cond (eqb k 42) Sends Buffer)))
 
 -- the carrying out of an answer
-abbrev carryingOf : CarryAnswer → Carrying
+abbrev carryingOf : WrittenAnswer → Carrying
 carryingOf a = cond (eqb (a .refusal) 0) (Carried (a .bytes)) (Refused (refusalOf (a .refusal)))
 
 back : (c : Carrying) → carryingOf (answerOf c) ≡ c

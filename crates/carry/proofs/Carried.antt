@@ -6,14 +6,18 @@ use mathlib.Core.Bool.{true, false}
 use mathlib.Core.List.{List}
 use Prim.Native.Nat.{ℕ, _≤_}
 use native.Mathlib.Omega.{arith}
-use borrow.Author.Tests.{lt-ltb, le-ltb, eq-eqb, ne-eqb}
+use borrow.Author.Tests.{eq-eqb, ne-eqb}
+use lib.Dec.{ltb}
 use lib.ListN.{length}
 use Rattle.fold.specs.Sum.{sum}
 use Rattle.limit.specs.Limit.{maxTotal, tableSize}
 use Rattle.arrays.specs.Arrays.{at}
-use Rattle.words.specs.Buffer.{placed, written, writing}
+use Rattle.words.specs.Checks.{refuseIf}
+use Rattle.words.specs.Buffer.{written, writing}
+use Rattle.words.specs.Answer.{refused, accepted}
+use Rattle.words.specs.declared.WrittenAnswer.{WrittenAnswer}
 use Rattle.words.specs.declared.Written.the-variants.{Bytes, Short}
-use Rattle.words.proofs.Buffer.{writing-bytes, writing-short}
+use Rattle.words.proofs.Writing.{Ends, ends-refused, ends-written, ends-short}
 use Rattle.sheet.specs.declared.Sheet.{Sheet}
 use Rattle.sheet.specs.declared.SheetAnswer.{SheetAnswer}
 use Rattle.sheet.specs.Sheet.{readSheet, accepted as sheetAccepted}
@@ -25,8 +29,7 @@ use Rattle.moves.specs.declared.Moves.{Moves}
 use Rattle.moves.specs.Moves.{readMoves, routesOf, countsOf, accepted as movesAccepted}
 use Rattle.moves.proofs.Accepted.{Accepted as AcceptedMoves, reading-accepted as moves-reading, route-at}
 use Rattle.transfer.specs.Apply.{sendsWithin, carried}
-use Rattle.carry.specs.declared.CarryAnswer.{CarryAnswer}
-use Rattle.carry.specs.Carry.{refused, accepted, withinIn, nextTable, nextSheet, carryAnswer, nextAfter}
+use Rattle.carry.specs.Carry.{withinIn, nextTable, nextSheet, carryAnswer}
 use Rattle.carry.specs.Inner.{CarryRead}
 use Rattle.transfer.specs.Inner.{Ready}
 
@@ -63,29 +66,29 @@ module _ {s m : List ℕ} {h : Sheet} {q : Moves} (r : CarryRead s m h q) where
 -- ---- the ways out
 
 module _ (s m out : List ℕ) where
-  -- the answer, and the buffer as it is then
-  abbrev pub Ends : CarryAnswer → List ℕ → Type 0
-  Ends a out₁ = (a ≡ carryAnswer s m (length out)) × (out₁ ≡ nextAfter s m out)
+  -- what was answered, and the buffer as it is then
+  abbrev pub CarryEnds : WrittenAnswer → List ℕ → Type 0
+  CarryEnds a out₁ = Ends (carryAnswer s m (length out)) (nextSheet s m) out a out₁
 
-  refuses : (k : ℕ) → k ≢ 0 → refused k ≡ carryAnswer s m (length out) → Ends (refused k) out
-  refuses k d e = (e, rw (← e, ne-eqb k 0 d))
+  refuses : (k : ℕ) → k ≢ 0 → refused k ≡ carryAnswer s m (length out) → CarryEnds (refused k) out
+  refuses = ends-refused (carryAnswer s m (length out)) (nextSheet s m) out
 
-  pub ends-sheet : (k : ℕ) → k ≡ readSheet s .refusal → k ≢ 0 → Ends (refused k) out
+  pub ends-sheet : (k : ℕ) → k ≡ readSheet s .refusal → k ≢ 0 → CarryEnds (refused k) out
   unfolding carryAnswer
   ends-sheet k e d = refuses k d (rw (← e, ne-eqb k 0 d))
 
-  pub ends-moves : 0 ≡ readSheet s .refusal → (k : ℕ) → k ≡ readMoves m .refusal → k ≢ 0 → Ends (refused k) out
+  pub ends-moves : 0 ≡ readSheet s .refusal → (k : ℕ) → k ≡ readMoves m .refusal → k ≢ 0 → CarryEnds (refused k) out
   unfolding carryAnswer
   ends-moves z k e d = refuses k d (rw (← z, ← e, ne-eqb k 0 d))
 
 -- the sheet and the moves were read
 module _ {s m : List ℕ} {h : Sheet} {q : Moves} (r : CarryRead s m h q) (out : List ℕ) where
-  pub ends-differ : h .n ≢ q .n → Ends s m out (refused 41) out
+  pub ends-differ : h .n ≢ q .n → CarryEnds s m out (refused 41) out
   unfolding carryAnswer
   ends-differ d = refuses s m out 41 (λ z. omega arith) (rw (← r .sheet, ← r .moves, ne-eqb (h .n) (q .n) d))
 
   module _ (same : h .n ≡ q .n) where
-    pub ends-sends : withinIn s m ≡ false → Ends s m out (refused 42) out
+    pub ends-sends : withinIn s m ≡ false → CarryEnds s m out (refused 42) out
     unfolding carryAnswer
     ends-sends f = refuses s m out 42 (λ z. omega arith) (rw f (rw (← r .sheet, ← r .moves, eq-eqb (h .n) (q .n) same)))
 
@@ -98,18 +101,13 @@ module _ {s m : List ℕ} {h : Sheet} {q : Moves} (r : CarryRead s m h q) (out :
       unfolding nextSheet
       next-is = ap (sheetBytes (h .n) (h .t)) is ∙ ap (λ (a : SheetAnswer). sheetBytes (a .n) (a .t) (nextTable s m)) (r .sheet)
 
-      pub ends-carried : (size : ℕ) → Bytes size ≡ writing rec out → Ends s m out (accepted size) (written rec out)
+      last : carryAnswer s m (length out)
+          ≡ refuseIf (ltb (length out) (length (nextSheet s m))) (refused 43) (accepted (length (nextSheet s m)))
       unfolding carryAnswer
-      ends-carried size b =
-          let z = writing-bytes rec out size b in
-          let fits = le-ltb (length out) (length (nextSheet s m)) (rw next-is at (z .1)) in
-          let a : accepted size ≡ carryAnswer s m (length out) =
-          rw (z .0, next-is, w, fits) (rw (← r .sheet, ← r .moves, eq-eqb (h .n) (q .n) same)) in
-          (a, z .2 ∙ ap (λ (x : List ℕ). placed x out) next-is ∙ rw (← a))
+      last = rw w (rw (← r .sheet, ← r .moves, eq-eqb (h .n) (q .n) same))
 
-      pub ends-short : Short ≡ writing rec out → Ends s m out (refused 43) (written rec out)
-      unfolding carryAnswer
-      ends-short b =
-          let z = writing-short rec out b in
-          let short = lt-ltb (length out) (length (nextSheet s m)) (rw next-is at (z .0)) in
-          rw (z .1) (refuses s m out 43 (λ z. omega arith) (rw (w, short) (rw (← r .sheet, ← r .moves, eq-eqb (h .n) (q .n) same))))
+      pub ends-carried : (size : ℕ) → Bytes size ≡ writing rec out → CarryEnds s m out (accepted size) (written rec out)
+      ends-carried = ends-written (carryAnswer s m (length out)) (nextSheet s m) out 43 last next-is
+
+      pub ends-unwritten : Short ≡ writing rec out → CarryEnds s m out (refused 43) (written rec out)
+      ends-unwritten = ends-short (carryAnswer s m (length out)) (nextSheet s m) out 43 last next-is (λ z. omega arith)

@@ -11,21 +11,22 @@ use lib.ListN.{length, take}
 use Rattle.fold.specs.Sum.{sum}
 use Rattle.fold.proofs.Tests.{passed, handed}
 use Rattle.limit.specs.Limit.{limitOf, tableSize}
+use Rattle.words.specs.declared.WrittenAnswer.{WrittenAnswer}
+use Rattle.words.specs.Answer.{refused, accepted}
 use Rattle.words.proofs.Buffer.{after-front}
 use Rattle.arrays.specs.Arrays.{at}
 use Rattle.sheet.specs.declared.SheetAnswer.{SheetAnswer}
 use Rattle.sheet.specs.Sheet.{readSheet, accepted as sheetAccepted}
-use Rattle.sheet.specs.Table.{tableOf, tableIn}
+use Rattle.sheet.specs.Table.{tableIn}
 use Rattle.sheet.specs.Write.{filledCells, longestSheet}
 use Rattle.sheet.proofs.Accepted.{Accepted, sheet-accepted}
-use Rattle.sheet.proofs.Tables.{length-table, table-outside, table-sum}
-use Rattle.sheet.proofs.RoundTrip.{Writable, read-written, table-written}
+use Rattle.sheet.proofs.Tables.{length-table, table-sum}
+use Rattle.sheet.proofs.RoundTrip.{Writable, read-written, table-in-written, sheet-writable}
 use Rattle.moves.specs.Moves.{readMoves}
 use Rattle.moves.proofs.Accepted.{moves-accepted, routes-are, counts-are}
 use Rattle.transfer.proofs.Acceptable.{Acceptable}
 use Rattle.transfer.proofs.Kept.{acceptable-below, sum-kept, writable-kept}
-use Rattle.carry.specs.declared.CarryAnswer.{CarryAnswer}
-use Rattle.carry.specs.Carry.{refused, accepted, routesIn, countsIn, withinIn, nextTable, nextSheet, carryAnswer, nextAfter, SheetReadBack}
+use Rattle.carry.specs.Carry.{routesIn, countsIn, withinIn, nextTable, nextSheet, carryAnswer, nextAfter, SheetReadBack}
 
 -- ---- accepted: every check passed, so each says its part
 
@@ -40,7 +41,7 @@ module _ (s m : List ℕ) (size : ℕ) where
   pub carried-out : carryAnswer s m size .refusal ≡ 0 → Carriable s m × (length (nextSheet s m) ≤ size)
   unfolding carryAnswer
   carried-out q =
-      let f : CarryAnswer → ℕ = λ a. a .refusal in
+      let f : WrittenAnswer → ℕ = λ a. a .refusal in
       let n = readSheet s .n in
       let a₁ = handed f refused (λ k. refl) (readSheet s .refusal) _ q in
       let a₂ = handed f refused (λ k. refl) (readMoves m .refusal) _ (a₁ .1) in
@@ -86,25 +87,13 @@ module _ {s m : List ℕ} (d : Carriable s m) where
         counts-fine = k .counts;
       })
 
-  writable : Writable n₀ t₀ (tableIn s)
-  writable =
-      record {
-        n-low = facts .n-low;
-        n-high = facts .n-high;
-        t-low = facts .t-low;
-        t-high = facts .t-high;
-        size = length-table s (readSheet s .e);
-        outside = table-outside s (readSheet s) facts;
-        within = omega (arith, table-sum s (readSheet s) facts, facts .sum .within);
-      }
-
   next-writable : Writable n₀ t₀ (nextTable s m)
-  next-writable = writable-kept n₀ t₀ (tableIn s) (routesIn m) (countsIn m) writable acceptable (d .within)
+  next-writable = writable-kept n₀ t₀ (tableIn s) (routesIn m) (countsIn m) (sheet-writable s (readSheet s) facts) acceptable (d .within)
 
   -- no particle is lost
   pub next-sum : sum tableSize (at (nextTable s m)) ≡ readSheet s .p
   next-sum =
-      sum-kept (tableIn s) (routesIn m) (countsIn m) (writable .size)
+      sum-kept (tableIn s) (routesIn m) (countsIn m) (length-table s (readSheet s .e))
       (acceptable-below n₀ (facts .n-high) (routesIn m) (countsIn m) acceptable) (d .within)
       ∙ table-sum s (readSheet s) facts
 
@@ -119,9 +108,7 @@ module _ {s m : List ℕ} (d : Carriable s m) where
   next-back =
       record {
         read = next-read;
-        table =
-            ap (λ (a : SheetAnswer). tableOf (nextSheet s m) (a .e)) next-read
-            ∙ unfold nextSheet in table-written n₀ t₀ (nextTable s m) next-writable;
+        table = unfold nextSheet in table-in-written n₀ t₀ (nextTable s m) next-writable;
       }
 
   -- it is no longer than any sheet of N nodes
@@ -137,7 +124,7 @@ pub next-front : (s m out : List ℕ) → carryAnswer s m (length out) .refusal 
     → take (carryAnswer s m (length out) .bytes) (nextAfter s m out) ≡ nextSheet s m
 next-front s m out q =
     let d = carried-out s m (length out) q in
-    let size = ap (λ (a : CarryAnswer). a .bytes) (carries-out s m (length out) (d .0) (d .1)) in
+    let size = ap (λ (a : WrittenAnswer). a .bytes) (carries-out s m (length out) (d .0) (d .1)) in
     rw size (after-front _ (nextSheet s m) out q)
 
 -- THEOREM. After an accepted call the bytes in front of the buffer, of the length given, are read back as what was decided.

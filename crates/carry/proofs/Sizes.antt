@@ -2,33 +2,28 @@
 use mathlib.Core.Logic.{_≢_}
 use mathlib.Core.Bool.{not}
 use mathlib.Core.List.{List}
-use Prim.Native.Nat.{ℕ, _*_, _≤_}
+use Prim.Native.Nat.{ℕ, _≤_}
 use native.Mathlib.Decide.{ℕ-discrete}
 use native.Mathlib.Omega.{arith}
 use borrow.Author.Tests.{ne-eqb, le-ltb}
 use lib.Dec.{eqb}
 use lib.ListN.{length}
 use Rattle.fold.proofs.Tests.{most}
-use Rattle.limit.specs.Limit.{maxNodes}
+use Rattle.words.specs.declared.WrittenAnswer.{WrittenAnswer}
+use Rattle.words.specs.Answer.{refused}
 use Rattle.sheet.specs.Sheet.{readSheet}
-use Rattle.sheet.specs.Write.{sheetBytes}
 use Rattle.sheet.proofs.Accepted.{sheet-accepted}
-use Rattle.sheet.proofs.Filled.{cells-le, length-sheet}
+use Rattle.sheet.proofs.Filled.{length-most}
 use Rattle.sheet.proofs.Refusals.{sheet-most}
 use Rattle.moves.specs.Moves.{readMoves}
 use Rattle.moves.proofs.Refusals.{moves-most}
-use Rattle.carry.specs.declared.CarryAnswer.{CarryAnswer}
-use Rattle.carry.specs.Carry.{refused, withinIn, nextTable, nextSheet, carryAnswer}
-
--- no table of 64 holders has more counts
-pub length-most : (n t : ℕ) (table : List ℕ) → n ≤ maxNodes → length (sheetBytes n t table) ≤ 32780
-length-most n t table h = omega (arith, length-sheet n t table, cells-le table (64 * n))
+use Rattle.carry.specs.Carry.{withinIn, nextTable, nextSheet, carryAnswer}
 
 module _ (s m : List ℕ) (size : ℕ) (long : 32780 ≤ size) where
   answer-most : carryAnswer s m size .refusal ≤ 42
   unfolding carryAnswer nextSheet
   answer-most =
-      let f : CarryAnswer → ℕ = λ a. a .refusal in
+      let f : WrittenAnswer → ℕ = λ a. a .refusal in
       let k = readSheet s .refusal in
       let j = readMoves m .refusal in
       let z : 0 ≤ 42 = omega arith in

@@ -8,6 +8,8 @@ use lib.Dec.{eqb, ltb}
 use lib.ListN.{length}
 use Rattle.words.specs.Checks.{refuseIf, refuseAs}
 use Rattle.words.specs.Buffer.{afterCall}
+use Rattle.words.specs.declared.WrittenAnswer.{WrittenAnswer}
+use Rattle.words.specs.Answer.{refused, accepted}
 use Rattle.sheet.specs.Sheet.{readSheet, refusalNumber as sheetNumber, accepted as sheetAccepted}
 use Rattle.sheet.specs.Table.{tableIn}
 use Rattle.sheet.specs.Write.{filledCells, sheetBytes}
@@ -17,15 +19,8 @@ use Rattle.carry.specs.declared.CarryRefusal.{CarryRefusal}
 use Rattle.carry.specs.declared.CarryRefusal.the-variants.{Sheet as OfSheet, Moves as OfMoves, NodesDiffer, Sends, Buffer}
 use Rattle.carry.specs.declared.Carrying.{Carrying}
 use Rattle.carry.specs.declared.Carrying.the-variants.{Carried, Refused}
-use Rattle.carry.specs.declared.CarryAnswer.{CarryAnswer}
 
 -- ---- answers
-
-abbrev pub refused : ℕ → CarryAnswer
-refused k = record { refusal = k; bytes = 0 }
-
-abbrev pub accepted : ℕ → CarryAnswer
-accepted bytes = record { refusal = 0; bytes = bytes }
 
 -- the paper's number of each refusal: "the sheet's; the moves'; 41, N differ; 42, some cell sends in all more than the old sheet
 -- gives it; 43, buffer too short"
@@ -37,7 +32,7 @@ numberOf Sends = 42
 numberOf Buffer = 43
 
 -- the paper's number and values for each case of the enum
-abbrev pub answerOf : Carrying → CarryAnswer
+abbrev pub answerOf : Carrying → WrittenAnswer
 answerOf (Carried bytes) = accepted bytes
 answerOf (Refused r) = refused (numberOf r)
 
@@ -64,7 +59,7 @@ nextSheet s m = sheetBytes (readSheet s .n) (readSheet s .t) (nextTable s m)
 
 -- ---- the checks, in the order written, with a buffer of so many bytes
 
-unfoldable pub carryAnswer : List ℕ → List ℕ → ℕ → CarryAnswer
+unfoldable pub carryAnswer : List ℕ → List ℕ → ℕ → WrittenAnswer
 carryAnswer s m size =
     refuseAs refused (readSheet s .refusal)
     (refuseAs refused (readMoves m .refusal)

@@ -6,6 +6,7 @@ use sheet::Sheet;
 use sheet::SheetReading;
 use sheet::SheetRefusal;
 use words::Written;
+use words::WrittenAnswer;
 ghost use mathlib.Core.Path.{_≡_};
 ghost use lib.ListN.{length};
 ghost use Rattle.carry.specs.Carry.{carryAnswer, nextAfter, numberOf, answerOf};
@@ -24,13 +25,6 @@ pub enum CarryRefusal {
 pub enum Carrying {
     Carried(u32),
     Refused(CarryRefusal),
-}
-
-// The answer in document 01's numbers: 0 or the refusal's, and the length of the sheet that follows, 0 in a refusal.
-#[repr(C)]
-pub struct CarryAnswer {
-    pub refusal: u32,
-    pub bytes: u32,
 }
 
 // Carries out moves on a sheet, both read.
@@ -80,15 +74,15 @@ fn number(r: CarryRefusal) -> u32
 }
 
 // A carrying out in document 01's numbers.
-pub fn answer(c: Carrying) -> CarryAnswer
+pub fn answer(c: Carrying) -> WrittenAnswer
     ensures { λ r. ⌜ r ≡ answerOf c ⌝ }
 {
     match c {
-        Carrying::Carried(bytes) => CarryAnswer {
+        Carrying::Carried(bytes) => WrittenAnswer {
             refusal: 0,
             bytes: bytes,
         },
-        Carrying::Refused(r) => CarryAnswer {
+        Carrying::Refused(r) => WrittenAnswer {
             refusal: number(r),
             bytes: 0,
         },

@@ -35,7 +35,7 @@ use Rattle.planner.specs.Step.{OldAnswer, oldRead, readOld, oldHelpands, decisi
 use Rattle.planner.proofs.Ways.{old-empty, old-primary, old-tree}
 use Rattle.planner.proofs.Facts.{given, decision}
 use Rattle.planner.proofs.ReadBack.{Plannable, was-read, records-back, carries, done-step, plan-front, moves-front}
-use Rattle.carry.specs.declared.CarryAnswer.{CarryAnswer}
+use Rattle.words.specs.declared.WrittenAnswer.{WrittenAnswer}
 use Rattle.carry.specs.Carry.{nextTable, nextSheet, carryAnswer, nextAfter}
 use Rattle.carry.proofs.ReadBack.{Carriable, carries-out, next-back, next-front}
 use Rattle.claim.specs.Claim.{Overloaded, AcceptedTree, NoTree, Rival, Balanced, Claim}
@@ -221,7 +221,7 @@ exact s o p m x over t f g h =
     let e : stepAnswer s o (length p) (length m) .refusal ≡ 0 = ap (λ (a : StepAnswer). a .refusal) answer in
     let kinds : stepAnswer s o (length p) (length m) .kind ≡ decisionIn s o .kind = ap (λ (a : StepAnswer). a .kind) answer in
     let carried = carries-out s (movesIn s o) (length x) (carriable over y) h in
-    let q : carryAnswer s (movesIn s o) (length x) .refusal ≡ 0 = ap (λ (c : CarryAnswer). c .refusal) carried in
+    let q : carryAnswer s (movesIn s o) (length x) .refusal ≡ 0 = ap (λ (c : WrittenAnswer). c .refusal) carried in
     rw (moves-front s o p m e)
     (record {
       planned = e;

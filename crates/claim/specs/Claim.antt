@@ -19,7 +19,7 @@ use Rattle.tree.specs.Division.{WithinLimit, OnTarget, ownOf}
 use Rattle.rebuild.specs.Target.{targetOf}
 use Rattle.transfer.specs.Due.{dueOf}
 use Rattle.planner.specs.declared.StepAnswer.{StepAnswer}
-use Rattle.carry.specs.declared.CarryAnswer.{CarryAnswer}
+use Rattle.words.specs.declared.WrittenAnswer.{WrittenAnswer}
 
 -- ---- what the demand is about
 
@@ -100,12 +100,12 @@ pub record Balanced (s o plan next : List ℕ) (kind : ℕ) : Type 0 where
   pub amounts : (k n : ℕ) → k < readSheet s .n → n < readSheet s .n → held (tableIn next) k n ≡ due s plan n k
 
 -- the answers a and c of the two operations, with the buffers of the plan and of the sheet that follows as they are then
-pub record Claim (s o : List ℕ) (a : StepAnswer) (c : CarryAnswer) (plan next : List ℕ) : Type 0 where
+pub record Claim (s o : List ℕ) (a : StepAnswer) (c : WrittenAnswer) (plan next : List ℕ) : Type 0 where
   pub planned : a .refusal ≡ 0
   pub carried : c .refusal ≡ 0
   pub balanced : Balanced s o (take (a .plan) plan) (take (c .bytes) next) (a .kind)
 
 -- DEMAND 3. For every accepted sheet with a subdomain above the limit and every accepted tree of as many nodes, or none, and buffers
 -- p, m and x long enough
-abbrev pub Demand3 : List ℕ → List ℕ → List ℕ → List ℕ → List ℕ → StepAnswer → CarryAnswer → List ℕ → List ℕ → Type 0
+abbrev pub Demand3 : List ℕ → List ℕ → List ℕ → List ℕ → List ℕ → StepAnswer → WrittenAnswer → List ℕ → List ℕ → Type 0
 Demand3 s o p m x a c plan next = Overloaded s → AcceptedTree s o ⊎ NoTree s o → LongEnough s p m x → Claim s o a c plan next

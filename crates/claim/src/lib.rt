@@ -1,7 +1,7 @@
 // A step planned and carried out, by the two exported functions one after the other. Its contract is demand 3: nothing stands between
 // what is claimed and what the functions of the archive do.
-use carry::CarryAnswer;
 use planner::StepAnswer;
+use words::WrittenAnswer;
 ghost use mathlib.Core.Path.{_≡_};
 ghost use lib.ListN.{length, take};
 ghost use Rattle.planner.specs.Step.{stepAnswer, planAfter, movesAfter};
@@ -11,7 +11,7 @@ ghost use Rattle.claim.specs.Claim.{Demand3};
 // What the two operations answered.
 pub struct Answers {
     pub step: StepAnswer,
-    pub carry: CarryAnswer,
+    pub carry: WrittenAnswer,
 }
 
 // Plans a step, and carries out the moves just written on the same sheet. A refused step gives length 0 for its moves: no bytes are

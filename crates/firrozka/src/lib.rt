@@ -1,12 +1,12 @@
 // The C boundary: the archive libfirrozka.a, whose functions include/firrozka.h declares. Nothing checks what a foreign caller passes,
 // so no function here requires anything. A slice crosses as a pointer and a length.
-use carry::CarryAnswer;
 use in_force::PartAnswer;
 use moves::MovesAnswer;
 use plan::PlanAnswer;
 use planner::StepAnswer;
 use sheet::SheetAnswer;
 use weigh::WeighAnswer;
+use words::WrittenAnswer;
 ghost use mathlib.Core.Path.{_≡_};
 ghost use lib.ListN.{length};
 ghost use Rattle.sheet.specs.Sheet.{readSheet};
@@ -15,6 +15,7 @@ ghost use Rattle.moves.specs.Moves.{readMoves};
 ghost use Rattle.weigh.specs.Weigh.{weighAnswer, weighBytes};
 ghost use Rattle.planner.specs.Step.{stepAnswer, planAfter, movesAfter};
 ghost use Rattle.carry.specs.Carry.{carryAnswer, nextAfter};
+ghost use Rattle.inlet.specs.Join.{joinAnswer, joinedAfter};
 ghost use Rattle.in_force.specs.InForce.{inForce, partOf};
 ghost use Rattle.firrozka.specs.Version.{version};
 
@@ -23,7 +24,7 @@ ghost use Rattle.firrozka.specs.Version.{version};
 pub extern "C" fn firrozka_version() -> u32
     ensures { λ r. ⌜ r ≡ version ⌝ }
 {
-    101
+    102
 }
 
 // *Read sheet*.
@@ -79,11 +80,20 @@ pub extern "C" fn firrozka_plan_step(
 
 // *Carry out*.
 #[no_mangle]
-pub extern "C" fn firrozka_carry_out(sheet: &[u8], moves: &[u8], next: &mut [u8]) -> CarryAnswer
+pub extern "C" fn firrozka_carry_out(sheet: &[u8], moves: &[u8], next: &mut [u8]) -> WrittenAnswer
     ensures answer { λ r. ⌜ r ≡ carryAnswer (now (sheet .entry)) (now (moves .entry)) (length (now (next .entry))) ⌝ }
     ensures bytes { λ _. ⌜ now (next .exit) ≡ nextAfter (now (sheet .entry)) (now (moves .entry)) (now (next .entry)) ⌝ }
 {
     carry::answer(carry::carry_out(sheet, moves, next))
+}
+
+// *Join sheets*.
+#[no_mangle]
+pub extern "C" fn firrozka_join_sheets(first: &[u8], second: &[u8], out: &mut [u8]) -> WrittenAnswer
+    ensures answer { λ r. ⌜ r ≡ joinAnswer (now (first .entry)) (now (second .entry)) (length (now (out .entry))) ⌝ }
+    ensures bytes { λ _. ⌜ now (out .exit) ≡ joinedAfter (now (first .entry)) (now (second .entry)) (now (out .entry)) ⌝ }
+{
+    inlet::answer(inlet::join_sheets(first, second, out))
 }
 
 // *Tree in force*: the stretch by its place, since no reference can be handed back over the boundary.

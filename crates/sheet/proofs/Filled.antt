@@ -10,6 +10,7 @@ use lib.ListN.{length, getD, length-append, length-map}
 use lib.Seq.{sets}
 use Rattle.fold.specs.Collect.{collect}
 use Rattle.fold.proofs.Lists.{collect-more, collect-grows}
+use Rattle.limit.specs.Limit.{maxNodes}
 use Rattle.words.specs.Words.{bytesOf, encode, putWord}
 use Rattle.words.proofs.Words.{length-encode, encode-snoc}
 use Rattle.words.proofs.Buffer.{put-behind, put-before}
@@ -74,3 +75,7 @@ store-one out table e i c d q h =
 pub length-sheet : (n t : ℕ) (table : List ℕ) → length (sheetBytes n t table) ≡ 4 * (3 + 2 * length (filledCells n table))
 unfolding sheetBytes
 length-sheet n t table = length-encode (sheetWords n t table) ∙ simp (length-append, length-map) (omega arith)
+
+-- no sheet of 64 nodes is longer than 32,780 bytes
+pub length-most : (n t : ℕ) (table : List ℕ) → n ≤ maxNodes → length (sheetBytes n t table) ≤ 32780
+length-most n t table h = omega (arith, length-sheet n t table, cells-le table (64 * n))

@@ -26,11 +26,11 @@ use Rattle.words.proofs.Records.{Back, below-three, take-three, record-back, re
 use Rattle.sheet.specs.declared.CountSum.the-variants.{Sum}
 use Rattle.sheet.specs.declared.SheetAnswer.{SheetAnswer}
 use Rattle.sheet.specs.Sheet.{accepted, cellsOf, countsOf, cellFine, runningSum, readHeader, readSheet}
-use Rattle.sheet.specs.Table.{countAt, tableOf}
+use Rattle.sheet.specs.Table.{countAt, tableOf, tableIn}
 use Rattle.sheet.specs.Write.{filled, filledCells, filledCounts, sheetWords, sheetBytes}
 use Rattle.sheet.proofs.Laws.{cell-below, cell-subdomain, sum-of}
 use Rattle.sheet.proofs.Accepted.{Accepted, sheet-accepted, words-are, cells-are, counts-are}
-use Rattle.sheet.proofs.Tables.{count-here, count-other, count-below, count-absent, length-table, table-at}
+use Rattle.sheet.proofs.Tables.{count-here, count-other, count-below, count-absent, length-table, table-at, table-outside, table-within}
 use Rattle.sheet.proofs.Filled.{filled-none, filled-one, cells-le, length-sheet}
 
 -- ---- the filled cells from low on, from the front
@@ -268,6 +268,9 @@ module _ (n t : ℕ) (table : List ℕ) (w : Writable n t table) where
       (λ c h. table-at s (accepted n t e p (limitOf p n t)) k c ∙ ap₂ (λ (xs ks : List ℕ). countAt xs ks c) cells-written counts-written
       ∙ cells-count c)
 
+  pub table-in-written : tableIn (sheetBytes n t table) ≡ table
+  table-in-written = ap (λ (a : SheetAnswer). tableOf (sheetBytes n t table) (a .e)) read-written ∙ table-written
+
 -- ---- an accepted sheet's table, written again
 
 module _ (table : List ℕ) (ok : ℕ → Bool) where
@@ -312,7 +315,21 @@ module _ (table : List ℕ) (ok : ℕ → Bool) where
       (again-counts (x + 1) xs ks (q .rest) (omega arith) (holds-rest low x k xs ks (q .above) a))
 
 module _ (s : List ℕ) (a : SheetAnswer) (k : Accepted s a) where
-  cells-again : filledCells (a .n) (tableOf s (a .e)) ≡ cellsOf s (a .e)
+  -- it can be written
+  pub sheet-writable : Writable (a .n) (a .t) (tableOf s (a .e))
+  sheet-writable =
+      record {
+        n-low = k .n-low;
+        n-high = k .n-high;
+        t-low = k .t-low;
+        t-high = k .t-high;
+        size = length-table s (a .e);
+        outside = table-outside s a k;
+        within = table-within s a k;
+      }
+
+  -- its filled cells are those that the sheet names
+  pub cells-again : filledCells (a .n) (tableOf s (a .e)) ≡ cellsOf s (a .e)
   cells-again =
       from-all (a .n) (tableOf s (a .e))
       ∙ again-cells (tableOf s (a .e)) (cellFine (a .n)) 0 (64 * a .n) (cellsOf s (a .e)) (countsOf s (a .e)) (k .cells)

@@ -134,11 +134,11 @@ module _ (n : ℕ) (nodes : n ≤ 64) where
 
 -- ---- the table of a sheet
 
-length-zeros : length zeros ≡ tableSize
+pub length-zeros : length zeros ≡ tableSize
 unfolding zeros
 length-zeros = refl
 
-no-count : (c : ℕ) → getD zeros c 0 ≡ 0
+pub no-count : (c : ℕ) → getD zeros c 0 ≡ 0
 unfolding zeros
 no-count c = zeros-at tableSize c
 

@@ -14,6 +14,14 @@ pub enum Written {
     Short,
 }
 
+// The answer in the papers' numbers of an operation that writes one record: 0 or the refusal's, and the record's length in bytes, 0 in a
+// refusal.
+#[repr(C)]
+pub struct WrittenAnswer {
+    pub refusal: u32,
+    pub bytes: u32,
+}
+
 // The word of four bytes, the lowest first.
 fn join(a: u8, b: u8, c: u8, d: u8) -> u32
     ensures { λ r. ⌜ r ≡ word a b c d ⌝ }

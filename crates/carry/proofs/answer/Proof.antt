@@ -1,7 +1,8 @@
 -- `carry::answer` meets its contract, case by case. Assumes nothing.
 use borrow.Author.Needs.{needs}
 use mathlib.Core.Path.{sym, ap, _∙_}
-use Rattle.carry.specs.Carry.{refused, answerOf}
+use Rattle.words.specs.Answer.{refused}
+use Rattle.carry.specs.Carry.{answerOf}
 use Rattle.carry.proofs.answer.Statement.{statement}
 use Rattle.carry.proofs.answer.Tie as tie
 

@@ -13,10 +13,10 @@ use Rattle.sheet.specs.declared.Sheet.{Sheet}
 use Rattle.sheet.specs.Sheet.{accepted}
 use Rattle.sheet.specs.Write.{sheetBytes}
 use Rattle.sheet.proofs.Accepted.{Accepted, sheet-unpackable}
+use Rattle.sheet.proofs.Filled.{length-most}
 use Rattle.moves.specs.declared.Moves.{Moves}
 use Rattle.carry.specs.Carry.{withinIn, nextTable}
-use Rattle.carry.proofs.Carried.{sheet-facts, ready, within-is, carried-is, ends-differ, ends-sends, ends-carried, ends-short}
-use Rattle.carry.proofs.Sizes.{length-most}
+use Rattle.carry.proofs.Carried.{sheet-facts, ready, within-is, carried-is, ends-differ, ends-sends, ends-carried, ends-unwritten}
 use Rattle.carry.proofs.carry_read.Statement.{statement}
 use Rattle.carry.proofs.carry_read.Tie as tie
 
@@ -110,7 +110,7 @@ returns-4 c =
     let w = answered (c .before .before) in
     let p = passed w in
     let b = b₀ p in
-    let x = ends-short (start b .pre) (next b) (same (applied p) .if1 .left) (within p) (table-is p)
+    let x = ends-unwritten (start b .pre) (next b) (same (applied p) .if1 .left) (within p) (table-is p)
     (sym (c .enum-told .given .1) ∙ w .write-sheet .ensures .0) in
     (x .0, w .write-sheet .ensures .1 ∙ x .1)
 

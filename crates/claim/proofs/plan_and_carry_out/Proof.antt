@@ -10,7 +10,7 @@ use denote.Ref.{now}
 use Rattle.planner.specs.declared.StepAnswer.{StepAnswer}
 use Rattle.planner.specs.Step.{stepAnswer, planAfter, movesAfter}
 use Rattle.planner.proofs.Sizes.{moves-inside}
-use Rattle.carry.specs.declared.CarryAnswer.{CarryAnswer}
+use Rattle.words.specs.declared.WrittenAnswer.{WrittenAnswer}
 use Rattle.carry.specs.Carry.{carryAnswer, nextAfter}
 use Rattle.claim.specs.Claim.{Demand3}
 use Rattle.claim.proofs.Demand.{demand}
@@ -18,7 +18,7 @@ use Rattle.claim.proofs.plan_and_carry_out.Statement.{statement}
 use Rattle.claim.proofs.plan_and_carry_out.Tie as tie
 
 -- the demand, of answers and buffers that are what the contracts say
-handed-on : (s o p m x : List ℕ) (a : StepAnswer) (c : CarryAnswer) (p₁ m₁ x₁ : List ℕ)
+handed-on : (s o p m x : List ℕ) (a : StepAnswer) (c : WrittenAnswer) (p₁ m₁ x₁ : List ℕ)
     → a ≡ stepAnswer s o (length p) (length m) → p₁ ≡ planAfter s o p (length m) → m₁ ≡ movesAfter s o m (length p)
     → c ≡ carryAnswer s (take (a .moves) m₁) (length x) → x₁ ≡ nextAfter s (take (a .moves) m₁) x → Demand3 s o p m x a c p₁ x₁
 handed-on s o p m x a c p₁ m₁ x₁ e f g h i = rw (h, i, g, f, e) (demand s o p m x)

@@ -1,0 +1,9 @@
+pub mod Tables
+pub mod Adding
+pub mod Ways
+pub mod Answers
+pub mod ReadBack
+pub mod Order
+pub mod Empty
+pub mod Sizes
+pub mod Vectors
