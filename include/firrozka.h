@@ -18,9 +18,9 @@
 extern "C" {
 #endif
 
-/* The version, 100 × major + minor: 1.1 is 101. CHANGELOG.md says what each brought. firrozka_version() is the archive's own: where the
+/* The version, 100 × major + minor: 1.2 is 102. CHANGELOG.md says what each brought. firrozka_version() is the archive's own: where the
  * two differ, a program was compiled with the header of another version. */
-#define FIRROZKA_VERSION 101
+#define FIRROZKA_VERSION 102
 uint32_t firrozka_version(void);
 
 /* Buffers of so many bytes are long enough for every call. */
@@ -44,7 +44,8 @@ enum firrozka_source {
     FIRROZKA_NEW_PLAN = 2
 };
 
-/* Why an operation refuses. Its checks run in the order of its numbers, those of the sheet and of the other record first. */
+/* Why an operation refuses. Its checks run in the order of its numbers, those of the sheet and of the other record first; only join sheets
+ * has a 7 behind 51. */
 enum firrozka_refusal {
     FIRROZKA_ACCEPTED = 0,
     /* sheet */
@@ -81,7 +82,10 @@ enum firrozka_refusal {
     /* carry out */
     FIRROZKA_MOVES_NODES_DIFFER = 41, /* the N of sheet and moves differ */
     FIRROZKA_MOVES_SENDS = 42,        /* some cell sends in all more than the old sheet gives it */
-    FIRROZKA_SHEET_BUFFER = 43        /* the buffer is too short */
+    FIRROZKA_SHEET_BUFFER = 43,       /* the buffer is too short */
+    /* join sheets */
+    FIRROZKA_SHEETS_DIFFER = 51, /* the N or the t of the two sheets differ */
+    FIRROZKA_JOINED_BUFFER = 52  /* the buffer is too short */
 };
 
 /* Read sheet: N, the tolerance t in tenths of a percent, the number of cells E, the total P and the limit L. Refused: 1 to 7. */
@@ -125,6 +129,12 @@ struct firrozka_written {
 };
 struct firrozka_written firrozka_carry_out(const uint8_t *sheet, size_t sheet_len, const uint8_t *moves, size_t moves_len,
                                            uint8_t *next, size_t next_len);
+
+/* Join sheets: writes the sheet that has in each cell the sum of both, such as the resident sheet and that of the particles injected at
+ * the gas inlet, and gives its length in bytes. Refused: the first sheet's; the second's, by the same numbers; 51; 7 where the two totals
+ * together are above 1,000,000,000; 52. */
+struct firrozka_written firrozka_join_sheets(const uint8_t *first, size_t first_len, const uint8_t *second, size_t second_len,
+                                             uint8_t *out, size_t out_len);
 
 /* Tree in force: the helpands that hold after a step, as a stretch of one of the two plans: which plan, and where in it, in bytes. It is
  * of the old plan if the new kind is 1, else of the new. A new plan of kind 0 gives its roots. Nothing is copied, nothing is refused.

@@ -1,9 +1,10 @@
-/* Calls each function as C or as C++, also with null pointers, and stops at the first answer that is not document 01's. */
+/* Calls each function as C or as C++, also with null pointers, and stops at the first answer that is not document 01's or 02's. */
 #include <stdio.h>
 #include <stdlib.h>
+#include <string.h>
 #include "firrozka.h"
 
-#if FIRROZKA_VERSION < 101
+#if FIRROZKA_VERSION < 102
 #error "the preprocessor can test the version"
 #endif
 
@@ -15,6 +16,15 @@ static const uint8_t chain[] = {3, 0, 0, 0, 2, 0, 0, 0, 36, 0, 0, 0, 0, 0, 0, 0,
 static const uint8_t roots[] = {3, 0, 0, 0, 0, 0, 0, 0, 36, 0, 0, 0, 0, 0, 0, 0, 1, 0, 0, 0, 2, 0, 0, 0,
                                 0, 0, 0, 0, 0, 0, 0, 0, 0,  0, 0, 0};
 static const uint8_t sheet_h[] = {3, 0, 0, 0, 100, 0, 0, 0, 2, 0, 0, 0, 0, 0, 0, 0, 65, 0, 0, 0, 28, 0, 0, 0, 72, 0, 0, 0};
+
+/* What the gas inlet injects at node 0, 17 of subdomain 0 and 3 of subdomain 1; this and step D's sheet joined; sheets of 2 nodes and of
+ * 3.5 percent; and a sheet of 999,999,901 particles, with which D's 100 are one too many. */
+static const uint8_t inlet[] = {3, 0, 0, 0, 100, 0, 0, 0, 2, 0, 0, 0, 0, 0, 0, 0, 1, 0, 0, 0, 17, 0, 0, 0, 3, 0, 0, 0};
+static const uint8_t joined[] = {3, 0, 0, 0, 100, 0, 0, 0, 4, 0, 0, 0, 0, 0, 0, 0, 1, 0, 0, 0, 65, 0, 0, 0,
+                                 130, 0, 0, 0, 107, 0, 0, 0, 3, 0, 0, 0, 6, 0, 0, 0, 4, 0, 0, 0};
+static const uint8_t other_nodes[] = {2, 0, 0, 0, 100, 0, 0, 0, 0, 0, 0, 0};
+static const uint8_t other_tolerance[] = {3, 0, 0, 0, 35, 0, 0, 0, 0, 0, 0, 0};
+static const uint8_t too_many[] = {3, 0, 0, 0, 100, 0, 0, 0, 1, 0, 0, 0, 0, 0, 0, 0, 0x9d, 0xc9, 0x9a, 0x3b};
 
 static uint8_t plan[FIRROZKA_PLAN_BYTES], moves[FIRROZKA_MOVES_BYTES], next[FIRROZKA_SHEET_BYTES], least[FIRROZKA_LEAST_BYTES];
 
@@ -49,6 +59,28 @@ static void check_operations(void)
     CHECK(!c.refusal && c.bytes == 52 && next[8] == 5);
 }
 
+/* Whether step D's sheet and this one are refused so, with 0 bytes and the buffer as it was. */
+static int not_joined(uint32_t refusal, const uint8_t *second, size_t second_len, size_t out_len)
+{
+    uint8_t untouched[sizeof next];
+    memset(untouched, 0xa5, sizeof untouched);
+    memset(next, 0xa5, sizeof next);
+    struct firrozka_written j = firrozka_join_sheets(sheet, sizeof sheet, second, second_len, next, out_len);
+    return j.refusal == refusal && !j.bytes && !memcmp(next, untouched, sizeof next);
+}
+
+static void check_join(void)
+{
+    memset(next, 0xa5, sizeof next);
+    struct firrozka_written j = firrozka_join_sheets(sheet, sizeof sheet, inlet, sizeof inlet, next, sizeof joined);
+    CHECK(!j.refusal && j.bytes == sizeof joined && !memcmp(next, joined, sizeof joined) && next[sizeof joined] == 0xa5);
+    CHECK(not_joined(FIRROZKA_SHEET_LENGTH, inlet, sizeof inlet - 1, sizeof next));
+    CHECK(not_joined(FIRROZKA_SHEETS_DIFFER, other_nodes, sizeof other_nodes, sizeof next));
+    CHECK(not_joined(FIRROZKA_SHEETS_DIFFER, other_tolerance, sizeof other_tolerance, sizeof next));
+    CHECK(not_joined(FIRROZKA_SHEET_COUNT, too_many, sizeof too_many, sizeof next));
+    CHECK(not_joined(FIRROZKA_JOINED_BUFFER, inlet, sizeof inlet, sizeof joined - 1));
+}
+
 /* With length 0 a pointer may be null, a buffer's too. */
 static void check_null(void)
 {
@@ -59,6 +91,9 @@ static void check_null(void)
     CHECK(firrozka_plan_step(sheet, sizeof sheet, NULL, 0, NULL, 0, NULL, 0).refusal == FIRROZKA_PLAN_BUFFER);
     CHECK(firrozka_plan_step(sheet, sizeof sheet, NULL, 0, plan, sizeof plan, NULL, 0).refusal == FIRROZKA_MOVES_BUFFER);
     CHECK(firrozka_carry_out(sheet, sizeof sheet, moves, 24, NULL, 0).refusal == FIRROZKA_SHEET_BUFFER);
+    CHECK(firrozka_join_sheets(NULL, 0, sheet, sizeof sheet, next, sizeof next).refusal == FIRROZKA_SHEET_SHORT);
+    CHECK(firrozka_join_sheets(sheet, sizeof sheet, NULL, 0, next, sizeof next).refusal == FIRROZKA_SHEET_SHORT);
+    CHECK(firrozka_join_sheets(sheet, sizeof sheet, inlet, sizeof inlet, NULL, 0).refusal == FIRROZKA_JOINED_BUFFER);
     CHECK(firrozka_tree_in_force(NULL, 0, NULL, 0).length == 0);
 }
 
@@ -85,6 +120,7 @@ int main(void)
     CHECK(firrozka_version() == FIRROZKA_VERSION);
     check_readers();
     check_operations();
+    check_join();
     check_null();
     check_force();
     return 0;

@@ -1,11 +1,11 @@
-! Calls each function through the module and stops at the first answer that is not document 01's.
+! Calls each function through the module and stops at the first answer that is not document 01's or 02's.
 program check
     use, intrinsic :: iso_c_binding, only: c_int8_t, c_int32_t, c_int64_t, c_size_t
     use firrozka
     implicit none
 
     ! Step D's sheet; an old plan with helpands 0, 0, 1, and step H's sheet, which keeps it; and step J's plan, of kind 0.
-    integer(c_int8_t), parameter :: none(1) = [0_c_int8_t]
+    integer(c_int8_t), parameter :: none(1) = [0_c_int8_t], untouched = -91_c_int8_t
     integer(c_int8_t) :: d(36), chain(36), h(28), roots(36)
     integer(c_int8_t) :: plan(firrozka_plan_bytes), moves(firrozka_moves_bytes)
     integer(c_int8_t) :: next(firrozka_sheet_bytes), least(firrozka_least_bytes)
@@ -61,9 +61,40 @@ program check
     call same([part%source, part%start, part%length], [integer :: firrozka_new_plan, 0, 0])
 
     call same([firrozka_version()], [integer :: firrozka_module_version])
+    call check_join
     call check_words
 
 contains
+
+    ! Step D's sheet and that of what the gas inlet injects at node 0, 17 of subdomain 0 and 3 of subdomain 1. Neither 2 nodes nor 3.5
+    ! percent will do; with 999,999,901 particles D's 100 are one too many.
+    subroutine check_join
+        integer(c_int8_t) :: inlet(28), joined(44)
+
+        inlet = words_to_bytes([3, 100, 2, 0, 1, 17, 3])
+        joined = words_to_bytes([3, 100, 4, 0, 1, 65, 130, 107, 3, 6, 4])
+        next = untouched
+        written = firrozka_join_sheets(d, size(d, kind=c_size_t), inlet, size(inlet, kind=c_size_t), next, 44_c_size_t)
+        call same([written%refusal, written%bytes], [0, 44])
+        call same([count(next(:44) /= joined, kind=c_int32_t), count(next(45:) /= untouched, kind=c_int32_t)], [0, 0])
+
+        call check_not_joined(firrozka_sheet_length, inlet(:27), firrozka_sheet_bytes)
+        call check_not_joined(firrozka_sheets_differ, words_to_bytes([2, 100, 0]), firrozka_sheet_bytes)
+        call check_not_joined(firrozka_sheets_differ, words_to_bytes([3, 35, 0]), firrozka_sheet_bytes)
+        call check_not_joined(firrozka_sheet_count, words_to_bytes([3, 100, 1, 0, 999999901]), firrozka_sheet_bytes)
+        call check_not_joined(firrozka_joined_buffer, inlet, 43_c_size_t)
+    end subroutine
+
+    ! Step D's sheet and this one are not joined, and the buffer is left alone.
+    subroutine check_not_joined(refusal, second, out_len)
+        integer(c_int32_t), intent(in) :: refusal
+        integer(c_int8_t), intent(in) :: second(:)
+        integer(c_size_t), intent(in) :: out_len
+
+        next = untouched
+        written = firrozka_join_sheets(d, size(d, kind=c_size_t), second, size(second, kind=c_size_t), next, out_len)
+        call same([written%refusal, written%bytes, count(next /= untouched, kind=c_int32_t)], [integer :: refusal, 0, 0])
+    end subroutine
 
     ! Words of all four bytes, both ways, from integers of either size.
     subroutine check_words

@@ -11,11 +11,11 @@ module firrozka
 
     public :: firrozka_version
     public :: firrozka_read_sheet, firrozka_read_plan, firrozka_read_moves
-    public :: firrozka_weigh, firrozka_plan_step, firrozka_carry_out, firrozka_tree_in_force
+    public :: firrozka_weigh, firrozka_plan_step, firrozka_carry_out, firrozka_join_sheets, firrozka_tree_in_force
     public :: words_to_bytes, word_at
 
-    ! The version that this module was written for, 100 × major + minor: 1.1 is 101. firrozka_version() is the archive's own.
-    integer(c_int32_t), parameter, public :: firrozka_module_version = 101
+    ! The version that this module was written for, 100 × major + minor: 1.2 is 102. firrozka_version() is the archive's own.
+    integer(c_int32_t), parameter, public :: firrozka_module_version = 102
 
     ! Buffers of so many bytes are long enough for every call.
     integer(c_size_t), parameter, public :: &
@@ -27,7 +27,8 @@ module firrozka
     ! Which of two plans has the tree in force.
     integer(c_int32_t), parameter, public :: firrozka_old_plan = 1, firrozka_new_plan = 2
 
-    ! Why an operation refuses. Its checks run in the order of its numbers, those of the sheet and of the other record first.
+    ! Why an operation refuses. Its checks run in the order of its numbers, those of the sheet and of the other record first; only join
+    ! sheets has a 7 behind 51.
     integer(c_int32_t), parameter, public :: &
         firrozka_accepted = 0, &
         ! sheet
@@ -64,7 +65,10 @@ module firrozka
         ! carry out
         firrozka_moves_nodes_differ = 41, & ! the N of sheet and moves differ
         firrozka_moves_sends = 42, &        ! some cell sends in all more than the old sheet gives it
-        firrozka_sheet_buffer = 43          ! the buffer is too short
+        firrozka_sheet_buffer = 43, &       ! the buffer is too short
+        ! join sheets
+        firrozka_sheets_differ = 51, & ! the N or the t of the two sheets differ
+        firrozka_joined_buffer = 52    ! the buffer is too short
 
     ! The answers: 0 or a refusal number, and the values named, all 0 in a refusal. The tolerance t is in tenths of a percent.
     type, bind(c), public :: firrozka_sheet
@@ -156,6 +160,15 @@ module firrozka
             integer(c_int8_t), intent(in) :: sheet(*), moves(*)
             integer(c_int8_t), intent(inout) :: next(*)
             integer(c_size_t), value :: sheet_len, moves_len, next_len
+            type(firrozka_written) :: answer
+        end function
+
+        ! 1 to 7 may be either sheet's, and 7 also that of the joint total.
+        function firrozka_join_sheets(first, first_len, second, second_len, out, out_len) bind(c) result(answer)
+            import :: c_int8_t, c_size_t, firrozka_written
+            integer(c_int8_t), intent(in) :: first(*), second(*)
+            integer(c_int8_t), intent(inout) :: out(*)
+            integer(c_size_t), value :: first_len, second_len, out_len
             type(firrozka_written) :: answer
         end function
 

@@ -1,7 +1,7 @@
 """Firrozka for Python: the operations, and records taken apart for looking at.
 
 A record is any bytes-like object: bytes, bytearray, memoryview, array and so on; docs/FORMATS.md describes the three. Records that are
-made are bytes. Names are document 01's.
+made are bytes. Names are document 01's and 02's.
 
 ctypes needs a shared object: bindings/python/build makes target/libfirrozka.so from the archive. It is looked for there, or in the file
 that FIRROZKA_SO names. The proof covers the archive, not this module.
@@ -13,8 +13,8 @@ import struct
 from pathlib import Path
 from typing import NamedTuple
 
-# The version that this module was written for, 100 × major + minor: 1.1 is 101. version() is the archive's own.
-VERSION = 101
+# The version that this module was written for, 100 × major + minor: 1.2 is 102. version() is the archive's own.
+VERSION = 102
 
 # Buffers of so many bytes are long enough for every call.
 SHEET_BYTES = 32780
@@ -60,6 +60,8 @@ REFUSALS = {
     41: ("carry out", "the N of sheet and moves differ"),
     42: ("carry out", "some cell sends in all more than the old sheet gives it"),
     43: ("carry out", "the buffer is too short"),
+    51: ("join sheets", "the N or the t of the two sheets differ"),
+    52: ("join sheets", "the buffer is too short"),
 }
 
 
@@ -155,6 +157,8 @@ def _answer(*values):
     return type("Answer", (ctypes.Structure,), {"_fields_": fields})
 
 
+_WRITTEN = _answer("refusal", "bytes")
+
 # Each function: how many records and buffers it takes, and what it answers.
 _FUNCTIONS = {
     "version": (0, ctypes.c_uint32),
@@ -163,7 +167,8 @@ _FUNCTIONS = {
     "read_moves": (1, _answer("refusal", "n", "e")),
     "weigh": (3, _answer("refusal", "holds")),
     "plan_step": (4, _answer("refusal", "kind", "limit", "plan_bytes", "moves_bytes")),
-    "carry_out": (3, _answer("refusal", "bytes")),
+    "carry_out": (3, _WRITTEN),
+    "join_sheets": (3, _WRITTEN),
     "tree_in_force": (2, _answer("source", "start", "length")),
 }
 
@@ -248,12 +253,24 @@ def plan_step(sheet, old_plan=None):
     return Step(answer.kind, answer.limit, plan.raw[: answer.plan_bytes], moves.raw[: answer.moves_bytes])
 
 
+def _written_sheet(name, *records):
+    """The sheet that a function writes for these records, as bytes."""
+    sheet = ctypes.create_string_buffer(SHEET_BYTES)
+    answer = _call(name, *records, sheet)
+    return sheet.raw[: answer.bytes]
+
+
 def carry_out(sheet, moves):
     """Carry out: the sheet that follows, as bytes."""
-    sheet, moves = _bytes("sheet", sheet), _bytes("moves", moves)
-    following = ctypes.create_string_buffer(SHEET_BYTES)
-    answer = _call("carry_out", sheet, moves, following)
-    return following.raw[: answer.bytes]
+    return _written_sheet("carry_out", _bytes("sheet", sheet), _bytes("moves", moves))
+
+
+def join_sheets(first, second):
+    """Join sheets: the sheet that has in each cell the sum of both, as bytes.
+
+    Refusals 1 to 7 may be either sheet's, and 7 also that of the joint total: read_sheet of each tells which.
+    """
+    return _written_sheet("join_sheets", _bytes("first", first), _bytes("second", second))
 
 
 def tree_in_force(old_plan, new_plan):

@@ -1,7 +1,8 @@
-"""The module over the archive: document 01's steps, refusals and parts."""
+"""The module over the archive: document 01's steps, refusals and parts, and document 02's joined sheets."""
 
 import array
 import copy
+import ctypes
 import os
 import pickle
 import subprocess
@@ -14,6 +15,10 @@ import firrozka
 SHEET = firrozka.to_bytes([3, 100, 3, 0, 65, 130, 90, 6, 4])
 PLAN = firrozka.to_bytes([3, 2, 36, 0, 0, 0, 0, 27, 29])
 MOVES = firrozka.to_bytes([3, 2, 1, 2, 27, 29])
+
+# What the gas inlet injects at node 0, 17 of subdomain 0 and 3 of subdomain 1, and this and step D's sheet joined.
+INLET = firrozka.to_bytes([3, 100, 2, 0, 1, 17, 3])
+JOINED = firrozka.to_bytes([3, 100, 4, 0, 1, 65, 130, 107, 3, 6, 4])
 
 # Steps H and I: the old plan by its helpands, and the sheets.
 CHAIN = firrozka.to_bytes([3, 2, 36, 0, 0, 1, 0, 0, 0])
@@ -31,6 +36,30 @@ class Operations(unittest.TestCase):
         self.assertEqual(firrozka.read_sheet(SHEET), (3, 100, 3, 100, 36, [(0, 0, 90), (1, 1, 6), (2, 2, 4)]))
         self.assertEqual(firrozka.read_plan(PLAN), (3, 2, 36, [0, 0, 0], [0, 27, 29]))
         self.assertEqual(firrozka.read_moves(MOVES), (3, 2, [(0, 0, 1, 27), (0, 0, 2, 29)]))
+
+    def test_join_sheets(self):
+        self.assertEqual(firrozka.join_sheets(SHEET, INLET), JOINED)
+        self.assertEqual(firrozka.join_sheets(INLET, SHEET), JOINED)
+        self.assertEqual(firrozka.join_sheets(SHEET, firrozka.to_bytes([3, 100, 0])), SHEET)
+
+    def assert_not_joined(self, number, second, length):
+        buffer = ctypes.create_string_buffer(b"\xa5" * length, length)
+        with self.assertRaises(firrozka.Refused) as caught:
+            firrozka._call("join_sheets", SHEET, second, buffer)
+        self.assertEqual(caught.exception.number, number)
+        self.assertEqual(buffer.raw, b"\xa5" * length)
+
+    def test_sheets_that_are_not_joined(self):
+        other_nodes, other_tolerance = firrozka.to_bytes([2, 100, 0]), firrozka.to_bytes([3, 35, 0])
+        too_many = firrozka.to_bytes([3, 100, 1, 0, 999_999_901])
+        self.assert_not_joined(5, INLET[:-1], firrozka.SHEET_BYTES)
+        self.assert_not_joined(51, other_nodes, firrozka.SHEET_BYTES)
+        self.assert_not_joined(51, other_tolerance, firrozka.SHEET_BYTES)
+        self.assert_not_joined(7, too_many, firrozka.SHEET_BYTES)
+        self.assert_not_joined(52, INLET, len(JOINED) - 1)
+        with self.assertRaises(firrozka.Refused) as caught:
+            firrozka.join_sheets(SHEET, other_tolerance)
+        self.assertEqual(str(caught.exception), "refused 51: join sheets: the N or the t of the two sheets differ")
 
     def test_weigh(self):
         self.assertEqual(firrozka.weigh(SHEET_H, CHAIN), (True, [28, 36, 0]))
@@ -110,6 +139,7 @@ class Arguments(unittest.TestCase):
             self.assertEqual(firrozka.weigh(form(SHEET_H), form(CHAIN)), (True, [28, 36, 0]))
             self.assertEqual(firrozka.plan_step(form(SHEET_H), form(CHAIN)), firrozka.plan_step(SHEET_H, CHAIN))
             self.assertEqual(firrozka.carry_out(form(SHEET), form(MOVES)), firrozka.carry_out(SHEET, MOVES))
+            self.assertEqual(firrozka.join_sheets(form(SHEET), form(INLET)), JOINED)
             self.assertEqual(firrozka.tree_in_force(form(CHAIN), form(kept)), [0, 0, 1])
 
     def test_no_old_plan_is_none_or_empty(self):
@@ -130,6 +160,8 @@ class Arguments(unittest.TestCase):
         self.assert_named("sheet", "NoneType", firrozka.plan_step, None, PLAN)
         self.assert_named("old_plan", "Step", firrozka.plan_step, SHEET, firrozka.plan_step(SHEET))
         self.assert_named("moves", "Moves", firrozka.carry_out, SHEET, firrozka.read_moves(MOVES))
+        self.assert_named("first", "Sheet", firrozka.join_sheets, firrozka.read_sheet(SHEET), INLET)
+        self.assert_named("second", "NoneType", firrozka.join_sheets, SHEET, None)
         self.assert_named("old_plan", "NoneType", firrozka.tree_in_force, None, PLAN)
         self.assert_named("new_plan", "NoneType", firrozka.tree_in_force, PLAN, None)
 

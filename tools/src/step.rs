@@ -1,12 +1,15 @@
 //! Steps: planned and printed as the bench program prints them, weighed, and
-//! carried out. What is decided, the library decides.
+//! carried out; and sheets joined before a step. What is decided, the library
+//! decides.
 
 use crate::record::explained;
+use crate::tolerance::to_percent;
 use firrozka::{
-    carry_out, plan_step, read_moves, read_plan, read_sheet, weigh, Moves, Refusal, Sheet,
-    LEAST_BYTES, MOVES_BYTES, NO_PLAN, PLAN_BYTES, SHEET_BYTES,
+    carry_out, join_sheets, plan_step, read_moves, read_plan, read_sheet, weigh, Moves, Refusal,
+    Sheet, LEAST_BYTES, MOVES_BYTES, NO_PLAN, PLAN_BYTES, SHEET_BYTES,
 };
 use std::collections::BTreeMap;
+use std::fmt::Display;
 
 /// A record that was read, and from where.
 pub struct Source<'a> {
@@ -21,10 +24,20 @@ impl<'a> Source<'a> {
         reader(self.bytes).map_err(refused)
     }
 
-    /// Why an operation refuses it beside another record.
+    /// Why an operation refuses it beside another record, and a detail, if there
+    /// is one.
     fn refused(&self, refusal: Refusal, detail: &str) -> String {
-        let (number, reason) = (refusal.number(), refusal.reason());
-        format!("{}: refused {number}: {reason}{detail}", self.name)
+        let (number, reason) = (refusal.number(), reason_beside(refusal));
+        let mark = if detail.is_empty() { "" } else { ": " };
+        format!("{}: refused {number}: {reason}{mark}{detail}", self.name)
+    }
+}
+
+/// The reason in words, where each record by itself was accepted.
+fn reason_beside(refusal: Refusal) -> &'static str {
+    match refusal {
+        Refusal::SheetCount => "the two totals together are above 1,000,000,000",
+        _ => refusal.reason(),
     }
 }
 
@@ -46,7 +59,7 @@ pub fn plan(sheet: &Source, old: Option<&Source>) -> Result<Planned, String> {
         Some(old) => {
             let nodes = old_plan(old)?;
             plan_step(sheet.bytes, old.bytes, &mut plan, &mut moves)
-                .map_err(|refusal| old.refused(refusal, &nodes_beside(nodes, sheet, table.n)))?
+                .map_err(|refusal| old.refused(refusal, &beside(nodes, sheet, table.n)))?
         }
     };
     let text = step_text(table, step.plan, step.moves);
@@ -68,9 +81,9 @@ fn old_plan(old: &Source) -> Result<u32, String> {
     Ok(old.read(read_plan)?.n)
 }
 
-/// The N of both records, where these differ.
-fn nodes_beside(nodes: u32, sheet: &Source, of_sheet: u32) -> String {
-    format!(": {nodes} here, {of_sheet} in {}", sheet.name)
+/// What stands in both records, such as the N where these differ.
+fn beside(here: impl Display, sheet: &Source, there: impl Display) -> String {
+    format!("{here} here, {there} in {}", sheet.name)
 }
 
 /// The bench program's lines.
@@ -109,7 +122,7 @@ pub fn weighed(sheet: &Source, plan: &Source) -> Result<String, String> {
     let (table, tree) = (sheet.read(read_sheet)?, plan.read(read_plan)?);
     let mut least = [0; LEAST_BYTES];
     let weighed = weigh(sheet.bytes, plan.bytes, &mut least).map_err(|refusal| match refusal {
-        Refusal::PlanNodesDiffer => plan.refused(refusal, &nodes_beside(tree.n, sheet, table.n)),
+        Refusal::PlanNodesDiffer => plan.refused(refusal, &beside(tree.n, sheet, table.n)),
         _ => plan.refused(refusal, ""),
     })?;
     let limit = table.limit;
@@ -138,7 +151,7 @@ pub fn carried(sheet: &Source, moves: &Source) -> Result<Vec<u8>, String> {
     let mut next = [0; SHEET_BYTES];
     let next = carry_out(sheet.bytes, moves.bytes, &mut next).map_err(|refusal| {
         let detail = match refusal {
-            Refusal::MovesNodesDiffer => nodes_beside(list.n, sheet, table.n),
+            Refusal::MovesNodesDiffer => beside(list.n, sheet, table.n),
             _ => too_much(table, list, sheet.name),
         };
         moves.refused(refusal, &detail)
@@ -161,9 +174,36 @@ fn too_much(sheet: Sheet, moves: Moves, name: &str) -> String {
         if sent > held {
             let (node, subdomain) = cell;
             return format!(
-                ": node {node} sends {sent} of subdomain {subdomain}, and has {held} in {name}"
+                "node {node} sends {sent} of subdomain {subdomain}, and has {held} in {name}"
             );
         }
     }
     String::new()
+}
+
+/// *Join sheets*: the sheet with the counts of both.
+pub fn joined(sheet: &Source, inlet: &Source) -> Result<Vec<u8>, String> {
+    let (table, new) = (sheet.read(read_sheet)?, inlet.read(read_sheet)?);
+    let mut joined = [0; SHEET_BYTES];
+    let joined = join_sheets(sheet.bytes, inlet.bytes, &mut joined).map_err(|refusal| {
+        let detail = match refusal {
+            Refusal::SheetsDiffer => sizes_beside(new, sheet, table),
+            _ => beside(new.p, sheet, table.p),
+        };
+        inlet.refused(refusal, &detail)
+    })?;
+    Ok(joined.to_vec())
+}
+
+/// The N and the tolerance of both sheets, where these differ.
+fn sizes_beside(new: Sheet, sheet: &Source, table: Sheet) -> String {
+    let mut differ = Vec::new();
+    if new.n != table.n {
+        differ.push(format!("nodes {}", beside(new.n, sheet, table.n)));
+    }
+    if new.t != table.t {
+        let [here, there] = [new.t, table.t].map(|t| to_percent(t) + " percent");
+        differ.push(format!("tolerance {}", beside(here, sheet, there)));
+    }
+    differ.join("; ")
 }

@@ -19,6 +19,8 @@ pub enum Task {
     Weigh,
     /// The sheet that follows a sheet and moves.
     Carry,
+    /// The sheet with the counts of two.
+    Join,
     /// A table of counts to a sheet.
     Table(Sizes),
     /// Text to a record that the library accepts, or words to any bytes.
@@ -58,7 +60,9 @@ impl Task {
     /// more than one byte of what is too long is left out.
     pub fn most(self) -> u64 {
         match self {
-            Task::Plan | Task::Weigh | Task::Carry | Task::Show(_) => SHEET_BYTES as u64 + 1,
+            Task::Plan | Task::Weigh | Task::Carry | Task::Join | Task::Show(_) => {
+                SHEET_BYTES as u64 + 1
+            }
             Task::Table(_) | Task::Write(_) | Task::Words => u64::MAX,
         }
     }
@@ -103,6 +107,9 @@ pub fn run(call: &Call, inputs: &[Vec<u8>]) -> Result<Outcome, String> {
         }
         (Task::Carry, [sheet, moves]) => {
             outcome.put(&call.output, step::carried(sheet, moves)?);
+        }
+        (Task::Join, [sheet, inlet]) => {
+            outcome.put(&call.output, step::joined(sheet, inlet)?);
         }
         (task, [input]) => {
             let turned = task.turn(input.bytes);

@@ -28,7 +28,7 @@ pub struct Verb {
 pub const FLAGS: [&str; 1] = ["--empty"];
 
 /// All verbs.
-pub static VERBS: [Verb; 7] = [
+pub static VERBS: [Verb; 8] = [
     Verb {
         name: "plan",
         form: "SHEET [OLD_PLAN] [-o PLAN] [-m MOVES]",
@@ -67,10 +67,20 @@ holds, or that no tree is needed.
 ",
         options: &["-o"],
         files: &["SHEET", "MOVES"],
-        task: |given| match given.has("-o") {
-            true => Ok(Task::Carry),
-            false => Err(String::from("-o NEXT is missing")),
-        },
+        task: |given| saved(Task::Carry, given, "NEXT"),
+    },
+    Verb {
+        name: "join",
+        form: "SHEET INLET -o JOINED",
+        does: "adds the counts of two sheets cell by cell and saves the joined sheet",
+        more: "\
+SHEET and INLET are two sheets, such as the resident one and that of the particles
+injected at the gas inlet. The number of nodes and the tolerance must be equal.
+  -o JOINED  the file for the joined sheet
+",
+        options: &["-o"],
+        files: &["SHEET", "INLET"],
+        task: |given| saved(Task::Join, given, "JOINED"),
     },
     Verb {
         name: "table",
@@ -139,6 +149,14 @@ bytes, whatever they are.
         task: |_| Ok(Task::Words),
     },
 ];
+
+/// The task, if the call names the file for what it makes.
+fn saved(task: Task, given: &Given, name: &str) -> Result<Task, String> {
+    match given.has("-o") {
+        true => Ok(task),
+        false => Err(format!("-o {name} is missing")),
+    }
+}
 
 fn named(name: &str, all: &str) -> Result<Record, String> {
     Record::named(name).ok_or_else(|| format!("'{name}' is none of {all}"))

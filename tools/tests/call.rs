@@ -3,14 +3,18 @@
 
 mod common;
 
-use common::{bytes, end, example, failed, file, firrozka, fresh, printed, said, tool, written};
+use common::{
+    bytes, end, example, failed, file, firrozka, fresh, printed, record, said, tool, written,
+};
 use std::ffi::OsStr;
 use std::fs::{self, File, Permissions};
 use std::os::unix::ffi::OsStrExt;
 use std::os::unix::fs::{symlink, PermissionsExt};
 use std::process::{Command, Stdio};
 
-const VERBS: [&str; 7] = ["plan", "weigh", "carry", "table", "write", "show", "words"];
+const VERBS: [&str; 8] = [
+    "plan", "weigh", "carry", "join", "table", "write", "show", "words",
+];
 
 #[test]
 fn help_and_version_are_printed() {
@@ -30,7 +34,7 @@ fn help_and_version_are_printed() {
 
 #[test]
 fn a_wrong_call_is_told_what_is_wrong_and_then_the_usage() {
-    let cases: [(&[&str], &str); 29] = [
+    let cases: [(&[&str], &str); 33] = [
         (&[], "a verb is missing"),
         (&["pland"], "there is no verb 'pland'"),
         (&["plan"], "plan: SHEET is missing"),
@@ -62,6 +66,16 @@ fn a_wrong_call_is_told_what_is_wrong_and_then_the_usage() {
         (&["weigh", "a"], "weigh: PLAN is missing"),
         (&["carry", "a"], "carry: -o NEXT is missing"),
         (&["carry", "a", "-o", "c"], "carry: MOVES is missing"),
+        (&["join", "a", "b"], "join: -o JOINED is missing"),
+        (&["join", "a", "-o", "c"], "join: INLET is missing"),
+        (
+            &["join", "a", "b", "c", "-o", "d"],
+            "join: 'c' is one file too many",
+        ),
+        (
+            &["join", "-", "-", "-o", "c"],
+            "join: only one input can be the standard input",
+        ),
         (&["table", "-t", "10"], "table: -n N is missing"),
         (&["table", "-n", "3"], "table: -t PERCENT is missing"),
         (
@@ -135,6 +149,13 @@ fn a_file_has_one_use() {
         let said = failed(firrozka(&call, b""), 2);
         assert!(said.starts_with(&format!("firrozka: {what}")), "{said}");
     }
+    // Neither of two sheets is overwritten by their sum.
+    let inlet = example("step-e/sheet");
+    for read in [&sheet, &inlet] {
+        let said = failed(firrozka(&["join", &sheet, &inlet, "-o", read], b""), 2);
+        let what = format!("firrozka: join: -o names '{read}', which is read\n");
+        assert!(said.starts_with(&what), "{said}");
+    }
     assert_eq!(bytes(&sheet), bytes(&example("step-d/sheet")));
     assert!(fs::metadata(&plan).is_err());
 }
@@ -155,6 +176,14 @@ fn a_dash_is_the_standard_input_or_output() {
         written(&["carry", "-", &moves, "-o", "-"], &bytes(&sheet))
     );
     assert!(next.starts_with(&[3, 0, 0, 0, 100, 0, 0, 0, 5, 0, 0, 0]));
+    let inlet = record("dash-inlet", "3 100 2 0 1 17 3");
+    let joined = written(&["join", &sheet, "-", "-o", "-"], &bytes(&inlet));
+    assert_eq!(
+        joined,
+        written(&["join", "-", &inlet, "-o", "-"], &bytes(&sheet))
+    );
+    let words = written(&["words"], &joined);
+    assert_eq!(words, b"3 100 4 0 1 65 130 107 3 6 4\n");
     let words = written(&["words", "-", "-o", "-"], &bytes(&plan));
     assert_eq!(words, b"3 2 36 0 0 0 0 27 29\n");
 }
@@ -231,6 +260,8 @@ fn an_endless_file_is_no_record() {
     assert_eq!(of_file, format!("/dev/zero: {what}\n"));
     let of_input = said_under(limit, &["plan", "-"]);
     assert_eq!(of_input, format!("standard input: {what}\n"));
+    let call = ["join", &example("step-d/sheet"), "/dev/zero", "-o", "-"];
+    assert_eq!(said_under(limit, &call), format!("/dev/zero: {what}\n"));
 }
 
 #[test]

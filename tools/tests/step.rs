@@ -1,4 +1,4 @@
-//! Steps from files: planned, weighed and carried out.
+//! Steps from files: planned, weighed and carried out; and sheets joined.
 #![forbid(unsafe_code)]
 
 mod common;
@@ -54,8 +54,10 @@ fn an_old_plan_that_is_missing_is_no_rebuild() {
     assert_eq!(no_sheet, format!("{missing}: {what}"));
     let weighed = said(&["weigh", &sheet, &missing], b"");
     assert_eq!(weighed, format!("{missing}: {what}"));
-    let carried = said(&["carry", &sheet, &missing, "-o", &output], b"");
-    assert_eq!(carried, format!("{missing}: {what}"));
+    for verb in ["carry", "join"] {
+        let made = said(&[verb, &sheet, &missing, "-o", &output], b"");
+        assert_eq!(made, format!("{missing}: {what}"));
+    }
 }
 
 #[test]
@@ -99,6 +101,8 @@ fn a_refused_file_is_named_with_the_reason() {
             route,
         ),
         (vec!["carry", &sheet, &moves, "-o", &output], &sheet, cell),
+        (vec!["join", &sheet, &plan, "-o", &output], &sheet, cell),
+        (vec!["join", &sheet_d, &sheet, "-o", &output], &sheet, cell),
     ];
     for (call, name, what) in cases {
         assert_eq!(said(&call, b""), format!("{name}: {what}"));
@@ -110,23 +114,39 @@ fn a_refused_file_is_named_with_the_reason() {
 fn records_that_are_exchanged_are_recognised() {
     let names = ["step-d/sheet", "step-d/plan", "step-d/moves"];
     let [sheet, plan, moves] = names.map(example);
-    let cases = [
-        (["plan", &plan, &sheet], &plan, "this reads as a plan"),
-        (["plan", &sheet, &sheet], &sheet, "this reads as a sheet"),
-        (["plan", &sheet, &moves], &moves, "this reads as moves"),
-        (["weigh", &plan, &sheet], &plan, "this reads as a plan"),
-        (["weigh", &sheet, &moves], &moves, "this reads as moves"),
-        (["show", "sheet", &plan], &plan, "this reads as a plan"),
-        (["show", "moves", &sheet], &sheet, "this reads as a sheet"),
+    let cases: [(&[&str], &String, &str); 9] = [
+        (&["plan", &plan, &sheet], &plan, "this reads as a plan"),
+        (&["plan", &sheet, &sheet], &sheet, "this reads as a sheet"),
+        (&["plan", &sheet, &moves], &moves, "this reads as moves"),
+        (&["weigh", &plan, &sheet], &plan, "this reads as a plan"),
+        (&["weigh", &sheet, &moves], &moves, "this reads as moves"),
+        (
+            &["join", &plan, &sheet, "-o", "-"],
+            &plan,
+            "this reads as a plan",
+        ),
+        (
+            &["join", &sheet, &moves, "-o", "-"],
+            &moves,
+            "this reads as moves",
+        ),
+        (&["show", "sheet", &plan], &plan, "this reads as a plan"),
+        (&["show", "moves", &sheet], &sheet, "this reads as a sheet"),
     ];
     for (call, name, reading) in cases {
-        let said = said(&call, b"");
+        let said = said(call, b"");
         assert!(said.starts_with(&format!("{name}: refused ")), "{said}");
         assert!(said.ends_with(&format!("; {reading}")), "{said}");
     }
     let text = said(&["plan", &sheet, &example("expected")], b"");
     let write = "; this is text, of which 'firrozka write plan' makes a record";
     assert!(text.ends_with(write), "{text}");
+    // A table in place of the sheet that is made of it.
+    let inlet = file("inlet-table", b"0,0,17\n0,1,3\n");
+    let text = said(&["join", &sheet, &inlet, "-o", "-"], b"");
+    let table =
+        "; this is text, of which 'firrozka table' or 'firrozka write sheet' makes a record";
+    assert!(text.ends_with(table), "{text}");
 }
 
 #[test]
@@ -197,4 +217,63 @@ fn a_step_that_needs_no_tree_is_said_to() {
     let sheet = record("sheet-j-and-one", "3 100 3 0 65 130 37 35 28");
     assert!(printed(&["weigh", &sheet, &plan]).ends_with("\nthe tree holds\n"));
     assert!(printed(&["plan", &sheet, &plan]).starts_with("kind 1 limit 36\n"));
+}
+
+/// Step D's sheet with 17 more of subdomain 0 and 3 of subdomain 1 at node 0.
+const JOINED_D: [u8; 44] = [
+    3, 0, 0, 0, 100, 0, 0, 0, 4, 0, 0, 0, // N, t and E
+    0, 0, 0, 0, 1, 0, 0, 0, 65, 0, 0, 0, 130, 0, 0, 0, // cells
+    107, 0, 0, 0, 3, 0, 0, 0, 6, 0, 0, 0, 4, 0, 0, 0, // counts
+];
+
+#[test]
+fn two_sheets_are_joined() {
+    let (sheet, joined) = (example("step-d/sheet"), fresh("joined"));
+    let inlet = record("inlet", "3 100 2 0 1 17 3");
+    assert_eq!(printed(&["join", &sheet, &inlet, "-o", &joined]), "");
+    assert_eq!(bytes(&joined), JOINED_D);
+    printed(&["join", &inlet, &sheet, "-o", &joined]);
+    assert_eq!(bytes(&joined), JOINED_D);
+    let none = record("no-inlet", "3 100 0");
+    printed(&["join", &sheet, &none, "-o", &joined]);
+    assert_eq!(bytes(&joined), bytes(&sheet));
+    // A sheet may be joined with itself.
+    printed(&["join", &sheet, &sheet, "-o", &joined]);
+    let words = "3 100 3 0 65 130 180 12 8\n";
+    assert_eq!(printed(&["words", &joined]), words);
+    // The largest total.
+    let rest = record("rest", "3 100 1 0 999999900");
+    printed(&["join", &sheet, &rest, "-o", &joined]);
+    let shown = printed(&["show", "sheet", &joined]);
+    assert!(shown.contains("particles 1000000000,"), "{shown}");
+}
+
+#[test]
+fn two_sheets_that_do_not_go_together_are_explained() {
+    let (sheet, joined) = (example("step-d/sheet"), fresh("not-joined"));
+    let differ = "refused 51: the N or the t of the two sheets differ";
+    let totals = "refused 7: the two totals together are above 1,000,000,000";
+    let nodes = format!("nodes 2 here, 3 in {sheet}");
+    let tolerance = format!("tolerance 3.5 percent here, 10 percent in {sheet}");
+    let both = format!("{nodes}; {tolerance}");
+    let particles = format!("999999901 here, 100 in {sheet}");
+    let cases = [
+        ("2 100 0", differ, nodes),
+        ("3 35 0", differ, tolerance),
+        ("2 35 0", differ, both.clone()),
+        // Then the totals are not looked at.
+        ("2 35 1 0 999999901", differ, both),
+        ("3 100 1 0 999999901", totals, particles),
+    ];
+    for (words, reason, detail) in cases {
+        let inlet = record("other-inlet", words);
+        let said = said(&["join", &sheet, &inlet, "-o", &joined], b"");
+        assert_eq!(said, format!("{inlet}: {reason}: {detail}"));
+        assert!(fs::metadata(&joined).is_err());
+    }
+    // A sheet by itself that has too many.
+    let inlet = record("large-inlet", "3 100 1 0 1000000001");
+    let said = said(&["join", &sheet, &inlet, "-o", &joined], b"");
+    let count = "refused 7: sheet: a count is 0, or the running sum is above 1,000,000,000";
+    assert_eq!(said, format!("{inlet}: {count}"));
 }

@@ -56,7 +56,7 @@ pub struct StepAnswer {
     pub moves_bytes: u32,
 }
 
-/// *Carry out* "gives its length in bytes".
+/// *Carry out* and *join sheets* give the length in bytes of what they wrote.
 #[repr(C)]
 #[derive(Clone, Copy, Debug, Default, PartialEq, Eq)]
 pub struct WrittenAnswer {
@@ -112,6 +112,14 @@ extern "C" {
         moves_len: usize,
         next: *mut u8,
         next_len: usize,
+    ) -> WrittenAnswer;
+    fn firrozka_join_sheets(
+        first: *const u8,
+        first_len: usize,
+        second: *const u8,
+        second_len: usize,
+        out: *mut u8,
+        out_len: usize,
     ) -> WrittenAnswer;
     fn firrozka_tree_in_force(
         old: *const u8,
@@ -191,6 +199,22 @@ pub fn carry_out(sheet: &[u8], moves: &[u8], next: &mut [u8]) -> WrittenAnswer {
             moves.len(),
             next.as_mut_ptr(),
             next.len(),
+        )
+    }
+}
+
+/// *Join sheets*, as the archive does it.
+pub fn join_sheets(first: &[u8], second: &[u8], out: &mut [u8]) -> WrittenAnswer {
+    // SAFETY: pointers and lengths are those of slices that outlive the call,
+    // and nobody else has the one that is written.
+    unsafe {
+        firrozka_join_sheets(
+            first.as_ptr(),
+            first.len(),
+            second.as_ptr(),
+            second.len(),
+            out.as_mut_ptr(),
+            out.len(),
         )
     }
 }

@@ -2,7 +2,7 @@
 //! simulation, decided by a library that carries machine-checked proof.
 //!
 //! The proof covers the library, not this wrapper. Records are described in
-//! docs/FORMATS.md; names are document 01's.
+//! docs/FORMATS.md; names are document 01's and 02's.
 //!
 //! ```
 //! // Step D: 3 nodes, tolerance 10 percent, cells 0, 65 and 130 with 90, 6 and 4.
@@ -29,8 +29,8 @@ mod words;
 
 pub use ffi::version;
 pub use operations::{
-    carry_out, plan_step, read_moves, read_plan, read_sheet, tree_in_force, weigh, Step, Weighed,
-    LEAST_BYTES, MOVES_BYTES, NO_PLAN, PLAN_BYTES, SHEET_BYTES, VERSION,
+    carry_out, join_sheets, plan_step, read_moves, read_plan, read_sheet, tree_in_force, weigh,
+    Step, Weighed, LEAST_BYTES, MOVES_BYTES, NO_PLAN, PLAN_BYTES, SHEET_BYTES, VERSION,
 };
 pub use records::{Cell, Kind, Move, Moves, NoKind, Node, Plan, Sheet};
 pub use refusal::Refusal;

@@ -1,13 +1,13 @@
 //! The operations. Where one writes, the part of the buffer that it wrote is
 //! handed back; where it refuses, the buffers are untouched.
 
-use crate::ffi::{self, PartAnswer};
+use crate::ffi::{self, PartAnswer, WrittenAnswer};
 use crate::records::{Kind, Moves, Plan, Sheet};
 use crate::refusal::Refusal;
 use crate::words::Words;
 
 /// The version that this crate was written for: 100 × major + minor.
-pub const VERSION: u32 = 101;
+pub const VERSION: u32 = 102;
 
 /// Enough for every sheet.
 pub const SHEET_BYTES: usize = 4 * (3 + 2 * 64 * 64);
@@ -120,9 +120,21 @@ pub fn plan_step<'a>(
 
 /// *Carry out*: writes the sheet that follows to the front of the buffer.
 pub fn carry_out<'a>(sheet: &[u8], moves: &[u8], next: &'a mut [u8]) -> Result<&'a [u8], Refusal> {
-    let answer = ffi::carry_out(sheet, moves, next);
-    accepted(answer.refusal)?;
-    Ok(&next[..answer.bytes as usize])
+    written(ffi::carry_out(sheet, moves, next), next)
+}
+
+/// *Join sheets*: writes the sheet that has in each cell the sum of both, such as
+/// the resident sheet and that of the particles injected at the gas inlet, to the
+/// front of the buffer.
+///
+/// Refusals 1 to 7 may be either sheet's, and 7 (`SheetCount`) may also be that of
+/// the joint total: `read_sheet` of each tells which.
+pub fn join_sheets<'a>(
+    first: &[u8],
+    second: &[u8],
+    out: &'a mut [u8],
+) -> Result<&'a [u8], Refusal> {
+    written(ffi::join_sheets(first, second, out), out)
 }
 
 /// *Tree in force*: the helpands, a part of one of the two plans, or an empty
@@ -140,8 +152,14 @@ pub fn tree_in_force<'a>(old: &'a [u8], new: &'a [u8]) -> &'a [u8] {
 fn accepted(refusal: u32) -> Result<(), Refusal> {
     match refusal {
         0 => Ok(()),
-        number => Err(Refusal::from_number(number).expect("a number of document 01")),
+        number => Err(Refusal::from_number(number).expect("a number of document 01 or 02")),
     }
+}
+
+/// The part of the buffer that was written.
+fn written(answer: WrittenAnswer, buffer: &[u8]) -> Result<&[u8], Refusal> {
+    accepted(answer.refusal)?;
+    Ok(&buffer[..answer.bytes as usize])
 }
 
 fn kind(number: u32) -> Kind {

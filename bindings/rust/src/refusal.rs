@@ -5,7 +5,7 @@ use std::fmt;
 
 macro_rules! refusals {
     ($($name:ident = $number:literal, $subject:literal, $reason:literal;)*) => {
-        /// A refusal: document 01's number, and its reason in words.
+        /// A refusal: its number in documents 01 and 02, and its reason in words.
         #[derive(Clone, Copy, PartialEq, Eq, PartialOrd, Ord, Hash)]
         pub enum Refusal {
             $(#[doc = concat!($subject, ": ", $reason)] $name = $number,)*
@@ -71,6 +71,8 @@ refusals! {
     MovesNodesDiffer = 41, "carry out", "the N of sheet and moves differ";
     MovesSends = 42, "carry out", "some cell sends in all more than the old sheet gives it";
     SheetBuffer = 43, "carry out", "the buffer is too short";
+    SheetsDiffer = 51, "join sheets", "the N or the t of the two sheets differ";
+    JoinedBuffer = 52, "join sheets", "the buffer is too short";
 }
 
 impl Refusal {
@@ -80,7 +82,7 @@ impl Refusal {
         all.into_iter().find(|refusal| refusal.number() == number)
     }
 
-    /// Document 01's number.
+    /// Its number in documents 01 and 02.
     pub fn number(self) -> u32 {
         self as u32
     }

@@ -1,8 +1,10 @@
-//! The wrapper over the archive: document 01's steps, refusals and parts.
+//! The wrapper over the archive: document 01's steps, refusals and parts, and
+//! document 02's joined sheets.
 
 use firrozka::{
-    carry_out, plan_step, read_moves, read_plan, read_sheet, to_bytes, tree_in_force, weigh, Cell,
-    Kind, Move, Refusal, Step, Words, LEAST_BYTES, MOVES_BYTES, NO_PLAN, PLAN_BYTES, SHEET_BYTES,
+    carry_out, join_sheets, plan_step, read_moves, read_plan, read_sheet, to_bytes, tree_in_force,
+    weigh, Cell, Kind, Move, Refusal, Step, Words, LEAST_BYTES, MOVES_BYTES, NO_PLAN, PLAN_BYTES,
+    SHEET_BYTES,
 };
 use std::thread;
 
@@ -10,6 +12,13 @@ use std::thread;
 const SHEET: [u32; 9] = [3, 100, 3, 0, 65, 130, 90, 6, 4];
 const PLAN: [u32; 9] = [3, 2, 36, 0, 0, 0, 0, 27, 29];
 const MOVES: [u32; 6] = [3, 2, 1, 2, 27, 29];
+
+/// What the gas inlet injects at node 0: 17 of subdomain 0, 3 of subdomain 1.
+const INLET: [u32; 7] = [3, 100, 2, 0, 1, 17, 3];
+
+/// Step D's sheet and the inlet's, joined.
+const JOINED: [u32; 11] = [3, 100, 4, 0, 1, 65, 130, 107, 3, 6, 4];
+const JOINED_BYTES: usize = 44;
 
 struct Buffers {
     plan: [u8; PLAN_BYTES],
@@ -196,6 +205,48 @@ fn refusals_leave_the_buffers_untouched() {
         carry_out(&sheet, &too_many, &mut []),
         Err(Refusal::MovesSends)
     );
+}
+
+#[test]
+fn two_sheets_are_joined() -> Result<(), Refusal> {
+    let [sheet, inlet, joined] = [&SHEET[..], &INLET, &JOINED].map(to_bytes);
+    let mut out = [0xa5; SHEET_BYTES];
+    assert_eq!(join_sheets(&sheet, &inlet, &mut out)?, joined);
+    assert_eq!(out[JOINED_BYTES..], [0xa5; SHEET_BYTES - JOINED_BYTES]);
+    // In the other order, into a buffer of just this length.
+    let mut out = [0xa5; JOINED_BYTES];
+    assert_eq!(join_sheets(&inlet, &sheet, &mut out)?, joined);
+    let none = to_bytes(&[3, 100, 0]);
+    assert_eq!(join_sheets(&sheet, &none, &mut out)?, sheet);
+    let rest = to_bytes(&[3, 100, 1, 0, 999_999_900]);
+    let most = read_sheet(join_sheets(&sheet, &rest, &mut out)?)?;
+    assert_eq!(most.p, 1_000_000_000);
+    Ok(())
+}
+
+#[test]
+fn sheets_that_are_not_joined_leave_the_buffer_untouched() {
+    let (sheet, inlet) = (to_bytes(&SHEET), to_bytes(&INLET));
+    let cut = &inlet[..inlet.len() - 1];
+    let other_nodes = to_bytes(&[2, 100, 0]);
+    let too_many = to_bytes(&[3, 100, 2, 0, 1, 17, 999_999_884]);
+    let other_tolerance = to_bytes(&[3, 35, 2, 0, 1, 17, 999_999_884]);
+    // In the order of the checks; the buffer is a byte too short throughout.
+    let cases: [(&[u8], &[u8], Refusal); 6] = [
+        (cut, &[], Refusal::SheetLength),
+        (&sheet, &[], Refusal::SheetShort),
+        (&sheet, &other_nodes, Refusal::SheetsDiffer),
+        (&sheet, &other_tolerance, Refusal::SheetsDiffer),
+        (&sheet, &too_many, Refusal::SheetCount),
+        (&sheet, &inlet, Refusal::JoinedBuffer),
+    ];
+    for (first, second, refusal) in cases {
+        let mut out = [0xa5; JOINED_BYTES - 1];
+        assert_eq!(join_sheets(first, second, &mut out), Err(refusal));
+        assert_eq!(out, [0xa5; JOINED_BYTES - 1]);
+    }
+    // Each sheet by itself is accepted, so this 7 is that of the joint total.
+    assert!(read_sheet(&sheet).is_ok() && read_sheet(&too_many).is_ok());
 }
 
 /// The stack that docs/USING.md asks for.

@@ -2,6 +2,7 @@
 
 use firrozka::ffi::PartAnswer;
 use firrozka::{version, Refusal, LEAST_BYTES, MOVES_BYTES, PLAN_BYTES, SHEET_BYTES, VERSION};
+use std::collections::BTreeSet;
 use std::fs;
 
 /// A file of this repository.
@@ -79,6 +80,30 @@ fn the_python_module_has_the_refusals() {
     });
 }
 
+/// The functions `firrozka_...` that a file names: a bracket follows.
+fn functions(name: &str) -> BTreeSet<String> {
+    let text = file(name);
+    let called = text.split("firrozka_").skip(1).filter_map(|rest| {
+        let (function, _) = rest.split_once('(')?;
+        let is_name = function.chars().all(|c| c.is_alphanumeric() || c == '_');
+        is_name.then(|| String::from(function))
+    });
+    called.collect()
+}
+
+#[test]
+fn all_have_the_functions() {
+    let all = functions("include/firrozka.h");
+    for name in ["bindings/rust/src/ffi.rs", "bindings/fortran/firrozka.f90"] {
+        assert_eq!(functions(name), all, "{name}");
+    }
+    let python = part("bindings/python/firrozka.py", "_FUNCTIONS = {", "}");
+    for function in &all {
+        assert!(python.contains(&format!("\"{function}\": (")), "{function}");
+    }
+    assert_eq!(python.matches(": (").count(), all.len());
+}
+
 #[test]
 fn all_have_the_sizes_of_buffers() {
     let sizes = [
@@ -100,7 +125,7 @@ fn all_have_the_sizes_of_buffers() {
 }
 
 /// The archive, the definition that it is proved against, the header, the
-/// wrappers and the newest heading of the change log.
+/// wrappers, what cargo locked, and the newest heading of the change log.
 #[test]
 fn all_have_the_version() {
     assert_eq!(version(), VERSION);
@@ -126,6 +151,10 @@ fn all_have_the_version() {
     let cargo = format!("\"{major}.{minor}.0\"");
     for name in ["bindings/rust/Cargo.toml", "tools/Cargo.toml"] {
         has(name, "\nversion =", "\n", cargo.clone());
+    }
+    for folder in ["bindings/rust", "tools", "tests"] {
+        let name = format!("{folder}/Cargo.lock");
+        has(&name, "\"firrozka\"\nversion =", "\n", cargo.clone());
     }
 }
 
