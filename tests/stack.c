@@ -55,6 +55,7 @@ static void read_plan(void) { firrozka_read_plan(old, sizeof old); }
 static void read_moves(void) { firrozka_read_moves(moves, moves_len); }
 static void weigh(void) { firrozka_weigh(sheet, sizeof sheet, old, sizeof old, least, sizeof least); }
 static void carry_out(void) { firrozka_carry_out(sheet, sizeof sheet, moves, moves_len, next, sizeof next); }
+static void join_sheets(void) { firrozka_join_sheets(sheet, sizeof sheet, sheet, sizeof sheet, next, sizeof next); }
 static void tree_in_force(void) { firrozka_tree_in_force(old, sizeof old, plan, sizeof plan); }
 
 static void plan_with(size_t old_len)
@@ -106,6 +107,7 @@ int main(void)
     expect(FIRROZKA_KEPT);
     measure("weigh", weigh);
     measure("carry out", carry_out);
+    measure("join sheets", join_sheets);
     measure("read sheet", read_sheet);
     measure("read plan", read_plan);
     measure("read moves", read_moves);

@@ -9,7 +9,8 @@ pub const NODES: RangeInclusive<u32> = 1..=64;
 /// "t in the sheet counts tenths of a percent, 1 to 999".
 pub const TOLERANCE: RangeInclusive<u32> = 1..=999;
 
-/// "the total P is at most 1,000,000,000"; also the most that one move carries.
+/// "the total P is at most 1,000,000,000"; also the most that one move carries,
+/// and "the maximum" of a joint total.
 pub const MOST_PARTICLES: u32 = 1_000_000_000;
 
 /// "14 allows up to 1,999,000,000".

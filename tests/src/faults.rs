@@ -19,7 +19,7 @@ pub const OF_MOVES: [u32; 6] = [31, 32, 33, 34, 35, 36];
 
 /// The pairs of faults that cannot come together, with the reason. All other
 /// pairs of one operation can, and a run has to meet them.
-pub const IMPOSSIBLE: [(u32, u32, &str); 14] = [
+pub const IMPOSSIBLE: [(u32, u32, &str); 19] = [
     (1, 4, "E ends at byte 12"),
     (1, 5, "E, from which the length follows, ends at byte 12"),
     (1, 6, "the first cell begins at byte 12"),
@@ -34,6 +34,19 @@ pub const IMPOSSIBLE: [(u32, u32, &str); 14] = [
     (31, 36, "the counts begin at byte 8 or later"),
     (13, 24, "kind 0 goes with any N"),
     (31, 42, "no send ends before byte 16"),
+    (101, 104, "E ends at byte 12"),
+    (
+        101,
+        105,
+        "E, from which the length follows, ends at byte 12",
+    ),
+    (101, 106, "the first cell begins at byte 12"),
+    (101, 107, "the counts begin at byte 12 or later"),
+    (
+        101,
+        207,
+        "the first sheet has too many by itself, which is 7",
+    ),
 ];
 
 /// The pairs of these faults that can come together, the smaller first.

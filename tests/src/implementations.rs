@@ -22,7 +22,10 @@ pub const MOVES_BYTES: usize = 4 * (2 + 2 * MOST_NODES * (MOST_NODES - 1));
 
 pub type PlanStep = fn(sheet: &[u8], old: &[u8], plan: &mut [u8], moves: &mut [u8]) -> StepAnswer;
 
-/// Someone who does all seven.
+/// An operation that reads two records and writes one.
+pub type Write = fn(first: &[u8], second: &[u8], out: &mut [u8]) -> WrittenAnswer;
+
+/// Someone who does all eight.
 pub struct Implementation {
     pub name: &'static str,
     pub read_sheet: fn(sheet: &[u8]) -> SheetAnswer,
@@ -31,6 +34,7 @@ pub struct Implementation {
     pub weigh: fn(sheet: &[u8], plan: &[u8], least: &mut [u8]) -> WeighedAnswer,
     pub plan_step: PlanStep,
     pub carry_out: fn(sheet: &[u8], moves: &[u8], next: &mut [u8]) -> WrittenAnswer,
+    pub join_sheets: fn(first: &[u8], second: &[u8], out: &mut [u8]) -> WrittenAnswer,
     pub tree_in_force: fn(old: &[u8], new: &[u8]) -> PartAnswer,
 }
 
@@ -43,6 +47,7 @@ pub const REFERENCE: Implementation = Implementation {
     weigh: reference::weigh,
     plan_step: reference::plan_step,
     carry_out: reference::carry_out,
+    join_sheets: reference::join_sheets,
     tree_in_force: reference::tree_in_force,
 };
 
@@ -55,6 +60,7 @@ pub const ARCHIVE: Implementation = Implementation {
     weigh: boundary::weigh,
     plan_step: boundary::plan_step,
     carry_out: boundary::carry_out,
+    join_sheets: boundary::join_sheets,
     tree_in_force: boundary::tree_in_force,
 };
 
@@ -64,6 +70,7 @@ pub const PLAIN: Implementation = Implementation {
     weigh: plain::weigh,
     plan_step: plain::plan_step,
     carry_out: plain::carry_out,
+    join_sheets: plain::join_sheets,
     ..REFERENCE
 };
 
@@ -119,13 +126,12 @@ impl Implementation {
 
     /// *Carry out* with a buffer that is long enough: the sheet, or the refusal.
     pub fn carried_out(&self, sheet: &[u8], moves: &[u8]) -> Result<Vec<u8>, u32> {
-        let mut next = vec![0; SHEET_BYTES];
-        let answer = (self.carry_out)(sheet, moves, &mut next);
-        next.truncate(answer.bytes as usize);
-        match answer.refusal {
-            0 => Ok(next),
-            refusal => Err(refusal),
-        }
+        written(self.carry_out, sheet, moves)
+    }
+
+    /// *Join sheets* with a buffer that is long enough: the sheet, or the refusal.
+    pub fn joined(&self, first: &[u8], second: &[u8]) -> Result<Vec<u8>, u32> {
+        written(self.join_sheets, first, second)
     }
 
     /// *Weigh* with a buffer that is long enough: the leasts and whether the
@@ -138,5 +144,16 @@ impl Implementation {
         }
         let n = to_words(plan)[0] as usize;
         Ok((to_words(&least[..4 * n]), answer.holds == 1))
+    }
+}
+
+/// The sheet that an operation writes to a buffer that is long enough, or its refusal.
+fn written(write: Write, first: &[u8], second: &[u8]) -> Result<Vec<u8>, u32> {
+    let mut sheet = vec![0; SHEET_BYTES];
+    let answer = write(first, second, &mut sheet);
+    sheet.truncate(answer.bytes as usize);
+    match answer.refusal {
+        0 => Ok(sheet),
+        refusal => Err(refusal),
     }
 }

@@ -1,5 +1,5 @@
 //! The tests of Firrozka from outside: the archive's C boundary beside a
-//! second implementation of document 01, over seeded inputs.
+//! second implementation of documents 01 and 02, over seeded inputs.
 //!
 //! | module | what it holds |
 //! |---|---|
@@ -14,6 +14,7 @@
 //! | `records` | valid records, fault injection and mutations |
 //! | `coverage` | which refusals and pairs of faults a run has met |
 //! | `guarded` | bytes with guards before and behind |
+//! | `buffers` | buffers lent by hand |
 //! | `steps` | seeded whole steps |
 //! | `worked` | the steps that document 01 works by hand |
 //! | `implementations` | who does the operations, side by side |
@@ -32,6 +33,7 @@
 pub mod answers;
 pub mod bench_text;
 pub mod bounds;
+pub mod buffers;
 pub mod calls;
 pub mod cases;
 pub mod coverage;

@@ -19,3 +19,8 @@ pub fn plan_step(sheet: &[u8], old: &[u8], plan: &mut [u8], moves: &mut [u8]) ->
 pub fn carry_out(sheet: &[u8], moves: &[u8], next: &mut [u8]) -> WrittenAnswer {
     firrozka_plain::carry_out(sheet, moves, next).map_or_else(Answer::refused, answers::written)
 }
+
+/// *Join sheets*, as the baseline does it.
+pub fn join_sheets(first: &[u8], second: &[u8], out: &mut [u8]) -> WrittenAnswer {
+    firrozka_plain::join_sheets(first, second, out).map_or_else(Answer::refused, answers::written)
+}

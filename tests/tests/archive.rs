@@ -6,7 +6,7 @@
 //! inputs for each operation. The tally is printed with `-- --nocapture`.
 #![forbid(unsafe_code)]
 
-use firrozka_tests::calls::{CARRY_OUT, PLAN_STEP, TREE_IN_FORCE, WEIGH};
+use firrozka_tests::calls::{CARRY_OUT, JOIN_SHEETS, PLAN_STEP, TREE_IN_FORCE, WEIGH};
 
 const ROUNDS: usize = 8_000;
 
@@ -23,6 +23,11 @@ fn plan_step() {
 #[test]
 fn carry_out() {
     CARRY_OUT.test(ROUNDS);
+}
+
+#[test]
+fn join_sheets() {
+    JOIN_SHEETS.test(ROUNDS);
 }
 
 #[test]

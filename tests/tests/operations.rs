@@ -3,9 +3,8 @@
 //! bound; and nothing written behind the record.
 #![forbid(unsafe_code)]
 
-use firrozka_tests::answers::{
-    helpands, PartAnswer, StepAnswer, WeighedAnswer, WrittenAnswer, NOTHING,
-};
+use firrozka_tests::answers::{helpands, PartAnswer, StepAnswer, WeighedAnswer, NOTHING};
+use firrozka_tests::buffers::{all_refuse, all_write, buffer, untouched};
 use firrozka_tests::implementations::IMPLEMENTATIONS;
 use firrozka_tests::records::moves::{moves, route};
 use firrozka_tests::records::plans::plan;
@@ -14,17 +13,6 @@ use firrozka_tests::records::{shown, to_words};
 use firrozka_tests::settings::SEED;
 use firrozka_tests::steps::{self, Size, Step};
 use firrozka_tests::{refused, worked};
-
-/// What untouched bytes look like.
-const FILL: u8 = 0xa5;
-
-fn buffer(length: usize) -> Vec<u8> {
-    vec![FILL; length]
-}
-
-fn untouched(buffer: &[u8]) -> bool {
-    buffer.iter().all(|&byte| byte == FILL)
-}
 
 /// Some steps to try everything on.
 fn some_steps() -> Vec<Step> {
@@ -214,15 +202,7 @@ fn plan_step_buffers() {
 // Carry out.
 
 fn carry_out_refuses(sheet: &[u8], moves: &[u8], lengths: &[usize], refusal: u32) {
-    for implementation in IMPLEMENTATIONS {
-        for &length in lengths {
-            let mut next = buffer(length);
-            let answer = (implementation.carry_out)(sheet, moves, &mut next);
-            let expected = WrittenAnswer { refusal, bytes: 0 };
-            assert_eq!(answer, expected, "{}", implementation.name);
-            assert!(untouched(&next));
-        }
-    }
+    all_refuse(|by| by.carry_out, [sheet, moves], lengths, refusal);
 }
 
 /// "Refused: the sheet's; the moves'; 41, N differ; 42, some cell sends in all
@@ -303,16 +283,8 @@ fn carry_out_writes() {
             let planned = implementation.plan(&step);
             let next = implementation.carried_out(&step.sheet, &planned.moves);
             let next = next.expect("accepted");
-            let length = next.len();
-            carry_out_refuses(&step.sheet, &planned.moves, &[0, 11, length - 1], 43);
-            for more in [0, 1, 50] {
-                let mut bytes = buffer(length + more);
-                let answer = (implementation.carry_out)(&step.sheet, &planned.moves, &mut bytes);
-                let bytes_written = length as u32;
-                assert_eq!((answer.refusal, answer.bytes), (0, bytes_written));
-                assert_eq!(bytes[..length], next);
-                assert!(untouched(&bytes[length..]));
-            }
+            let records = [&step.sheet[..], &planned.moves];
+            all_write(|by| by.carry_out, records, &next, 43);
             // With no moves the sheet stays as it is.
             let n = to_words(&step.sheet)[0];
             let rest = moves(n, &[], &[]).bytes();

@@ -26,6 +26,8 @@ struct Archive {
     weigh: AtomicPtr<c_void>,
     plan_step: AtomicPtr<c_void>,
     carry_out: AtomicPtr<c_void>,
+    /// Nowhere in an archive from before request 2026-02.
+    join_sheets: AtomicPtr<c_void>,
 }
 
 impl Archive {
@@ -36,6 +38,7 @@ impl Archive {
             weigh: AtomicPtr::new(ptr::null_mut()),
             plan_step: AtomicPtr::new(ptr::null_mut()),
             carry_out: AtomicPtr::new(ptr::null_mut()),
+            join_sheets: AtomicPtr::new(ptr::null_mut()),
         }
     }
 }
@@ -44,7 +47,7 @@ static PLACES: [Archive; 2] = [Archive::none(), Archive::none()];
 
 type Version = extern "C" fn() -> u32;
 type Weigh = extern "C" fn(*const u8, usize, *const u8, usize, *mut u8, usize) -> WeighedAnswer;
-type CarryOut = extern "C" fn(*const u8, usize, *const u8, usize, *mut u8, usize) -> WrittenAnswer;
+type Write = extern "C" fn(*const u8, usize, *const u8, usize, *mut u8, usize) -> WrittenAnswer;
 type PlanStep =
     extern "C" fn(*const u8, usize, *const u8, usize, *mut u8, usize, *mut u8, usize) -> StepAnswer;
 
@@ -56,6 +59,11 @@ pub fn load(file: &Path, place: usize) -> Result<(), String> {
     if object.is_null() {
         return Err(reason());
     }
+    let find = |name| {
+        let name = text(name);
+        // SAFETY: the object was just opened, and nothing closes it; the name ends with 0.
+        unsafe { dlsym(object, name.as_ptr()) }
+    };
     let archive = &PLACES[place];
     for (function, name) in [
         (&archive.version, "firrozka_version"),
@@ -63,14 +71,14 @@ pub fn load(file: &Path, place: usize) -> Result<(), String> {
         (&archive.plan_step, "firrozka_plan_step"),
         (&archive.carry_out, "firrozka_carry_out"),
     ] {
-        let name = text(name);
-        // SAFETY: the object was just opened, and nothing closes it; the name ends with 0.
-        let found = unsafe { dlsym(object, name.as_ptr()) };
+        let found = find(name);
         if found.is_null() {
             return Err(reason());
         }
         function.store(found, Ordering::Relaxed);
     }
+    let join_sheets = find("firrozka_join_sheets");
+    archive.join_sheets.store(join_sheets, Ordering::Relaxed);
     Ok(())
 }
 
@@ -86,11 +94,16 @@ fn reason() -> String {
         .into_owned()
 }
 
-/// The address of a function, once its archive is loaded.
+/// The address of a function, once an archive that has it is loaded.
 fn loaded(function: &AtomicPtr<c_void>) -> *mut c_void {
     let found = function.load(Ordering::Relaxed);
-    assert!(!found.is_null(), "no archive was loaded");
+    assert!(!found.is_null(), "no archive that has it was loaded");
     found
+}
+
+/// Whether the archive at this place has *join sheets*.
+pub fn has_join_sheets(place: usize) -> bool {
+    !PLACES[place].join_sheets.load(Ordering::Relaxed).is_null()
 }
 
 /// The version of the archive at this place.
@@ -137,14 +150,33 @@ pub fn plan_step<const PLACE: usize>(
 
 /// *Carry out*, as the archive at this place does it.
 pub fn carry_out<const PLACE: usize>(sheet: &[u8], moves: &[u8], next: &mut [u8]) -> WrittenAnswer {
-    // SAFETY: what has this name in an archive has this type.
-    let carry_out: CarryOut = unsafe { mem::transmute(loaded(&PLACES[PLACE].carry_out)) };
-    carry_out(
-        sheet.as_ptr(),
-        sheet.len(),
-        moves.as_ptr(),
-        moves.len(),
-        next.as_mut_ptr(),
-        next.len(),
+    write(&PLACES[PLACE].carry_out, sheet, moves, next)
+}
+
+/// *Join sheets*, as the archive at this place does it.
+pub fn join_sheets<const PLACE: usize>(
+    first: &[u8],
+    second: &[u8],
+    out: &mut [u8],
+) -> WrittenAnswer {
+    write(&PLACES[PLACE].join_sheets, first, second, out)
+}
+
+/// Calls a function that reads two records and writes one.
+fn write(
+    function: &AtomicPtr<c_void>,
+    first: &[u8],
+    second: &[u8],
+    out: &mut [u8],
+) -> WrittenAnswer {
+    // SAFETY: both functions that stand here have this type in an archive.
+    let write: Write = unsafe { mem::transmute(loaded(function)) };
+    write(
+        first.as_ptr(),
+        first.len(),
+        second.as_ptr(),
+        second.len(),
+        out.as_mut_ptr(),
+        out.len(),
     )
 }

@@ -1,6 +1,6 @@
-//! Document 01 in plain safe Rust: the benchmark's baseline. Fixed arrays of
-//! 64 and 4,096, one pass where one will do, no memory from the heap; and no
-//! trick that a reader would have to think about.
+//! Documents 01 and 02 in plain safe Rust: the benchmark's baseline. Fixed
+//! arrays of 64 and 4,096, one pass where one will do, no memory from the heap;
+//! and no trick that a reader would have to think about.
 //!
 //! Every operation gives its values, or the refusal.
 #![forbid(unsafe_code)]
@@ -10,7 +10,7 @@ mod records;
 mod transfer;
 mod tree;
 
-use records::{put_record, put_words, read_moves, read_plan, read_sheet, Nodes, Table};
+use records::{put_record, put_words, read_moves, read_plan, read_sheet, Nodes, Sheet, Table};
 
 /// What *plan a step* gives: kind, L and both lengths in bytes.
 pub struct Step {
@@ -91,12 +91,30 @@ pub fn carry_out(sheet_bytes: &[u8], moves_bytes: &[u8], next: &mut [u8]) -> Res
     }
     let mut table: Table = records::unpack(sheet_bytes, sheet.e as usize);
     transfer::apply(&mut table, moves_bytes, moves.e as usize)?;
-    let cells = &table[..64 * sheet.n as usize];
+    write_sheet(&table, &sheet, next).ok_or(43)
+}
+
+/// *Join sheets*: the length in bytes of the sheet with the sums.
+pub fn join_sheets(first_bytes: &[u8], second_bytes: &[u8], out: &mut [u8]) -> Result<u32, u32> {
+    let first = read_sheet(first_bytes)?;
+    let second = read_sheet(second_bytes)?;
+    if first.n != second.n || first.t != second.t {
+        return Err(51);
+    }
+    if first.p + second.p > 1_000_000_000 {
+        return Err(7);
+    }
+    let mut table: Table = records::unpack(first_bytes, first.e as usize);
+    records::add(&mut table, second_bytes, second.e as usize);
+    write_sheet(&table, &first, out).ok_or(52)
+}
+
+/// Writes a table as a sheet with N and t of another, and gives its length in
+/// bytes; nothing if the buffer is too short.
+fn write_sheet(table: &Table, like: &Sheet, out: &mut [u8]) -> Option<u32> {
+    let cells = &table[..64 * like.n as usize];
     let e = cells.iter().filter(|&&count| count != 0).count();
     let bytes = 4 * (3 + 2 * e);
-    if next.len() < bytes {
-        return Err(43);
-    }
-    records::put_sheet(&mut next[..bytes], &[sheet.n, sheet.t, e as u32], cells);
-    Ok(bytes as u32)
+    records::put_sheet(out.get_mut(..bytes)?, &[like.n, like.t, e as u32], cells);
+    Some(bytes as u32)
 }

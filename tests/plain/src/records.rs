@@ -33,7 +33,14 @@ fn word(bytes: &[u8], index: usize) -> u32 {
 /// `count` words from the word `from` on.
 pub fn words(bytes: &[u8], from: usize, count: usize) -> impl Iterator<Item = u32> + '_ {
     let words = bytes[4 * from..4 * (from + count)].chunks_exact(4);
-    words.map(|word| u32::from_le_bytes([word[0], word[1], word[2], word[3]]))
+    words.map(|bytes| word(bytes, 0))
+}
+
+/// The entries of two parallel arrays of `count` words, from the word `from` on.
+pub fn entries(bytes: &[u8], from: usize, count: usize) -> impl Iterator<Item = (u32, u32)> + '_ {
+    let (first, second) = bytes[4 * from..4 * (from + 2 * count)].split_at(4 * count);
+    let pairs = first.chunks_exact(4).zip(second.chunks_exact(4));
+    pairs.map(|(a, b)| (word(a, 0), word(b, 0)))
 }
 
 pub fn read_sheet(bytes: &[u8]) -> Result<Sheet, u32> {
@@ -167,10 +174,15 @@ pub fn read_moves(bytes: &[u8]) -> Result<Moves, u32> {
 /// The table of an accepted sheet.
 pub fn unpack(bytes: &[u8], e: usize) -> Table {
     let mut table = [0; 4096];
-    for (cell, count) in words(bytes, 3, e).zip(words(bytes, 3 + e, e)) {
-        table[cell as usize] = count;
-    }
+    add(&mut table, bytes, e);
     table
+}
+
+/// Adds the counts of an accepted sheet to a table.
+pub fn add(table: &mut Table, bytes: &[u8], e: usize) {
+    for (cell, count) in entries(bytes, 3, e) {
+        table[cell as usize] += count;
+    }
 }
 
 /// Writes words to the front of a buffer that is long enough.

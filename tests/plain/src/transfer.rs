@@ -1,7 +1,7 @@
 //! Moves: found, and applied.
 
 use crate::deciding::Decision;
-use crate::records::{words, Nodes, Table};
+use crate::records::{entries, Nodes, Table};
 
 /// Writes the moves to the front of two arrays, and gives their number.
 pub fn moves(
@@ -111,7 +111,7 @@ fn match_up(
 /// Applies accepted moves to a table, or refuses with 42.
 pub fn apply(table: &mut Table, moves: &[u8], e: usize) -> Result<(), u32> {
     let mut received = [0; 4096];
-    for (route, count) in words(moves, 2, e).zip(words(moves, 2 + e, e)) {
+    for (route, count) in entries(moves, 2, e) {
         let (subdomain, sender, receiver) = (route / 4096, route / 64 % 64, route % 64);
         let left = &mut table[(64 * sender + subdomain) as usize];
         if *left < count {

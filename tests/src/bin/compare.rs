@@ -1,12 +1,13 @@
 //! `compare EARLIER.a LATER.a [WORD...]` times two archives in turn, at 64
 //! nodes: microseconds for one call of each, and the ratio of later to earlier,
 //! all of them medians of five runs, and the smallest and the largest ratio.
-//! WORDs choose the rows that have them all. FIRROZKA_RUNS and FIRROZKA_SAMPLES
-//! give other numbers of runs and of samples. It needs a C compiler to link.
+//! WORDs choose the rows that have them all. Rows of an operation that one of the
+//! archives lacks are left out. FIRROZKA_RUNS and FIRROZKA_SAMPLES give other
+//! numbers of runs and of samples. It needs a C compiler to link.
 #![forbid(unsafe_code)]
 
 use firrozka_tests::settings::setting;
-use firrozka_tests::speed::compared::{agree, compare, median};
+use firrozka_tests::speed::compared::{agree, compare, in_both, median};
 use firrozka_tests::speed::table::{rows, Row};
 use std::path::Path;
 use std::{env, process};
@@ -19,8 +20,9 @@ fn main() {
     };
     let words: Vec<String> = words.collect();
     let chosen = |row: &Row| words.iter().all(|word| row.name().contains(word));
-    let rows: Vec<Row> = rows().into_iter().filter(chosen).collect();
+    let chosen: Vec<Row> = rows().into_iter().filter(chosen).collect();
     let archives = [Path::new(&earlier), Path::new(&later)];
+    let rows = in_both(archives, &chosen).unwrap_or_else(|error| stop(&error));
     let samples = setting("FIRROZKA_SAMPLES", 51);
 
     let mut times = vec![Vec::new(); rows.len()];
@@ -32,6 +34,10 @@ fn main() {
             .for_each(|(row, time)| row.push(time));
     }
     print(&rows, &times);
+    if rows.len() < chosen.len() {
+        let fewer = chosen.len() - rows.len();
+        println!("{fewer} rows are left out, of an operation that not both archives have");
+    }
 }
 
 /// A line for each row, and the largest median.

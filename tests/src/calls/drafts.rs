@@ -2,6 +2,7 @@
 //! fault that they can have.
 
 use super::{Call, Operation};
+use crate::bounds::{MOST_PARTICLES, NODES, TOLERANCE};
 use crate::implementations::REFERENCE;
 use crate::random::Random;
 use crate::records::mutation::{mutate, mutate_once};
@@ -115,11 +116,12 @@ impl Draft {
         let short = random.one_of(&[Room::Empty, Room::OneShort]);
         match fault {
             1..=7 => sheets::inject(first, fault, random),
+            101..=107 => sheets::inject(second, fault - 100, random),
             11..=18 => plans::inject(beside_sheet(first, second), fault, random),
             31..=36 => moves::inject(beside_sheet(first, second), fault, random),
             111..=118 => plans::inject(second, fault - 100, random),
             21 | 121 => *second = plans::build(random),
-            22 | 25 | 43 => self.rooms[0] = short,
+            22 | 25 | 43 | 252 => self.rooms[0] = short,
             23 => self.rooms[1] = short,
             24 => *second = roots(second.words[0], random),
             122 => {
@@ -129,6 +131,8 @@ impl Draft {
             123 => *second = tree_plan(1, second.words[0], random),
             41 => *second = moves::build(random),
             42 => send_too_much(first, second, random),
+            151 => make_other(&mut self.records[random.place(2)], random),
+            207 => count_too_many(&mut self.records, random),
             _ => panic!("{fault} is no fault of a call"),
         }
     }
@@ -183,6 +187,25 @@ pub fn carry_out(random: &mut Random) -> Draft {
         }
         _ => sheet_and_moves(&step),
     })
+}
+
+/// Two sheets: a step's sheet in two parts, others that can be joined, or any.
+pub fn join_sheets(random: &mut Random) -> Draft {
+    let mut records = match random.below(8) {
+        0 => [sheets::build(random), sheets::build(random)],
+        1..=3 => {
+            let step = some_step(random);
+            sheets::parted(&step.sheet, |count| {
+                let any = random.between(0, count);
+                random.one_of(&[0, any, any, count])
+            })
+        }
+        _ => sheets::pair(random),
+    };
+    if random.chance(1, 2) {
+        records.reverse();
+    }
+    Draft::new(records)
 }
 
 /// Old and new plan: those of a step, or two with the same helpands, or with
@@ -258,6 +281,30 @@ fn tree_plan(kind: u32, n: u32, random: &mut Random) -> Record {
         2..=64 => plans::over(kind, &plans::tree(n, random), random),
         _ => roots(n, random),
     }
+}
+
+/// Gives a sheet another N, another t, or other words throughout. If it was valid
+/// it stays so.
+fn make_other(sheet: &mut Record, random: &mut Random) {
+    let (n, t) = (sheet.words[0], sheet.words[1]);
+    let (most_n, most_t) = (*NODES.end(), *TOLERANCE.end());
+    match random.below(5) {
+        0 => *sheet = sheets::build(random),
+        1 | 2 if n < most_n => sheet.words[0] = random.between(n + 1, most_n),
+        _ => {
+            let any = random.between(1, most_t);
+            sheet.words[1] = random.one_of(&[t % most_t + 1, any]);
+        }
+    }
+}
+
+/// Has two sheets count one particle too many together, or up to twice as many as
+/// they may.
+fn count_too_many(sheets: &mut [Record; 2], random: &mut Random) {
+    let (least, most) = (MOST_PARTICLES + 1, 2 * MOST_PARTICLES);
+    let any = random.between(least, most);
+    let joint = random.one_of(&[least, least, any, most]);
+    sheets::recount(sheets, joint, random);
 }
 
 /// Moves that a sheet allows: cells send parts of what they have, or all of it,

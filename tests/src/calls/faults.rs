@@ -1,18 +1,19 @@
 //! Every check of an operation looked at on its own, as `crate::faults` does
-//! for the readers. The refusal that document 01 asks for is the smallest
-//! number found, 0 if there is none.
+//! for the readers. The refusal that the papers ask for is the smallest number
+//! found, but for its hundreds, and 0 if there is none.
 
 use super::Call;
+use crate::bounds::MOST_PARTICLES;
 use crate::faults::{holding, moves, plan, sheet, stretch, word_at};
 use crate::records::to_words;
-use std::collections::BTreeMap;
+use std::collections::{BTreeMap, BTreeSet};
 
 /// "Refused: the sheet's; the plan's; 21, their N differ; 24, kind 0; 25,
 /// buffer under 4N bytes."
 pub fn weigh(call: &Call) -> Vec<u32> {
     let [first, second] = &call.records;
     let rest = holding(&[
-        (21, differ(call)),
+        (21, differ(call, 0)),
         (24, kind(second) == Some(0)),
         (25, is_short(call, 0)),
     ]);
@@ -28,7 +29,7 @@ pub fn plan_step(call: &Call) -> Vec<u32> {
         false => plan(second),
     };
     let rest = holding(&[
-        (21, differ(call)),
+        (21, differ(call, 0)),
         (22, is_short(call, 0)),
         (23, is_short(call, 1)),
     ]);
@@ -40,7 +41,7 @@ pub fn plan_step(call: &Call) -> Vec<u32> {
 pub fn carry_out(call: &Call) -> Vec<u32> {
     let [first, second] = &call.records;
     let rest = holding(&[
-        (41, differ(call)),
+        (41, differ(call, 0)),
         (42, sends_too_much(first, second)),
         (43, is_short(call, 0)),
     ]);
@@ -52,18 +53,34 @@ pub fn carry_out(call: &Call) -> Vec<u32> {
 pub fn tree_in_force(call: &Call) -> Vec<u32> {
     let [old, new] = &call.records;
     let kept = kind(new) == Some(1);
-    let of_new = plan(new).into_iter().map(|number| 100 + number).collect();
     let rest = holding(&[
-        (121, differ(call)),
+        (121, differ(call, 0)),
         (122, kept && kind(old) == Some(0)),
         (123, kept && helpands(old) != helpands(new)),
     ]);
-    [plan(old), of_new, rest].concat()
+    [plan(old), of_second(plan(new)), rest].concat()
 }
 
-/// Whether both records have N and these differ.
-fn differ(call: &Call) -> bool {
-    let [a, b] = [0, 1].map(|at| word_at(&to_words(&call.records[at]), 0));
+/// Request 2026-02: "Checks: the first sheet's, the second's, 51 for unequal N or
+/// t, 7 for a joint total above the maximum, 52 for a short buffer."
+pub fn join_sheets(call: &Call) -> Vec<u32> {
+    let [first, second] = &call.records;
+    let rest = holding(&[
+        (151, differ(call, 0) || differ(call, 1)),
+        (207, joint_total(call) > u64::from(MOST_PARTICLES)),
+        (252, is_short(call, 0)),
+    ]);
+    [sheet(first), of_second(sheet(second)), rest].concat()
+}
+
+/// The faults of a second record that is of the same sort as the first.
+fn of_second(faults: Vec<u32>) -> Vec<u32> {
+    faults.into_iter().map(|number| 100 + number).collect()
+}
+
+/// Whether both records have the word at this place and these differ.
+fn differ(call: &Call, place: usize) -> bool {
+    let [a, b] = [0, 1].map(|at| word_at(&to_words(&call.records[at]), place));
     a.zip(b).map_or(false, |(a, b)| a != b)
 }
 
@@ -90,6 +107,20 @@ fn sends_too_much(sheet: &[u8], moves: &[u8]) -> bool {
     }
     let has = |cell: u64| held.get(&cell).copied().unwrap_or(0);
     sent.into_iter().any(|(cell, count)| count > has(cell))
+}
+
+/// The counts of two sheets in all, as far as they are there.
+pub fn joint_total(call: &Call) -> u64 {
+    let [first, second] = [0, 1].map(|at| entries(&call.records[at], 3));
+    first.iter().chain(&second).map(|(_, count)| count).sum()
+}
+
+/// The length of a sheet with each cell that one of two sheets has, as far as
+/// they are there.
+pub fn joint_length(first: &[u8], second: &[u8]) -> usize {
+    let both = [entries(first, 3), entries(second, 3)].concat();
+    let cells: BTreeSet<u64> = both.into_iter().map(|(cell, _)| cell).collect();
+    4 * (3 + 2 * cells.len())
 }
 
 /// The entries of both arrays side by side, behind so many sizes, the last of

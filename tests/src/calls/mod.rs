@@ -1,4 +1,4 @@
-//! The seven operations, seen alike: one record or two are read, up to two
+//! The eight operations, seen alike: one record or two are read, up to two
 //! buffers are lent, and the answer is some words. Then one run serves all.
 //!
 //! | file | what it holds |
@@ -14,7 +14,7 @@ pub mod faults;
 pub mod run;
 
 use crate::answers::{MovesAnswer, PlanAnswer, SheetAnswer};
-use crate::bounds::NODES;
+use crate::bounds::{MOST_PARTICLES, NODES};
 use crate::faults::{self as of_records, word_at, OF_MOVES, OF_PLAN, OF_SHEET};
 use crate::implementations::{Implementation, MOVES_BYTES, PLAN_BYTES, REFERENCE, SHEET_BYTES};
 use crate::random::Random;
@@ -30,7 +30,7 @@ pub struct Call {
     /// How long its buffers are; 0 where it takes none.
     pub lengths: [usize; 2],
     /// How long they have to be. Where the records are refused, so long as the
-    /// shortest record that could be written.
+    /// shortest record that could be written, or longer.
     pub needed: [usize; 2],
 }
 
@@ -219,6 +219,53 @@ pub const CARRY_OUT: Operation = Operation {
     ],
 };
 
+/// Two sheets have refusals 1 to 7, and the joint total has 7 too. Here all have
+/// numbers of their own, which rise in the order of the checks: those of the
+/// second sheet are 100 more, and the rest is 151, 207 and 252.
+pub const JOIN_SHEETS: Operation = Operation {
+    name: "join sheets",
+    checks: &[
+        &OF_SHEET,
+        &[101, 102, 103, 104, 105, 106, 107],
+        &[151, 207, 252],
+    ],
+    answer: |implementation, [first, second], [out, _]| {
+        let answer = (implementation.join_sheets)(first, second, out);
+        vec![answer.refusal, answer.bytes]
+    },
+    needed: |first, second| [faults::joint_length(first, second), 0],
+    faults: faults::join_sheets,
+    records: |step| sheets::parted(&step.sheet, |count| count / 2),
+    build: drafts::join_sheets,
+    corners: &[
+        ("N 1", |call, _| first_word(call) == 1),
+        ("4,096 cells", has_all_cells),
+        ("4,096 cells written", |_, answer| {
+            answer[1] as usize == SHEET_BYTES
+        }),
+        ("a cell of both", |call, answer| {
+            call.records[0].len() + call.records[1].len() > answer[1] as usize + 12
+        }),
+        ("a cell of the first alone", |call, answer| {
+            answer[1] as usize > call.records[1].len()
+        }),
+        ("a cell of the second alone", |call, answer| {
+            answer[1] as usize > call.records[0].len()
+        }),
+        ("no cells in the second", |call, answer| {
+            call.records[1].len() == 12 && answer[1] > 12
+        }),
+        ("no cells in the first", |call, answer| {
+            call.records[0].len() == 12 && answer[1] > 12
+        }),
+        ("no cells in either", |_, answer| answer[1] == 12),
+        ("the largest joint total", |call, _| {
+            faults::joint_total(call) == u64::from(MOST_PARTICLES)
+        }),
+    ],
+    ..CARRY_OUT
+};
+
 /// It has no refusals; what leads to the empty stretch has numbers here. Those
 /// of the old plan are *read plan*'s, those of the new plan 100 more, and the
 /// rest is 121, N differ, 122, kind 1 after kind 0, 123, kind 1 with other
@@ -248,14 +295,15 @@ pub const TREE_IN_FORCE: Operation = Operation {
     ],
 };
 
-/// All seven.
-pub const OPERATIONS: [&Operation; 7] = [
+/// All eight.
+pub const OPERATIONS: [&Operation; 8] = [
     &READ_SHEET,
     &READ_PLAN,
     &READ_MOVES,
     &WEIGH,
     &PLAN_STEP,
     &CARRY_OUT,
+    &JOIN_SHEETS,
     &TREE_IN_FORCE,
 ];
 
@@ -271,10 +319,10 @@ impl Operation {
     }
 }
 
-/// "Checks run in the order written", so the first fault is the answer. "A
-/// refusal's other values are all 0".
+/// "Checks run in the order written", so the first fault is the answer, but for
+/// its hundreds. "A refusal's other values are all 0".
 fn is_first(answer: &[u32], faults: &[u32]) -> bool {
-    let refusal = faults.first().copied().unwrap_or(0);
+    let refusal = faults.first().copied().unwrap_or(0) % 100;
     answer[0] == refusal && (refusal == 0 || answer[1..].iter().all(|&value| value == 0))
 }
 

@@ -31,20 +31,89 @@ pub fn build(random: &mut Random) -> Record {
     let (low, high) = (*TOLERANCE.start(), *TOLERANCE.end());
     let any = random.between(low, high);
     let t = random.one_of(&[low, high, 35, any]);
-    let e = how_many(n * n, random);
-    let places = distinct(e, n * n, random);
-    let cells: Vec<u32> = places.iter().map(|k| cell(k / n, k % n)).collect();
-    sheet(n, t, &cells, &counts(e, random))
+    let cells = some_cells(n, random);
+    let e = cells.len() as u32;
+    let total = some_total(e, random);
+    sheet(n, t, &cells, &counts(e, total, random))
 }
 
-/// Counts of at least 1, with a total from the smallest to the largest.
-fn counts(e: u32, random: &mut Random) -> Vec<u32> {
+/// Two valid sheets of one N and t whose joint total is accepted: with the same
+/// cells, with some in common, with all cells between them, or one with none.
+pub fn pair(random: &mut Random) -> [Record; 2] {
+    let mut first = build(random);
+    let (n, t) = (first.words[0], first.words[1]);
+    let cells = first.first().to_vec();
+    let is_other = |cell: &u32| cells.binary_search(cell).is_err();
+    let more: Vec<u32> = match random.below(8) {
+        0 => Vec::new(),
+        1 => all_cells(n).into_iter().filter(is_other).collect(),
+        2 | 3 => cells,
+        _ => some_cells(n, random),
+    };
+    let second = sheet(n, t, &more, &vec![1; more.len()]);
+    let joint = some_total((first.entries() + more.len()) as u32, random);
+    let mut pair = [first, second];
+    recount(&mut pair, joint, random);
+    pair
+}
+
+/// A sheet as two that it can be joined from: a part of each count, and the rest.
+pub fn parted(bytes: &[u8], part: impl FnMut(u32) -> u32) -> [Record; 2] {
+    let mut whole = of(bytes);
+    let (n, t, cells) = (whole.words[0], whole.words[1], whole.first().to_vec());
+    let counts = whole.second();
+    let parts: Vec<u32> = counts.iter().copied().map(part).collect();
+    let rests = counts.iter().zip(&parts).map(|(count, part)| count - part);
+    let rests: Vec<u32> = rests.collect();
+    [parts, rests].map(|counts| {
+        let held = cells.iter().zip(counts).filter(|&(_, count)| count > 0);
+        let (cells, counts): (Vec<u32>, Vec<u32>) = held.unzip();
+        sheet(n, t, &cells, &counts)
+    })
+}
+
+/// Some of all cells, rising.
+fn some_cells(n: u32, random: &mut Random) -> Vec<u32> {
+    let e = how_many(n * n, random);
+    let places = distinct(e, n * n, random);
+    places.iter().map(|k| cell(k / n, k % n)).collect()
+}
+
+/// A total of so many counts, from the smallest to the largest.
+fn some_total(e: u32, random: &mut Random) -> u32 {
     if e == 0 {
-        return Vec::new();
+        return 0;
     }
     let any = random.between(e, MOST_PARTICLES);
     let few = e + random.below(200);
-    let total = random.one_of(&[e, few, any, MOST_PARTICLES - 1, MOST_PARTICLES]);
+    random.one_of(&[e, few, any, MOST_PARTICLES - 1, MOST_PARTICLES])
+}
+
+/// Gives two sheets other counts, with this joint total. If both have cells,
+/// neither has more than it may have by itself.
+pub fn recount(pair: &mut [Record; 2], joint: u32, random: &mut Random) {
+    let [a, b] = [0, 1].map(|at| pair[at].entries() as u32);
+    let first = match (a, b) {
+        (0, _) => 0,
+        (_, 0) => joint,
+        _ => {
+            let low = a.max(joint.saturating_sub(MOST_PARTICLES));
+            let high = (joint - b).min(MOST_PARTICLES);
+            let any = random.between(low, high);
+            random.one_of(&[low, any, any, high])
+        }
+    };
+    for (record, total) in pair.iter_mut().zip([first, joint - first]) {
+        let counts = counts(record.entries() as u32, total, random);
+        record.second().copy_from_slice(&counts);
+    }
+}
+
+/// Counts of at least 1, with this total.
+fn counts(e: u32, total: u32, random: &mut Random) -> Vec<u32> {
+    if e == 0 {
+        return Vec::new();
+    }
     let even = random.chance(1, 2);
     let mut left = total - e;
     let mut counts = vec![1; e as usize];

@@ -1,5 +1,5 @@
-//! The second implementation of document 01: written from the paper alone,
-//! simple rather than fast. Each file follows its paragraph sentence by
+//! The second implementation of documents 01 and 02: written from the papers
+//! alone, simple rather than fast. Each file follows its paragraph sentence by
 //! sentence. Each record has a file, with `read` for other operations (the
 //! record taken apart, or the refusal), the operation itself on top of it, and
 //! the record written.
@@ -15,7 +15,7 @@
 //! | `keeping` | Shares in a kept tree |
 //! | `rebuilding` | Rebuilding |
 //! | `transfer` | Moves, and the sheet that follows |
-//! | `operations` | Implementation on more than one record |
+//! | `operations` | Operations on more than one record; request 2026-02 |
 
 pub mod deciding;
 pub mod keeping;
@@ -31,6 +31,6 @@ pub mod weighing;
 mod words;
 
 pub use moves::read_moves;
-pub use operations::{carry_out, plan_step, tree_in_force, weigh};
+pub use operations::{carry_out, join_sheets, plan_step, tree_in_force, weigh};
 pub use plan::read_plan;
 pub use sheet::read_sheet;

@@ -8,6 +8,7 @@ use super::weighing::Weighing;
 use super::words::{to_bytes, to_word};
 use super::{deciding, moves, plan, sheet, transfer};
 use crate::answers::{self, Answer, PartAnswer, StepAnswer, WeighedAnswer, WrittenAnswer};
+use crate::bounds::MOST_PARTICLES;
 
 /// *Weigh* "takes sheet and plan, writes N words of least under the sheet's
 /// limit, and says whether the tree holds."
@@ -106,11 +107,32 @@ fn try_carry_out(sheet: &[u8], moves: &[u8], next: &mut [u8]) -> Result<u32, u32
     // "same t"
     let record = table.sheet(sheet.t).bytes();
     // "43, buffer too short"
-    if next.len() < record.len() {
-        return Err(43);
+    written(&record, next).ok_or(43)
+}
+
+/// *Join sheets*, request 2026-02: "two accepted sheets in, one out, every cell
+/// the sum of both." It gives the length in bytes, as *carry out* does.
+pub fn join_sheets(first: &[u8], second: &[u8], out: &mut [u8]) -> WrittenAnswer {
+    try_join_sheets(first, second, out).map_or_else(Answer::refused, answers::written)
+}
+
+fn try_join_sheets(first: &[u8], second: &[u8], out: &mut [u8]) -> Result<u32, u32> {
+    // "the first sheet's, the second's"
+    let first = sheet::read(first)?;
+    let second = sheet::read(second)?;
+    // "51 for unequal N or t"
+    if first.n != second.n || first.t != second.t {
+        return Err(51);
     }
-    store(&record, next);
-    Ok(record.len() as u32)
+    // "7 for a joint total above the maximum"
+    if first.total() + second.total() > MOST_PARTICLES {
+        return Err(7);
+    }
+    // "every cell the sum of both"
+    let joint = Table::of(&first).plus(&Table::of(&second));
+    let record = joint.sheet(first.t).bytes();
+    // "52 for a short buffer"
+    written(&record, out).ok_or(52)
 }
 
 /// *Tree in force* "takes an old and a new plan. If the new kind is 1, it hands
@@ -133,6 +155,15 @@ pub fn tree_in_force(old: &[u8], new: &[u8]) -> PartAnswer {
         return answers::NOTHING;
     }
     answers::helpands(PartAnswer::OLD, old.n)
+}
+
+/// The record's length, once it is written; nothing if the buffer is too short.
+fn written(record: &[u8], buffer: &mut [u8]) -> Option<u32> {
+    if buffer.len() < record.len() {
+        return None;
+    }
+    store(record, buffer);
+    Some(record.len() as u32)
 }
 
 /// Writes the record at the beginning of a buffer that has room for it, and

@@ -48,6 +48,17 @@ impl Table {
         sheet
     }
 
+    /// "every cell the sum of both", for two of as many nodes.
+    pub fn plus(&self, other: &Table) -> Table {
+        let mut sum = self.clone();
+        for (held, more) in sum.counts.iter_mut().zip(&other.counts) {
+            for (count, more) in held.iter_mut().zip(more) {
+                *count += more;
+            }
+        }
+        sum
+    }
+
     /// N.
     pub fn nodes(&self) -> usize {
         self.counts.len()

@@ -4,7 +4,7 @@
 //! both are linked in each place that functions may have in a line, and a run
 //! is the average over these places.
 
-use super::jobs::Job;
+use super::jobs::{Job, Measured};
 use super::table::Row;
 use super::timing::in_turn;
 use crate::implementations::{Implementation, REFERENCE};
@@ -25,6 +25,7 @@ pub const EARLIER: Implementation = Implementation {
     weigh: loaded::weigh::<0>,
     plan_step: loaded::plan_step::<0>,
     carry_out: loaded::carry_out::<0>,
+    join_sheets: loaded::join_sheets::<0>,
     ..REFERENCE
 };
 
@@ -34,8 +35,19 @@ pub const LATER: Implementation = Implementation {
     weigh: loaded::weigh::<1>,
     plan_step: loaded::plan_step::<1>,
     carry_out: loaded::carry_out::<1>,
+    join_sheets: loaded::join_sheets::<1>,
     ..REFERENCE
 };
+
+/// The rows of operations that both archives have. Before request 2026-02 there
+/// was no *join sheets*.
+pub fn in_both(archives: [&Path; 2], rows: &[Row]) -> Result<Vec<Row>, String> {
+    let folder = Folder::new();
+    load(archives, 0, &folder.0)?;
+    let both_join = [0, 1].into_iter().all(loaded::has_join_sheets);
+    let there = |row: &&Row| both_join || row.measured != Measured::JoinSheets;
+    Ok(rows.iter().filter(there).copied().collect())
+}
 
 /// One run: microseconds for one call of the earlier and of the later archive,
 /// at 64 nodes, for each row: lower quartiles of so many samples, since whatever

@@ -31,23 +31,27 @@ pub enum Outcome {
     Kept(Form),
     /// Rebuilt, with an old tree that does not hold or with none.
     Rebuilt(Option<Form>),
+    /// Primary, and the sheet is joined with another, which is filled so.
+    Joined(Filling),
 }
 
 pub const FILLINGS: [Filling; 2] = [Filling::Dense, Filling::Sparse];
 
-pub const OUTCOMES: [Outcome; 6] = [
+pub const OUTCOMES: [Outcome; 8] = [
     Outcome::Primary,
     Outcome::Kept(Form::Chain),
     Outcome::Kept(Form::Star),
     Outcome::Kept(Form::Random),
     Outcome::Rebuilt(None),
     Outcome::Rebuilt(Some(Form::Random)),
+    Outcome::Joined(Filling::Dense),
+    Outcome::Joined(Filling::Sparse),
 ];
 
 impl Outcome {
     pub fn kind(self) -> u32 {
         match self {
-            Outcome::Primary => 0,
+            Outcome::Primary | Outcome::Joined(_) => 0,
             Outcome::Kept(_) => 1,
             Outcome::Rebuilt(_) => 2,
         }
@@ -56,7 +60,7 @@ impl Outcome {
     /// The form of the old tree, if there is one.
     pub fn form(self) -> Option<Form> {
         match self {
-            Outcome::Primary => None,
+            Outcome::Primary | Outcome::Joined(_) => None,
             Outcome::Kept(form) => Some(form),
             Outcome::Rebuilt(form) => form,
         }
@@ -66,6 +70,7 @@ impl Outcome {
         match (self, self.form()) {
             (Outcome::Primary, _) => "primary".into(),
             (Outcome::Kept(form), _) => format!("kept, {form:?}").to_lowercase(),
+            (Outcome::Joined(filling), _) => format!("with {filling:?}").to_lowercase(),
             (_, Some(_)) => "rebuilt, old tree".into(),
             (_, None) => "rebuilt, no tree".into(),
         }
@@ -89,7 +94,7 @@ fn attempt(n: usize, filling: Filling, outcome: Outcome, random: &mut Random) ->
         None => (0..n as u32).collect(),
     };
     let totals = match outcome {
-        Outcome::Primary => level(n, random),
+        Outcome::Primary | Outcome::Joined(_) => level(n, random),
         Outcome::Kept(_) => divided(&helpands, random),
         Outcome::Rebuilt(_) => uneven(n, random),
     };

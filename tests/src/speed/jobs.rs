@@ -1,7 +1,8 @@
 //! An operation on some inputs, ready to be timed: done by somebody, or as a
 //! mere copy of the bytes that it reads and writes.
 
-use super::inputs::{step, Filling, Outcome};
+use super::inputs::{self, Filling, Outcome};
+use crate::answers::WrittenAnswer;
 use crate::implementations::{Implementation, MOVES_BYTES, PLAN_BYTES, REFERENCE, SHEET_BYTES};
 use crate::random::Random;
 use crate::records::{to_bytes, to_words};
@@ -14,9 +15,15 @@ pub enum Measured {
     PlanStep,
     CarryOut,
     Weigh,
+    JoinSheets,
 }
 
-pub const MEASURED: [Measured; 3] = [Measured::PlanStep, Measured::CarryOut, Measured::Weigh];
+pub const MEASURED: [Measured; 4] = [
+    Measured::PlanStep,
+    Measured::CarryOut,
+    Measured::Weigh,
+    Measured::JoinSheets,
+];
 
 impl Measured {
     pub fn name(self) -> &'static str {
@@ -24,12 +31,18 @@ impl Measured {
             Measured::PlanStep => "plan a step",
             Measured::CarryOut => "carry out",
             Measured::Weigh => "weigh",
+            Measured::JoinSheets => "join sheets",
         }
     }
 
-    /// *Weigh* takes a tree.
+    /// *Weigh* takes a tree, and *join sheets* a second sheet.
     pub fn takes(self, outcome: Outcome) -> bool {
-        self != Measured::Weigh || outcome.form().is_some()
+        let joined = matches!(outcome, Outcome::Joined(_));
+        match self {
+            Measured::PlanStep | Measured::CarryOut => !joined,
+            Measured::Weigh => outcome.form().is_some(),
+            Measured::JoinSheets => joined,
+        }
     }
 }
 
@@ -65,9 +78,10 @@ impl Job {
         let call = |index| {
             let index = if changing { index } else { 0 };
             let mut random = Random::at(n as u64, index as u64);
-            let step = step(n, filling, outcome, &mut random);
-            let second = match measured {
-                Measured::CarryOut => REFERENCE.plan(&step).moves,
+            let step = inputs::step(n, filling, outcome, &mut random);
+            let second = match (measured, outcome) {
+                (Measured::CarryOut, _) => REFERENCE.plan(&step).moves,
+                (_, Outcome::Joined(other)) => inputs::step(n, other, outcome, &mut random).sheet,
                 _ => step.old,
             };
             Call {
@@ -165,15 +179,17 @@ fn one(measured: Measured, by: &Implementation, call: &Call, [a, b]: &mut Buffer
             assert_eq!(answer.refusal, 0);
             [answer.moves_bytes as usize, answer.plan_bytes as usize]
         }
-        Measured::CarryOut => {
-            let answer = (by.carry_out)(sheet, second, a);
-            assert_eq!(answer.refusal, 0);
-            [answer.bytes as usize, 0]
-        }
+        Measured::CarryOut => written((by.carry_out)(sheet, second, a)),
+        Measured::JoinSheets => written((by.join_sheets)(sheet, second, a)),
         Measured::Weigh => {
             let answer = (by.weigh)(sheet, second, a);
             assert_eq!(answer.refusal, 0);
             [second.len() / 2 - 6, 0]
         }
     }
+}
+
+fn written(answer: WrittenAnswer) -> [usize; 2] {
+    assert_eq!(answer.refusal, 0);
+    [answer.bytes as usize, 0]
 }
