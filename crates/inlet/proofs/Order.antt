@@ -61,7 +61,8 @@ join-order f s first second out = split (either (alike f s))
     split (inl e) =
         let total : jointTotal f s ≡ jointTotal s f = omega arith in
         let answers : joinAnswer f s (length out) ≡ joinAnswer s f (length out) =
-        past f s first second (length out) ∙ rw (alike-order f s, total, sheet-order f s e) refl ∙ sym (past s f second first (length out)) in
+        past f s first second (length out) ∙ rw (alike-order f s, total, sheet-order f s e) refl
+        ∙ sym (past s f second first (length out)) in
         (answers, ap₂ (λ (a : WrittenAnswer) (rec : List ℕ). afterCall (a .refusal) rec out) answers (sheet-order f s e))
     split (inr e) =
         let a : joinAnswer f s (length out) ≡ refused 51 = past f s first second (length out) ∙ rw e in

@@ -26,7 +26,8 @@ returns c =
     let f = c .before .before .before in
     let r = c .before .r .given in
     ends-first _ _ _ (refusalNumber (r .0 .0))
-    (ap (λ (x : SheetAnswer). x .refusal) (ap sheetAnswer (sym (r .1)) ∙ f .read-sheet .ensures)) (λ z. omega (arith, number-more (r .0 .0)))
+    (ap (λ (x : SheetAnswer). x .refusal) (ap sheetAnswer (sym (r .1)) ∙ f .read-sheet .ensures))
+    (λ z. omega (arith, number-more (r .0 .0)))
 
 -- it was accepted, and the second was read
 module _ (c : tie.After-read-sheet2) where
@@ -44,7 +45,8 @@ returns-2 c =
     let f = c .before .before .before in
     let r = c .before .r2 .given in
     ends-second _ _ _ (ap (λ (x : SheetAnswer). x .refusal) (first-read f)) (refusalNumber (r .0 .0))
-    (ap (λ (x : SheetAnswer). x .refusal) (ap sheetAnswer (sym (r .1)) ∙ f .read-sheet2 .ensures)) (λ z. omega (arith, number-more (r .0 .0)))
+    (ap (λ (x : SheetAnswer). x .refusal) (ap sheetAnswer (sym (r .1)) ∙ f .read-sheet2 .ensures))
+    (λ z. omega (arith, number-more (r .0 .0)))
 
 join-read-requires : tie.Need-join-read-requires
 join-read-requires c κs =
