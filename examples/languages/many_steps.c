@@ -1,4 +1,5 @@
-/* Twelve steps of a small simulation: each is planned beside the plan of the step before, and carried out. */
+/* Twelve steps of a small simulation: in each the inlet's particles are joined with the resident ones, and the step is planned beside the
+ * plan of the step before and carried out. */
 #include <inttypes.h>
 #include <stdio.h>
 #include <string.h>
@@ -10,7 +11,8 @@ enum { NODES = 5, TOLERANCE = 100, STEPS = 12 };
 /* How many particles of each subdomain each node holds: held[node][subdomain]. */
 static uint32_t held[NODES][NODES];
 
-static uint8_t sheet[FIRROZKA_SHEET_BYTES], next[FIRROZKA_SHEET_BYTES], moves[FIRROZKA_MOVES_BYTES];
+static uint8_t resident[FIRROZKA_SHEET_BYTES], inlet[FIRROZKA_SHEET_BYTES], sheet[FIRROZKA_SHEET_BYTES], next[FIRROZKA_SHEET_BYTES];
+static uint8_t moves[FIRROZKA_MOVES_BYTES];
 static uint8_t plans[2][FIRROZKA_PLAN_BYTES];
 
 /* A word is 4 bytes, low byte first. */
@@ -28,8 +30,8 @@ static uint32_t word(const uint8_t *record, size_t place)
     return value;
 }
 
-/* A quarter of each count crosses into the next subdomain; in steps 3 to 5 the inlet brings 300 to node 0. */
-static void flow(int step)
+/* A quarter of each count crosses into the next subdomain. */
+static void flow(void)
 {
     for (int k = 0; k < NODES; k++) {
         uint32_t crossing[NODES];
@@ -40,26 +42,41 @@ static void flow(int step)
             held[k][(n + 1) % NODES] += crossing[n];
         }
     }
-    if (3 <= step && step <= 5)
-        held[0][0] += 300;
+}
+
+/* Writes the three sizes of a sheet with e cells, and gives its length in bytes. */
+static size_t put_sizes(uint8_t *record, uint32_t e)
+{
+    put_word(record, 0, NODES);
+    put_word(record, 1, TOLERANCE);
+    put_word(record, 2, e);
+    return 4 * (3 + 2 * (size_t)e);
 }
 
 /* Writes the counts as a sheet, and gives its length in bytes. */
-static size_t write_sheet(void)
+static size_t write_resident(void)
 {
     uint32_t cells[NODES * NODES], e = 0;
     for (uint32_t k = 0; k < NODES; k++)
         for (uint32_t n = 0; n < NODES; n++)
             if (held[k][n] > 0)
                 cells[e++] = 64 * k + n;
-    put_word(sheet, 0, NODES);
-    put_word(sheet, 1, TOLERANCE);
-    put_word(sheet, 2, e);
     for (uint32_t i = 0; i < e; i++) {
-        put_word(sheet, 3 + i, cells[i]);
-        put_word(sheet, 3 + e + i, held[cells[i] / 64][cells[i] % 64]);
+        put_word(resident, 3 + i, cells[i]);
+        put_word(resident, 3 + e + i, held[cells[i] / 64][cells[i] % 64]);
     }
-    return 4 * (3 + 2 * (size_t)e);
+    return put_sizes(resident, e);
+}
+
+/* The same of what the inlet brings: 300 particles of subdomain 0 to node 0 in steps 3 to 5, and else none. */
+static size_t write_inlet(int step)
+{
+    int open = 3 <= step && step <= 5;
+    if (open) {
+        put_word(inlet, 3, 0);
+        put_word(inlet, 4, 300);
+    }
+    return put_sizes(inlet, open);
 }
 
 /* Takes the counts from a sheet. A cell that is absent counts as 0. */
@@ -106,15 +123,18 @@ int main(void)
     for (int number = 1; number <= STEPS; number++) {
         /* Two buffers in turn: the plan of this step is the old plan of the next. */
         uint8_t *plan = plans[number % 2], *old_plan = plans[(number + 1) % 2];
-        flow(number);
-        size_t sheet_len = write_sheet();
-        struct firrozka_step step = firrozka_plan_step(sheet, sheet_len, old_plan, old_len, plan, FIRROZKA_PLAN_BYTES,
+        flow();
+        size_t resident_len = write_resident(), inlet_len = write_inlet(number);
+        struct firrozka_written joined = firrozka_join_sheets(resident, resident_len, inlet, inlet_len, sheet, sizeof sheet);
+        if (joined.refusal)
+            return refused(joined.refusal);
+        struct firrozka_step step = firrozka_plan_step(sheet, joined.bytes, old_plan, old_len, plan, FIRROZKA_PLAN_BYTES,
                                                        moves, sizeof moves);
         if (step.refusal)
             return refused(step.refusal);
         print_step(number, step);
         /* Here a simulation sends the particles; the sheet that follows has the counts thereafter. */
-        struct firrozka_written written = firrozka_carry_out(sheet, sheet_len, moves, step.moves_bytes, next, sizeof next);
+        struct firrozka_written written = firrozka_carry_out(sheet, joined.bytes, moves, step.moves_bytes, next, sizeof next);
         if (written.refusal)
             return refused(written.refusal);
         read_counts(next);

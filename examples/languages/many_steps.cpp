@@ -1,4 +1,5 @@
-// Twelve steps of a small simulation: each is planned beside the plan of the step before, and carried out.
+// Twelve steps of a small simulation: in each the inlet's particles are joined with the resident ones, and the step is planned beside the
+// plan of the step before and carried out.
 #include <array>
 #include <cstdint>
 #include <iostream>
@@ -34,8 +35,8 @@ Words to_words(const Bytes &bytes) {
     return words;
 }
 
-// A quarter of each count crosses into the next subdomain; in steps 3 to 5 the inlet brings 300 to node 0.
-void flow(Counts &held, std::uint32_t step) {
+// A quarter of each count crosses into the next subdomain.
+void flow(Counts &held) {
     for (auto &counts : held) {
         const auto before = counts;
         for (std::uint32_t n = 0; n < nodes; ++n) {
@@ -43,7 +44,12 @@ void flow(Counts &held, std::uint32_t step) {
             counts[(n + 1) % nodes] += before[n] / 4;
         }
     }
-    if (3 <= step && step <= 5) held[0][0] += 300;
+}
+
+// What the inlet brings, as a sheet: 300 particles of subdomain 0 to node 0 in steps 3 to 5, and else none.
+Bytes inlet(std::uint32_t step) {
+    if (3 <= step && step <= 5) return to_bytes({nodes, tolerance, 1, 0, 300});
+    return to_bytes({nodes, tolerance, 0});
 }
 
 // The counts as a sheet.
@@ -86,13 +92,13 @@ firrozka_step plan_step(const Bytes &sheet, const Bytes &old_plan, Bytes &plan, 
     return step;
 }
 
-Bytes carry_out(const Bytes &sheet, const Bytes &moves) {
-    Bytes next(FIRROZKA_SHEET_BYTES);
-    const auto written =
-        firrozka_carry_out(sheet.data(), sheet.size(), moves.data(), moves.size(), next.data(), next.size());
+// The sheet that a function makes of two records: join sheets, or carry out.
+Bytes sheet_by(decltype(firrozka_carry_out) function, const Bytes &first, const Bytes &second) {
+    Bytes sheet(FIRROZKA_SHEET_BYTES);
+    const auto written = function(first.data(), first.size(), second.data(), second.size(), sheet.data(), sheet.size());
     accept(written.refusal);
-    next.resize(written.bytes);
-    return next;
+    sheet.resize(written.bytes);
+    return sheet;
 }
 
 int main() {
@@ -100,15 +106,15 @@ int main() {
     for (std::uint32_t k = 0; k < nodes; ++k) held[k][k] = 1000;
     Bytes old_plan, plan, moves; // an empty old plan is none
     for (std::uint32_t number = 1; number <= steps; ++number) {
-        flow(held, number);
-        const auto sheet = sheet_of(held);
+        flow(held);
+        const auto sheet = sheet_by(firrozka_join_sheets, sheet_of(held), inlet(number));
         const auto step = plan_step(sheet, old_plan, plan, moves);
         const auto list = to_words(moves);
         const auto e = list[1];
         std::cout << "step " << number << " kind " << step.kind << " limit " << step.limit << " moves " << e
                   << " particles " << std::accumulate(list.begin() + 2 + e, list.end(), 0u) << '\n';
         // Here a simulation sends the particles; the sheet that follows has the counts thereafter.
-        held = counts_in(carry_out(sheet, moves));
+        held = counts_in(sheet_by(firrozka_carry_out, sheet, moves));
         // Two buffers in turn: the plan of this step is the old plan of the next.
         std::swap(old_plan, plan);
     }

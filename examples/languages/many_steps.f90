@@ -1,4 +1,5 @@
-! Twelve steps of a small simulation: each is planned beside the plan of the step before, and carried out.
+! Twelve steps of a small simulation: in each the inlet's particles are joined with the resident ones, and the step is planned beside the
+! plan of the step before and carried out.
 program many_steps
     use, intrinsic :: iso_c_binding, only: c_int8_t, c_int32_t, c_size_t
     use firrozka
@@ -7,11 +8,11 @@ program many_steps
     ! The tolerance is in tenths of a percent.
     integer, parameter :: nodes = 5, tolerance = 100, steps = 12
     integer :: held(0:nodes - 1, 0:nodes - 1) ! how many particles of subdomain n node k holds: held(n, k)
-    integer(c_int8_t), dimension(firrozka_sheet_bytes) :: sheet, next
+    integer(c_int8_t), dimension(firrozka_sheet_bytes) :: resident, inlet, sheet, next
     integer(c_int8_t) :: plans(firrozka_plan_bytes, 2), moves(firrozka_moves_bytes)
-    integer(c_size_t) :: sheet_len, old_len
+    integer(c_size_t) :: resident_len, inlet_len, sheet_len, old_len
     type(firrozka_step) :: step
-    type(firrozka_written) :: written
+    type(firrozka_written) :: joined, written
     integer :: number, old, new, k
 
     held = 0
@@ -22,8 +23,12 @@ program many_steps
     new = 2
     old_len = 0 ! no old plan yet
     do number = 1, steps
-        call flow(number)
-        call write_sheet
+        call flow
+        call write_resident
+        call write_inlet(number)
+        joined = firrozka_join_sheets(resident, resident_len, inlet, inlet_len, sheet, firrozka_sheet_bytes)
+        call accept(joined%refusal)
+        sheet_len = joined%bytes
         step = firrozka_plan_step(sheet, sheet_len, plans(:, old), old_len, &
                                   plans(:, new), firrozka_plan_bytes, moves, firrozka_moves_bytes)
         call accept(step%refusal)
@@ -42,24 +47,41 @@ program many_steps
 
 contains
 
-    ! A quarter of each count crosses into the next subdomain; in steps 3 to 5 the inlet brings 300 to node 0.
-    subroutine flow(number)
-        integer, intent(in) :: number
+    ! A quarter of each count crosses into the next subdomain.
+    subroutine flow
         integer :: crossing(0:nodes - 1, 0:nodes - 1)
 
         crossing = held / 4
         held = held - crossing + cshift(crossing, -1, dim=1)
-        if (3 <= number .and. number <= 5) held(0, 0) = held(0, 0) + 300
     end subroutine
 
     ! Writes the counts as a sheet. Cells rise as the array lies: by node, then by subdomain.
-    subroutine write_sheet
-        integer :: n, k, e
+    subroutine write_resident
+        integer :: n, k
         integer, parameter :: cells(nodes, nodes) = reshape([((64 * k + n, n = 0, nodes - 1), k = 0, nodes - 1)], [nodes, nodes])
 
-        e = count(held > 0)
-        sheet_len = 4 * (3 + 2 * e)
-        sheet(:sheet_len) = words_to_bytes([nodes, tolerance, e, pack(cells, held > 0), pack(held, held > 0)])
+        call write_words([nodes, tolerance, count(held > 0), pack(cells, held > 0), pack(held, held > 0)], resident, resident_len)
+    end subroutine
+
+    ! The same of what the inlet brings: 300 particles of subdomain 0 to node 0 in steps 3 to 5, and else none.
+    subroutine write_inlet(number)
+        integer, intent(in) :: number
+
+        if (3 <= number .and. number <= 5) then
+            call write_words([nodes, tolerance, 1, 0, 300], inlet, inlet_len)
+        else
+            call write_words([nodes, tolerance, 0], inlet, inlet_len)
+        end if
+    end subroutine
+
+    ! Writes the words of a record, and gives its length in bytes.
+    subroutine write_words(words, record, length)
+        integer, intent(in) :: words(:)
+        integer(c_int8_t), intent(inout) :: record(:)
+        integer(c_size_t), intent(out) :: length
+
+        length = 4 * size(words)
+        record(:length) = words_to_bytes(words)
     end subroutine
 
     ! Takes the counts from a sheet. A cell that is absent counts as 0.

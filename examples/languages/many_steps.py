@@ -1,4 +1,5 @@
-"""Twelve steps of a small simulation: each is planned beside the plan of the step before, and carried out."""
+"""Twelve steps of a small simulation: in each the inlet's particles are joined with the resident ones, and the step is planned beside the
+plan of the step before and carried out."""
 
 import firrozka
 
@@ -6,14 +7,17 @@ import firrozka
 NODES, TOLERANCE, STEPS = 5, 100, 12
 
 
-def flow(held, step):
-    """A quarter of each count crosses into the next subdomain; in steps 3 to 5 the inlet brings 300 to node 0."""
+def flow(held):
+    """A quarter of each count crosses into the next subdomain."""
     for counts in held:
         crossing = [count // 4 for count in counts]
         for n in range(NODES):
             counts[n] += crossing[n - 1] - crossing[n]
-    if 3 <= step <= 5:
-        held[0][0] += 300
+
+
+def inlet(step):
+    """What the inlet brings, as a sheet: 300 particles of subdomain 0 to node 0 in steps 3 to 5, and else none."""
+    return firrozka.to_bytes([NODES, TOLERANCE, 1, 0, 300] if 3 <= step <= 5 else [NODES, TOLERANCE, 0])
 
 
 def sheet_of(held):
@@ -34,8 +38,8 @@ def counts_in(sheet):
 held = [[1000 if n == k else 0 for n in range(NODES)] for k in range(NODES)]
 old_plan = None
 for number in range(1, STEPS + 1):
-    flow(held, number)
-    sheet = sheet_of(held)
+    flow(held)
+    sheet = firrozka.join_sheets(sheet_of(held), inlet(number))
     step = firrozka.plan_step(sheet, old_plan)
     moves = firrozka.read_moves(step.moves)
     particles = sum(move.count for move in moves.moves)
