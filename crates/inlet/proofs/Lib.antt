@@ -4,6 +4,7 @@ pub mod Ways
 pub mod Answers
 pub mod ReadBack
 pub mod Order
+pub mod Several
 pub mod Empty
 pub mod Sizes
 pub mod Vectors

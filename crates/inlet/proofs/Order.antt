@@ -16,6 +16,7 @@ use Rattle.words.specs.Buffer.{afterCall}
 use Rattle.words.specs.Answer.{refused, accepted}
 use Rattle.words.specs.declared.WrittenAnswer.{WrittenAnswer}
 use Rattle.sheet.specs.Sheet.{readSheet}
+use Rattle.sheet.specs.Table.{tableIn}
 use Rattle.inlet.specs.Join.{alike, jointTotal, joinedSheet, joinAnswer, joinedAfter}
 use Rattle.inlet.proofs.Tables.{added-order}
 
@@ -37,7 +38,7 @@ sheet-order f s e =
     rw (
       eqb-true (readSheet f .n) (readSheet s .n) (and-left n t e),
       eqb-true (readSheet f .t) (readSheet s .t) (and-right n t e),
-      added-order,
+      added-order (tableIn f) (tableIn s),
     )
 
 -- the checks behind those of the two sheets

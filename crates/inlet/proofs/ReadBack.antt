@@ -129,7 +129,7 @@ module _ {f s : List ℕ} (d : Joinable f s) where
       read-written n₀ t₀ (joinedTable f s) joined-writable
       ∙ ap (λ (p : ℕ). sheetAccepted n₀ t₀ entries p (limitOf p n₀ t₀)) joined-sum
 
-  table-joined : tableIn (joinedSheet f s) ≡ joinedTable f s
+  pub table-joined : tableIn (joinedSheet f s) ≡ joinedTable f s
   unfolding joinedSheet
   table-joined = table-in-written n₀ t₀ (joinedTable f s) joined-writable
 

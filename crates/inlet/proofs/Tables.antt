@@ -1,5 +1,5 @@
--- Laws of the sum of two tables: its cells, its sum, that the order does not matter, and that a table without counts adds nothing.
--- Assumes nothing.
+-- Laws of the sum of two tables: its cells, its sum, that the order does not matter, of three tables neither, and that a table without
+-- counts adds nothing. Assumes nothing.
 use mathlib.Core.Path.{_≡_, refl, sym, ap, ap₂, _∙_}
 use mathlib.Core.List.{List, [], _∷_}
 use Prim.Native.Nat.{ℕ, zero, suc, _+_}
@@ -35,6 +35,14 @@ added-order [] [] = refl
 added-order [] (y ∷ b) = refl
 added-order (x ∷ a) [] = refl
 added-order (x ∷ a) (y ∷ b) = ap₂ (λ (z : ℕ) (zs : List ℕ). z ∷ zs) (omega arith) (added-order a b)
+
+-- THEOREM. Of three, it does not matter which two are added first.
+pub added-three : (a b c : List ℕ) → sumOf (sumOf a b) c ≡ sumOf a (sumOf b c)
+unfolding sumOf
+added-three [] b c = refl
+added-three (x ∷ a) [] c = refl
+added-three (x ∷ a) (y ∷ b) [] = refl
+added-three (x ∷ a) (y ∷ b) (z ∷ c) = ap₂ (λ (w : ℕ) (ws : List ℕ). w ∷ ws) (omega arith) (added-three a b c)
 
 -- ---- tables
 
