@@ -66,8 +66,8 @@ program check
 
 contains
 
-    ! Step D's sheet and that of what the gas inlet injects at node 0, 17 of subdomain 0 and 3 of subdomain 1. Neither 2 nodes nor 3.5
-    ! percent will do; with 999,999,901 particles D's 100 are one too many.
+    ! Step D's sheet and that of what the gas inlet injects at node 0, 17 of subdomain 0 and 3 of subdomain 1. Neither 2 nodes nor
+    ! 3.5 percent will do; with 999,999,901 particles D's 100 are one too many.
     subroutine check_join
         integer(c_int8_t) :: inlet(28), joined(44)
 

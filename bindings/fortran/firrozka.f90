@@ -27,8 +27,8 @@ module firrozka
     ! Which of two plans has the tree in force.
     integer(c_int32_t), parameter, public :: firrozka_old_plan = 1, firrozka_new_plan = 2
 
-    ! Why an operation refuses. Its checks run in the order of its numbers, those of the sheet and of the other record first; only join
-    ! sheets has a 7 behind 51.
+    ! Why an operation refuses. Its checks run in the order of its numbers, those of the sheet and of the other record first; only
+    ! join sheets has a 7 behind 51.
     integer(c_int32_t), parameter, public :: &
         firrozka_accepted = 0, &
         ! sheet

@@ -1,5 +1,5 @@
-! Twelve steps of a small simulation: in each the inlet's particles are joined with the resident ones, and the step is planned beside the
-! plan of the step before and carried out.
+! Twelve steps of a small simulation: in each the inlet's particles are joined with the resident ones, and the step is planned
+! beside the plan of the step before and carried out.
 program many_steps
     use, intrinsic :: iso_c_binding, only: c_int8_t, c_int32_t, c_size_t
     use firrozka
