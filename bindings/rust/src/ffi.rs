@@ -129,6 +129,24 @@ extern "C" {
     ) -> PartAnswer;
 }
 
+/// A function that reads two records and writes to one buffer.
+type Write<A> = unsafe extern "C" fn(*const u8, usize, *const u8, usize, *mut u8, usize) -> A;
+
+fn write<A>(function: Write<A>, first: &[u8], second: &[u8], out: &mut [u8]) -> A {
+    // SAFETY: pointers and lengths are those of slices that outlive the call,
+    // and nobody else has the one that is written.
+    unsafe {
+        function(
+            first.as_ptr(),
+            first.len(),
+            second.as_ptr(),
+            second.len(),
+            out.as_mut_ptr(),
+            out.len(),
+        )
+    }
+}
+
 /// The archive's version, 100 × major + minor.
 pub fn version() -> u32 {
     // SAFETY: nothing is passed.
@@ -155,18 +173,7 @@ pub fn read_moves(moves: &[u8]) -> MovesAnswer {
 
 /// *Weigh*, as the archive does it.
 pub fn weigh(sheet: &[u8], plan: &[u8], least: &mut [u8]) -> WeighedAnswer {
-    // SAFETY: pointers and lengths are those of slices that outlive the call,
-    // and nobody else has the one that is written.
-    unsafe {
-        firrozka_weigh(
-            sheet.as_ptr(),
-            sheet.len(),
-            plan.as_ptr(),
-            plan.len(),
-            least.as_mut_ptr(),
-            least.len(),
-        )
-    }
+    write(firrozka_weigh, sheet, plan, least)
 }
 
 /// *Plan a step*, as the archive does it.
@@ -189,34 +196,12 @@ pub fn plan_step(sheet: &[u8], old: &[u8], plan: &mut [u8], moves: &mut [u8]) ->
 
 /// *Carry out*, as the archive does it.
 pub fn carry_out(sheet: &[u8], moves: &[u8], next: &mut [u8]) -> WrittenAnswer {
-    // SAFETY: pointers and lengths are those of slices that outlive the call,
-    // and nobody else has the one that is written.
-    unsafe {
-        firrozka_carry_out(
-            sheet.as_ptr(),
-            sheet.len(),
-            moves.as_ptr(),
-            moves.len(),
-            next.as_mut_ptr(),
-            next.len(),
-        )
-    }
+    write(firrozka_carry_out, sheet, moves, next)
 }
 
 /// *Join sheets*, as the archive does it.
 pub fn join_sheets(first: &[u8], second: &[u8], out: &mut [u8]) -> WrittenAnswer {
-    // SAFETY: pointers and lengths are those of slices that outlive the call,
-    // and nobody else has the one that is written.
-    unsafe {
-        firrozka_join_sheets(
-            first.as_ptr(),
-            first.len(),
-            second.as_ptr(),
-            second.len(),
-            out.as_mut_ptr(),
-            out.len(),
-        )
-    }
+    write(firrozka_join_sheets, first, second, out)
 }
 
 /// *Tree in force*, as the archive does it.

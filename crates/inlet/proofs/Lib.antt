@@ -1,6 +1,6 @@
 pub mod Tables
 pub mod Adding
-pub mod Ways
+pub mod Checks
 pub mod Answers
 pub mod ReadBack
 pub mod Order

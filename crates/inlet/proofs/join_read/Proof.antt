@@ -13,7 +13,7 @@ use Rattle.sheet.specs.Write.{sheetBytes}
 use Rattle.sheet.proofs.Accepted.{Accepted, sheet-unpackable}
 use Rattle.sheet.proofs.Filled.{length-most}
 use Rattle.inlet.specs.Join.{joinedTable}
-use Rattle.inlet.proofs.Ways.{first-facts, second-facts, addable, joined-is, ends-nodes, ends-tolerance, ends-total, ends-joined, ends-unwritten}
+use Rattle.inlet.proofs.Checks.{first-facts, second-facts, addable, joined-is, ends-nodes, ends-tolerance, ends-total, ends-joined, ends-unwritten}
 use Rattle.inlet.proofs.join_read.Statement.{statement}
 use Rattle.inlet.proofs.join_read.Tie as tie
 

@@ -9,7 +9,7 @@ use Rattle.sheet.specs.declared.SheetAnswer.{SheetAnswer}
 use Rattle.sheet.specs.declared.SheetReading.the-variants as sheet-way
 use Rattle.sheet.specs.Sheet.{readSheet, answerOf as sheetAnswer, refusalNumber}
 use Rattle.sheet.proofs.Answers.{number-more}
-use Rattle.inlet.proofs.Ways.{ends-first, ends-second}
+use Rattle.inlet.proofs.Checks.{ends-first, ends-second}
 use Rattle.inlet.proofs.join_sheets.Statement.{statement}
 use Rattle.inlet.proofs.join_sheets.Tie as tie
 
