@@ -18,9 +18,9 @@
 extern "C" {
 #endif
 
-/* The version, 100 × major + minor: 1.2 is 102. CHANGELOG.md says what each brought. firrozka_version() is the archive's own: where the
+/* The version, 100 × major + minor: 1.3 is 103. CHANGELOG.md says what each brought. firrozka_version() is the archive's own: where the
  * two differ, a program was compiled with the header of another version. */
-#define FIRROZKA_VERSION 102
+#define FIRROZKA_VERSION 103
 uint32_t firrozka_version(void);
 
 /* Buffers of so many bytes are long enough for every call. */

@@ -14,8 +14,8 @@ module firrozka
     public :: firrozka_weigh, firrozka_plan_step, firrozka_carry_out, firrozka_join_sheets, firrozka_tree_in_force
     public :: words_to_bytes, word_at
 
-    ! The version that this module was written for, 100 × major + minor: 1.2 is 102. firrozka_version() is the archive's own.
-    integer(c_int32_t), parameter, public :: firrozka_module_version = 102
+    ! The version that this module was written for, 100 × major + minor: 1.3 is 103. firrozka_version() is the archive's own.
+    integer(c_int32_t), parameter, public :: firrozka_module_version = 103
 
     ! Buffers of so many bytes are long enough for every call.
     integer(c_size_t), parameter, public :: &

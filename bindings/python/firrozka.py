@@ -13,8 +13,8 @@ import struct
 from pathlib import Path
 from typing import NamedTuple
 
-# The version that this module was written for, 100 × major + minor: 1.2 is 102. version() is the archive's own.
-VERSION = 102
+# The version that this module was written for, 100 × major + minor: 1.3 is 103. version() is the archive's own.
+VERSION = 103
 
 # Buffers of so many bytes are long enough for every call.
 SHEET_BYTES = 32780

@@ -2,14 +2,15 @@
 //! document 01 put in another way than in `reference`. Leasts are taken as
 //! *weigh* writes them; tests/rival.rs looks into these by flow.
 
-use crate::division::Division;
+use crate::division::{members, Division};
 use crate::implementations::{Implementation, Planned};
 use crate::reference::moves::{self, Moves};
 use crate::reference::plan::{self, Plan};
 use crate::reference::sheet::{self, Sheet};
 use crate::reference::table::Table;
 use crate::rival::{by_flow, Verdict};
-use crate::steps::Step;
+use crate::settings::SEED;
+use crate::steps::{self, Size, Step};
 
 /// A planned step, its records taken apart.
 pub struct Judged {
@@ -54,6 +55,14 @@ pub fn judge(implementation: &Implementation, step: &Step) -> Result<Judged, Str
     let next = next.map_err(|refusal| format!("carry out refuses with {refusal}"))?;
     judged.carried_out(&next)?;
     Ok(judged)
+}
+
+/// Panics unless something is wrong in some of a few steps that this one plans,
+/// who plans wrong.
+pub fn must_judge(wrong: &Implementation) {
+    let mut steps = (0..500).map(|index| steps::at(SEED, index, Size::Small));
+    let broken = steps.any(|step| judge(wrong, &step).is_err());
+    assert!(broken, "{}: nothing is wrong", wrong.name);
 }
 
 fn ensure(holds: bool, wrong: &str) -> Result<(), String> {
@@ -109,9 +118,29 @@ fn has_rival(helpands: &[u32], totals: &[u64], limit: u64) -> Result<bool, Strin
 
 /// One member of a family and what it has to do with the subdomain.
 struct Member {
-    space: u64,
+    node: usize,
+    /// R for the owner, least for a helper.
+    base: u64,
     holding: u64,
     amount: u64,
+}
+
+impl Member {
+    /// "the smaller of its space and what it already holds"
+    fn keeps(&self, limit: u64) -> u64 {
+        limit.saturating_sub(self.base).min(self.holding)
+    }
+
+    fn standing_load(&self) -> u64 {
+        self.base + self.amount
+    }
+
+    /// Whether this one, who was given a particle, had its turn for the last one
+    /// before another has its turn for one more: it stood lower by then, or as
+    /// low and has the lower number.
+    fn was_before(&self, other: &Member) -> bool {
+        (self.standing_load() - 1, self.node) < (other.standing_load(), other.node)
+    }
 }
 
 impl Judged {
@@ -149,44 +178,43 @@ impl Judged {
     }
 
     /// "Shares in a kept tree", by what must be true at the end: nobody has more
-    /// than its space or less than it keeps, and whoever has more than it keeps
-    /// finds all before it full.
+    /// than its space or less than it keeps, and whoever was given a particle had
+    /// its turn before all who still have space.
     fn kept_shares(&self, leasts: &[u32]) -> Result<(), String> {
+        let limit = self.limit;
         for owner in 0..self.totals.len() {
             let family = self.family(owner, leasts);
-            for (at, member) in family.iter().enumerate() {
-                let keeps = member.space.min(member.holding);
-                let full = |member: &Member| member.amount == member.space;
-                ensure(member.amount <= member.space, "more than the space")?;
+            let with_space = |member: &&Member| member.standing_load() < limit;
+            for member in &family {
+                let keeps = member.keeps(limit);
+                ensure(member.standing_load() <= limit, "more than the space")?;
                 ensure(member.amount >= keeps, "less than what is kept")?;
-                let given = member.amount > keeps;
-                let in_turn = !given || family[..at].iter().all(full);
-                ensure(in_turn, "given before another was full")?;
+                let mut others = family.iter().filter(with_space);
+                let in_turn =
+                    member.amount == keeps || others.all(|other| member.was_before(other));
+                ensure(in_turn, "given before a lower one")?;
             }
         }
         Ok(())
     }
 
-    /// The owner, then its helpers by rising number.
+    /// The members of an owner's family.
     fn family(&self, owner: usize, leasts: &[u32]) -> Vec<Member> {
-        let helpands = &self.plan.helpands;
-        let (own, share) = (&self.division.own, &self.division.share);
-        let holding = |node: usize| self.held.counts[node][owner];
-        let mut family = vec![Member {
-            space: self.limit.saturating_sub(share[owner]),
-            holding: holding(owner),
-            amount: own[owner],
-        }];
-        for node in 0..helpands.len() {
-            if node != owner && helpands[node] as usize == owner {
-                family.push(Member {
-                    space: self.limit.saturating_sub(u64::from(leasts[node])),
-                    holding: holding(node),
-                    amount: share[node],
-                });
-            }
-        }
-        family
+        let Division { own, share } = &self.division;
+        let member = |node: usize| Member {
+            node,
+            base: match node == owner {
+                true => share[node],
+                false => u64::from(leasts[node]),
+            },
+            holding: self.held.counts[node][owner],
+            amount: match node == owner {
+                true => own[node],
+                false => share[node],
+            },
+        };
+        let nodes = members(&self.plan.helpands, &[owner]).into_iter();
+        nodes.map(member).collect()
     }
 
     /// "Moves", by laying all surpluses of a subdomain end to end, and all

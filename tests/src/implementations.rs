@@ -6,6 +6,7 @@ use crate::answers::{
 };
 use crate::bounds::NODES;
 use crate::records::{to_bytes, to_words};
+use crate::reference::keeping::owner_first;
 use crate::steps::Step;
 use crate::{boundary, plain, reference};
 
@@ -80,6 +81,16 @@ pub const IN_PERCENT: Implementation = Implementation {
     weigh: |sheet, plan, least| reference::weigh(&from_percent(sheet), plan, least),
     plan_step: |sheet, old, plan, moves| {
         reference::plan_step(&from_percent(sheet), old, plan, moves)
+    },
+    ..REFERENCE
+};
+
+/// The second implementation as it was before request 2026-03: the rest of a
+/// family goes to the owner first.
+pub const OWNER_FIRST: Implementation = Implementation {
+    name: "the owner first",
+    plan_step: |sheet, old, plan, moves| {
+        reference::plan_step_with(owner_first, [sheet, old], plan, moves)
     },
     ..REFERENCE
 };

@@ -54,10 +54,21 @@ pub fn d() -> Step {
 /// "E: D's plan; subdomain 0 held 30, 27, 30 by nodes 0, 1, 2; node 1 holds 6
 /// of 1; nodes 0 and 2 hold 3 and 4 of 2"
 pub fn e() -> Step {
+    e_held([30, 27, 30])
+}
+
+/// Request 2026-03: "With subdomain 0 held 34, 23, 30 instead".
+pub fn e_levelled() -> Step {
+    e_held([34, 23, 30])
+}
+
+/// Step E with subdomain 0 held so.
+fn e_held(held: [u32; 3]) -> Step {
     let cells = [(0, 0), (0, 2), (1, 0), (1, 1), (2, 0), (2, 2)];
     let cells = cells.map(|(holder, subdomain)| sheets::cell(holder, subdomain));
+    let counts = [held[0], 3, held[1], 6, held[2], 4];
     Step {
-        sheet: sheets::sheet(3, TEN_PERCENT, &cells, &[30, 3, 27, 6, 30, 4]).bytes(),
+        sheet: sheets::sheet(3, TEN_PERCENT, &cells, &counts).bytes(),
         old: d_plan(),
     }
 }

@@ -3,12 +3,13 @@
 #![forbid(unsafe_code)]
 
 use firrozka_tests::calls::{CARRY_OUT, JOIN_SHEETS, PLAN_STEP, WEIGH};
-use firrozka_tests::implementations::{IN_PERCENT, REFERENCE};
+use firrozka_tests::implementations::{IN_PERCENT, OWNER_FIRST, REFERENCE};
 use firrozka_tests::records::plans::Form;
 use firrozka_tests::settings::SEED;
-use firrozka_tests::speed::compared::{agree, compare, in_both, EARLIER, LATER};
+use firrozka_tests::speed::compared::{agree, compare, follows, in_both, EARLIER, LATER};
 use firrozka_tests::speed::inputs::{Filling, Outcome};
 use firrozka_tests::speed::jobs::{Measured, MEASURED};
+use firrozka_tests::speed::kept::Rest;
 use firrozka_tests::speed::table::Row;
 use std::env;
 use std::path::{Path, PathBuf};
@@ -42,7 +43,7 @@ fn some_rows() -> [Row; 4] {
         filling: Filling::Sparse,
         outcome: match measured {
             Measured::JoinSheets => Outcome::Joined(Filling::Sparse),
-            _ => Outcome::Kept(Form::Chain),
+            _ => Outcome::Kept(Form::Chain, Rest::Large),
         },
         changing: true,
     })
@@ -92,6 +93,18 @@ fn sheets_of_another_unit_mean_the_same() {
         // The steps are others if the unit is not looked at.
         let other = written != job.in_percent().written(&REFERENCE);
         assert_eq!(other, row.measured != Measured::CarryOut);
+    }
+}
+
+/// Before version 1.3 the rest of a kept tree's family went to the owner first.
+#[test]
+fn each_version_has_its_rules() {
+    for row in some_rows() {
+        let (job, planned) = (row.job(64), row.measured == Measured::PlanStep);
+        assert!(follows(&job, &OWNER_FIRST, 102));
+        assert!(follows(&job, &REFERENCE, 103));
+        assert_eq!(follows(&job, &REFERENCE, 102), !planned);
+        assert_eq!(follows(&job, &OWNER_FIRST, 103), !planned);
     }
 }
 

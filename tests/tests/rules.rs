@@ -8,7 +8,7 @@ use firrozka_tests::records::plans::plan;
 use firrozka_tests::records::sheets::{cell, sheet};
 use firrozka_tests::records::to_words;
 use firrozka_tests::steps::Step;
-use firrozka_tests::worked::{old, own, ONE_PERCENT, TEN_PERCENT};
+use firrozka_tests::worked::{e_levelled, old, own, ONE_PERCENT, TEN_PERCENT};
 
 /// The step leads to this kind, these helpands and these shares.
 fn leads_to<const N: usize>(step: &Step, kind: u32, helpands: [u32; N], shares: [u32; N]) {
@@ -136,24 +136,145 @@ fn helpers_keep_up_to_their_space() {
     leads_to(&Step { sheet, old }, 1, [0, 0, 1], [0, 32, 26]);
 }
 
-/// "each up to its space": what is kept counts. The owner keeps 20 and has 16
-/// more, node 1 keeps 10 and has the other 12, node 2 is full with 32 of 60.
+/// What a node outside the family holds it does not keep.
+#[test]
+fn other_nodes_keep_nothing() {
+    // Node 2 helps node 1 and holds all of subdomain 0. Node 1's least is 4, so
+    // 4 go to node 0 alone and 28 to each. In subdomain 1, node 1 keeps 36 − 28.
+    let cells = [cell(1, 1), cell(2, 0), cell(2, 2)];
+    let sheet = sheet(3, TEN_PERCENT, &cells, &[30, 60, 10]).bytes();
+    let old = old(&[0, 0, 1]);
+    leads_to(&Step { sheet, old }, 1, [0, 0, 1], [0, 28, 22]);
+}
+
+// Request 2026-03, level filling. Standing loads are "R plus its amount for the
+// owner, and least plus its amount for a helper".
+
+/// "With subdomain 0 held 34, 23, 30 instead, its shares become 0, 24, 29, where
+/// they were 0, 23, 29." Node 2 keeps 36 − 7, and one particle is left. The
+/// standing loads are 34, 6 + 23 and 36.
+#[test]
+fn the_example_of_the_request() {
+    leads_to(&e_levelled(), 1, [0, 0, 0], [0, 24, 29]);
+}
+
+/// What is kept counts. Of 60 node 2 keeps 32 and is full. 28 are left; nodes 0
+/// and 1 stand at 20 and 6 + 10. Node 1 alone gets 4, then both get 12.
 #[test]
 fn the_rest_fills_up() {
     let cells = [cell(0, 0), cell(1, 0), cell(1, 1), cell(2, 0), cell(2, 2)];
     let sheet = sheet(3, TEN_PERCENT, &cells, &[20, 10, 6, 60, 4]).bytes();
     let old = old(&[0, 0, 0]);
-    leads_to(&Step { sheet, old }, 1, [0, 0, 0], [0, 22, 32]);
+    leads_to(&Step { sheet, old }, 1, [0, 0, 0], [0, 26, 32]);
 }
 
-/// What a node outside the family holds it does not keep.
+/// The same family with other numbers: the full member has the lowest, and is
+/// passed over.
 #[test]
-fn other_nodes_keep_nothing() {
-    // Node 2 helps node 1 and holds all of subdomain 0.
-    let cells = [cell(1, 1), cell(2, 0), cell(2, 2)];
-    let sheet = sheet(3, TEN_PERCENT, &cells, &[30, 60, 10]).bytes();
+fn a_full_member_of_the_lowest_number() {
+    let cells = [cell(0, 0), cell(0, 1), cell(1, 1), cell(2, 1), cell(2, 2)];
+    let sheet = sheet(3, TEN_PERCENT, &cells, &[4, 60, 20, 10, 6]).bytes();
+    let old = old(&[1, 1, 1]);
+    leads_to(&Step { sheet, old }, 1, [1, 1, 1], [32, 0, 26]);
+}
+
+/// Four nodes with L 27, given as an owner, its two helpers, and one that helps the
+/// first of these. The owner has 55 particles, and the helpers' leasts are
+/// 20 − (27 − 20) and 5. Together the family comes to 55 + 13 + 5 = 3 × 24 + 1.
+/// The last node holds those of the 55 that the family does not hold.
+fn coming_to_73([owner, first, second, last]: [u32; 4], held: [u32; 3]) -> Step {
+    let mut counts = vec![
+        (cell(owner, owner), held[0]),
+        (cell(first, owner), held[1]),
+        (cell(second, owner), held[2]),
+        (cell(last, owner), 55 - held.iter().sum::<u32>()),
+        (cell(first, first), 20),
+        (cell(second, second), 5),
+        (cell(last, last), 20),
+    ];
+    counts.sort_unstable();
+    let (cells, counts): (Vec<u32>, Vec<u32>) =
+        counts.into_iter().filter(|&(_, count)| count > 0).unzip();
+    let mut helpands = [owner; 4];
+    helpands[last as usize] = first;
+    Step {
+        sheet: sheet(4, TEN_PERCENT, &cells, &counts).bytes(),
+        old: old(&helpands),
+    }
+}
+
+/// The step comes to the same whether all three stand at 24 and one particle is
+/// left, or they have none of the 55, or some.
+fn tie_leads_to(nodes: [u32; 4], helpands: [u32; 4], shares: [u32; 4]) {
+    for held in [[24, 11, 19], [0, 0, 0], [24, 0, 0], [3, 10, 16]] {
+        leads_to(&coming_to_73(nodes, held), 1, helpands, shares);
+    }
+}
+
+/// "lowest node number on ties": the owner has no precedence before a helper of a
+/// lower number. The first helper, with 12 or 11 of the 55, keeps 15 or 16 of its
+/// own 20, and the last node has the others.
+#[test]
+fn a_tie_goes_to_a_helper() {
+    tie_leads_to([1, 0, 2, 3], [1, 1, 1, 0], [12, 0, 19, 5]);
+    tie_leads_to([1, 2, 0, 3], [1, 1, 1, 2], [20, 0, 11, 4]);
+    tie_leads_to([3, 1, 2, 0], [1, 3, 3, 3], [5, 12, 19, 0]);
+}
+
+/// Nor is it last: here it has the lowest number.
+#[test]
+fn a_tie_goes_to_the_owner() {
+    tie_leads_to([0, 1, 2, 3], [0, 0, 0, 1], [0, 11, 19, 4]);
+    tie_leads_to([1, 2, 3, 0], [2, 1, 1, 1], [4, 0, 11, 19]);
+}
+
+/// R counts: node 1 keeps 20 of subdomain 0, so it and node 2, whose least is 20,
+/// stand alike. Of subdomain 1, which node 0 holds, each gets 15.
+#[test]
+fn the_owner_stands_at_its_share() {
+    let cells = [cell(0, 0), cell(0, 1), cell(1, 0), cell(2, 2)];
+    let sheet = sheet(3, TEN_PERCENT, &cells, &[30, 30, 20, 20]).bytes();
     let old = old(&[0, 0, 1]);
-    leads_to(&Step { sheet, old }, 1, [0, 0, 1], [0, 24, 18]);
+    leads_to(&Step { sheet, old }, 1, [0, 0, 1], [0, 20, 15]);
+}
+
+/// Node 3 holds 700 million of subdomain 0 and is not of its family. L is 275
+/// million, and the members' bases are 0, 0 and 100 million. They come to 800
+/// million, which is 3 × 266,666,666 + 2. Then node 1 has 8,333,333 of its own.
+#[test]
+fn a_rest_of_hundreds_of_millions() {
+    let million = 1_000_000;
+    let cells = [cell(1, 1), cell(2, 2), cell(3, 0), cell(3, 3)];
+    let counts = [100, 100, 700, 100].map(|count| count * million);
+    let step = Step {
+        sheet: sheet(4, TEN_PERCENT, &cells, &counts).bytes(),
+        old: old(&[0, 0, 0, 1]),
+    };
+    let shares = [0, 266_666_667, 166_666_666, 91_666_667];
+    leads_to(&step, 1, [0, 0, 0, 1], shares);
+}
+
+/// L is 3, and three members have space for the 9 that node 3 holds.
+#[test]
+fn a_rest_that_fills_all() {
+    let cells = [cell(3, 0), cell(3, 3)];
+    let step = Step {
+        sheet: sheet(4, ONE_PERCENT, &cells, &[9, 3]).bytes(),
+        old: old(&[0, 0, 0, 1]),
+    };
+    leads_to(&step, 1, [0, 0, 0, 1], [0, 3, 3, 0]);
+}
+
+/// "What a member already keeps is unchanged": with nothing left over, nobody is
+/// raised or lowered, although they stand at 34, 6 + 24 and 30 + 6.
+#[test]
+fn nothing_left_over() {
+    let cells = [cell(0, 0), cell(1, 0), cell(1, 1), cell(2, 0), cell(2, 2)];
+    let step = Step {
+        sheet: sheet(3, TEN_PERCENT, &cells, &[34, 24, 6, 6, 30]).bytes(),
+        old: old(&[0, 0, 0]),
+    };
+    leads_to(&step, 1, [0, 0, 0], [0, 24, 6]);
 }
 
 // Rebuilding.

@@ -11,6 +11,7 @@ use firrozka_tests::implementations::{Implementation, IMPLEMENTATIONS};
 use firrozka_tests::random::Random;
 use firrozka_tests::records::plans::depth;
 use firrozka_tests::records::to_words;
+use firrozka_tests::reference::keeping::{families, level_filling, Family, Member};
 use firrozka_tests::reference::plan::{self, Plan};
 use firrozka_tests::reference::sheet;
 use firrozka_tests::reference::table::Table;
@@ -189,6 +190,14 @@ fn corners() -> Vec<Corner> {
     for (what, met) in ONCE {
         add(what.into(), Box::new(met));
     }
+    for (what, met) in FILLED {
+        let what = format!("kind 1 and {what}");
+        let some = move |step: &Judged| {
+            let mut families = families(&step.plan, &step.held).into_iter();
+            families.any(|family| family.rest > 0 && met(&family))
+        };
+        add(what, of_kind(1, some));
+    }
     all
 }
 
@@ -197,6 +206,7 @@ fn of_kind(kind: u32, met: impl Fn(&Judged) -> bool + 'static) -> Box<dyn Fn(&Ju
 }
 
 type Named = (&'static str, fn(&Judged) -> bool);
+type NamedFamily = (&'static str, fn(&Family) -> bool);
 
 /// What a run has to meet in each kind.
 const EACH_KIND: [Named; 9] = [
@@ -248,6 +258,59 @@ const ONCE: [Named; 9] = [
         n > 2 && step.moves.routes.len() >= n * (n - 2)
     }),
 ];
+
+/// What some family has to be in a kept tree that has helpers and a rest.
+const FILLED: [NamedFamily; 9] = [
+    ("a rest", |_| true),
+    ("a rest of a hundred million", |family| {
+        family.rest >= 100_000_000
+    }),
+    ("a rest and R above 0", |family| owner(family).base > 0),
+    ("a rest and an owner between its helpers", |family| {
+        let numbers = family.members.iter().map(|member| member.node);
+        let (lowest, highest) = (numbers.clone().min(), numbers.max());
+        let owner = Some(owner(family).node);
+        lowest < owner && owner < highest
+    }),
+    ("a rest and a full member", |family| {
+        family.members.iter().any(|member| member.space_left() == 0)
+    }),
+    ("a rest that fills all members", |family| {
+        let space = family.members.iter().map(Member::space_left);
+        space.sum::<u64>() == family.rest
+    }),
+    ("a tie for the last particle", |family| {
+        tied(family).len() > 1
+    }),
+    ("a tie of the owner and a lower number", |family| {
+        tied(family)[1..].contains(&owner(family))
+    }),
+    ("a tie of the owner and a higher number", |family| {
+        let tied = tied(family);
+        tied.len() > 1 && tied[0] == owner(family)
+    }),
+];
+
+fn owner(family: &Family) -> Member {
+    let mut members = family.members.iter();
+    *members
+        .find(|member| member.is_owner)
+        .expect("a family has an owner")
+}
+
+/// Those who stand lowest when the last particle of the rest is given, by rising
+/// number and as they were at first.
+fn tied(family: &Family) -> Vec<Member> {
+    let mut members = family.members.clone();
+    level_filling(&mut members, family.rest - 1);
+    let load = |at: &usize| members[*at].standing_load();
+    let with_space = (0..members.len()).filter(|&at| members[at].space_left() > 0);
+    let lowest = with_space.clone().map(|at| load(&at)).min();
+    with_space
+        .filter(|at| Some(load(at)) == lowest)
+        .map(|at| family.members[at])
+        .collect()
+}
 
 fn is_full(step: &Judged) -> bool {
     step.sheet.cells.len() == (step.sheet.n * step.sheet.n) as usize

@@ -4,7 +4,7 @@
 
 use firrozka_tests::answers::{self, Answer, PartAnswer, StepAnswer, WeighedAnswer, WrittenAnswer};
 use firrozka_tests::calls::{CARRY_OUT, OPERATIONS, PLAN_STEP, TREE_IN_FORCE, WEIGH};
-use firrozka_tests::demands::judge;
+use firrozka_tests::demands::{judge, must_judge};
 use firrozka_tests::implementations::{
     Implementation, PlanStep, IN_PERCENT, MOVES_BYTES, PLAN_BYTES, REFERENCE,
 };
@@ -14,16 +14,8 @@ use firrozka_tests::reference::sheet::{self, Sheet};
 use firrozka_tests::reference::table::Table;
 use firrozka_tests::reference::{carry_out, plan, plan_step, read_sheet, tree_in_force, weigh};
 use firrozka_tests::settings::SEED;
-use firrozka_tests::steps::{self, Size};
 use firrozka_tests::worked;
 use std::collections::BTreeMap;
-
-/// Demand 3 or a rule beside it is broken in some of a few steps.
-fn is_judged(wrong: &Implementation) {
-    let steps = (0..500).map(|index| steps::at(SEED, index, Size::Small));
-    let broken = steps.filter(|step| judge(wrong, step).is_err()).count();
-    assert!(broken > 0, "{}", wrong.name);
-}
 
 fn wrong_planner(name: &'static str, plan_step: PlanStep) -> Implementation {
     Implementation {
@@ -55,7 +47,7 @@ fn rebuilds_always() {
     }
     let planner = wrong_planner("rebuilds at every overload", wrong);
     PLAN_STEP.must_report(&planner);
-    is_judged(&planner);
+    must_judge(&planner);
 }
 
 /// "Comparing P with N × L: it keeps I." Here with all shares 0.
@@ -74,7 +66,7 @@ fn keeps_always() {
     }
     let planner = wrong_planner("keeps every tree", wrong);
     PLAN_STEP.must_report(&planner);
-    is_judged(&planner);
+    must_judge(&planner);
 }
 
 /// "one that places the first helper and hands the others share 0"
@@ -95,7 +87,7 @@ fn places_the_first_helper_alone() {
     }
     let planner = wrong_planner("places the first helper alone", wrong);
     PLAN_STEP.must_report(&planner);
-    is_judged(&planner);
+    must_judge(&planner);
 }
 
 /// "A limit only rounded down".
@@ -114,7 +106,7 @@ fn rounds_the_limit_down() {
     }
     let planner = wrong_planner("rounds the limit down", wrong);
     PLAN_STEP.must_report(&planner);
-    is_judged(&planner);
+    must_judge(&planner);
 }
 
 /// As before request 2026-01: planning and weighing.
@@ -122,7 +114,7 @@ fn rounds_the_limit_down() {
 fn takes_t_as_percents() {
     PLAN_STEP.must_report(&IN_PERCENT);
     WEIGH.must_report(&IN_PERCENT);
-    is_judged(&IN_PERCENT);
+    must_judge(&IN_PERCENT);
 }
 
 #[test]
@@ -147,7 +139,7 @@ fn leaves_a_move_out() {
     }
     let planner = wrong_planner("leaves a move out", wrong);
     PLAN_STEP.must_report(&planner);
-    is_judged(&planner);
+    must_judge(&planner);
 }
 
 /// Buffers and the order of the last checks.
@@ -206,7 +198,7 @@ fn answers_with_buffers_unwritten() {
     }
     let planner = wrong_planner("writes nothing", wrong);
     PLAN_STEP.must_report(&planner);
-    is_judged(&planner);
+    must_judge(&planner);
 }
 
 /// Records and buffers lie at addresses of every offset modulo 8: whoever goes

@@ -7,7 +7,7 @@ use crate::refusal::Refusal;
 use crate::words::Words;
 
 /// The version that this crate was written for: 100 × major + minor.
-pub const VERSION: u32 = 102;
+pub const VERSION: u32 = 103;
 
 /// Enough for every sheet.
 pub const SHEET_BYTES: usize = 4 * (3 + 2 * 64 * 64);

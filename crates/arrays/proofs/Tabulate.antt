@@ -13,7 +13,7 @@ use Rattle.fold.specs.Collect.{collect}
 use Rattle.fold.proofs.Lists.{collect-eq, collect-more}
 use Rattle.fold.proofs.Tests.{all-eq}
 use Rattle.arrays.specs.Arrays.{at, padded, tabulate}
-use Rattle.arrays.proofs.Padded.{padded-at, padded-more}
+use Rattle.arrays.proofs.Padded.{padded-at, padded-same, padded-more}
 
 module _ (f : ℕ → ℕ) where
   -- the list of the first values, without the zeros
@@ -46,10 +46,20 @@ module _ (nodes : ℕ) (f : ℕ → ℕ) where
   unfolding tabulate
   length-tabulate l = length-append (row f nodes) _ ∙ simp length-replicate (omega (arith, length-row f nodes))
 
+  -- there is a place for each node, however many there are
+  pub tabulate-long : nodes ≤ length (tabulate nodes f)
+  unfolding tabulate
+  tabulate-long = rw (length-append (row f nodes) (replicate (64 - length (row f nodes)) 0)) (omega (arith, length-row f nodes))
+
   -- the entries of the nodes alone
   pub take-tabulate : take nodes (tabulate nodes f) ≡ collect nodes (λ k. f k ∷ [])
   unfolding tabulate
   take-tabulate = take-at (row f nodes) (replicate (64 - length (row f nodes)) 0) nodes (length-row f nodes)
+
+  -- and nothing else stands behind them
+  pub take-at-tabulate : at (take nodes (tabulate nodes f)) ≡ at (tabulate nodes f)
+  unfolding tabulate
+  take-at-tabulate = ap at take-tabulate ∙ sym (padded-same (row f nodes))
 
   -- an array of 64 with these entries is this one
   pub tabulate-is : nodes ≤ 64 → (xs : List ℕ) → length xs ≡ 64 → ((k : ℕ) → k < nodes → at xs k ≡ f k)

@@ -90,7 +90,7 @@ module _ {s o : List ℕ} (over : Overloaded s) (y : Plannable s o) where
   abbrev plan : List ℕ
   plan = planIn s o
 
-  back : StepReadBack s o plan (movesIn s o)
+  pub back : StepReadBack s o plan (movesIn s o)
   back = records-back y
 
   -- a tree is needed
@@ -99,10 +99,10 @@ module _ {s o : List ℕ} (over : Overloaded s) (y : Plannable s o) where
       let n = over .above .0 in
       all-fails n₀ (λ k. leb (totals k) limit) n (over .above .1) (lt-leb (totals n) limit (over .above .2))
 
-  limit-is : limit ≡ limitOf (readSheet s .p) n₀ (readSheet s .t)
+  pub limit-is : limit ≡ limitOf (readSheet s .p) n₀ (readSheet s .t)
   limit-is = sheet-accepted s (over .accepted) .limit-is
 
-  needed-here : primary n₀ totals (limitOf (readSheet s .p) n₀ (readSheet s .t)) ≡ false
+  pub needed-here : primary n₀ totals (limitOf (readSheet s .p) n₀ (readSheet s .t)) ≡ false
   needed-here = ap (primary n₀ totals) (sym limit-is) ∙ needed
 
   with-tree : tree ≡ true → Demanded n₀ (readSheet s .p) limit (totalsIn s) old d
@@ -128,19 +128,19 @@ module _ {s o : List ℕ} (over : Overloaded s) (y : Plannable s o) where
   -- ---- an accepted tree is the old one that was decided on
 
   module _ (t : AcceptedTree s o) where
-    has-tree : tree ≡ true
+    pub has-tree : tree ≡ true
     has-tree = ap (λ (x : OldAnswer). x .tree) (tree-read s o t)
 
     old-is : old ≡ padded (helpandsOf o n₀)
     old-is = rw has-tree
 
-    old-at : at old ≡ at (helpandsOf o n₀)
+    pub old-at : at old ≡ at (helpandsOf o n₀)
     old-at = ap at old-is ∙ padded-same (helpandsOf o n₀)
 
     kept-exactly : (d .kind ≡ 1) ↔ Rival s o
     kept-exactly = rw old-at at (with-tree has-tree .kept)
 
-    same-helpands : d .kind ≡ 1 → helpandsOf plan n₀ ≡ helpandsOf o n₀
+    pub same-helpands : d .kind ≡ 1 → helpandsOf plan n₀ ≡ helpandsOf o n₀
     same-helpands k =
         let long = helpands-are o (readPlan o) (plan-accepted o (t .accepted)) in
         let size = ap (λ (m : ℕ). length (helpandsOf o m)) (sym (t .nodes)) ∙ long ∙ t .nodes in

@@ -3,3 +3,4 @@ pub mod Exact
 pub mod Demand
 pub mod Premises
 pub mod WrongPlanners
+pub mod Rest

@@ -8,7 +8,7 @@ use Prim.Native.Nat.{ℕ, _-_, _*_, _≤_, _<_}
 use native.Mathlib.Omega.{arith}
 use borrow.Author.Tests.{le-leb}
 use lib.Dec.{leb}
-use lib.ListN.{length, length-replicate}
+use lib.ListN.{length, take, length-replicate}
 use Rattle.fold.specs.Sum.{only, sum}
 use Rattle.fold.proofs.Sums.{sum-zeros, sum-term}
 use Rattle.fold.proofs.Tests.{either, and-left, and-right, all-of, only-max}
@@ -24,14 +24,15 @@ use Rattle.tree.proofs.Families.{helpers-eq}
 use Rattle.tree.proofs.Weighing.{least-is}
 use Rattle.tree.proofs.Keeping.{holds-at}
 use Rattle.shares.specs.Shares.{keptShare}
-use Rattle.shares.proofs.KeptShares.{KeptWithin, table-shares}
+use Rattle.shares.specs.Levelled.{RestLevelled}
+use Rattle.shares.proofs.KeptShares.{KeptWithin, table-shares, table-levelled}
 use Rattle.rebuild.specs.Target.{targetOf}
 use Rattle.rebuild.proofs.TargetSums.{targets-within-limit, WithinTargets}
 use Rattle.rebuild.proofs.Rebuilding.{NewTree, rebuilt-on-target}
 use Rattle.decide.specs.declared.Decision.{Decision}
 use Rattle.decide.specs.Decide.{primaryPlan, leastsOf, keptPlan, rebuiltPlan, decided}
 use Rattle.arrays.proofs.Padded.{zeros-at}
-use Rattle.arrays.proofs.Tabulate.{tabulate-at, length-tabulate}
+use Rattle.arrays.proofs.Tabulate.{tabulate-at, length-tabulate, take-at-tabulate}
 use Rattle.sheet.specs.Totals.{totalOf, totalsOf}
 use Rattle.tree.specs.Primary.{primary}
 
@@ -62,6 +63,11 @@ pub record KeptFine (nodes limit : ℕ) (totals old : List ℕ) (d : Decision) :
   pub within :
       let own = ownOf nodes (at (d .helpands)) (at totals) (at (d .shares)) in
       WithinLimit nodes (at (d .helpands)) (at totals) limit own (at (d .shares))
+
+-- request 2026-03: the rest of each family is levelled; nothing stands behind the shares of the nodes
+pub record KeptLevelled (nodes limit : ℕ) (table totals old : List ℕ) (d : Decision) : Type 0 where
+  pub levelled : RestLevelled nodes (at old) limit (at (leastsOf nodes old totals limit)) (at totals) (held table) (at (d .shares))
+  pub shares-end : at (take nodes (d .shares)) ≡ at (d .shares)
 
 -- kind 2 has a tree, and its shares are a division with every load equal to the node's target
 pub record RebuiltFine (nodes p : ℕ) (totals : List ℕ) (d : Decision) : Type 0 where
@@ -123,17 +129,20 @@ module _ (nodes p t : ℕ) (table totals : List ℕ) (tree : Bool) (old : List �
     least-at : (k : ℕ) → k < nodes → at leasts k ≡ least nodes (at old) (at totals) limit k
     least-at k l = tabulate-at nodes (least nodes (at old) (at totals) limit) k l
 
-    kept-shares : KeptWithin nodes (at old) limit (at leasts) (at totals) (held table) (at (keptPlan nodes limit table totals old .shares))
-    kept-shares =
-        table-shares nodes r limit old leasts totals table rooted (g .counted)
-        (λ n l. least-at n l ∙ least-is nodes (at old) (at totals) limit r rooted n ∙ ap (λ (x : ℕ). at totals n - x) (sym (spares n)))
-        (λ n l. omega (arith, least-at n l, holds-at nodes (at old) (at totals) limit h n l))
-      where
-        spare : ℕ → ℕ
-        spare k = limit - least nodes (at old) (at totals) limit k
+    -- the array of leasts solves their equations, and none is above the limit
+    leasts-are : (n : ℕ) → n < nodes → at leasts n ≡ at totals n - overHelpers nodes (at old) n (λ k. limit - at leasts k)
+    leasts-are n l =
+        least-at n l
+        ∙ least-is nodes (at old) (at totals) limit r rooted n
+        ∙ ap (λ (x : ℕ). at totals n - x)
+        (helpers-eq nodes (at old) n (λ k. limit - least nodes (at old) (at totals) limit k) (λ k. limit - at leasts k)
+        (λ k b y. ap (λ (x : ℕ). limit - x) (sym (least-at k b))))
 
-        spares : (n : ℕ) → overHelpers nodes (at old) n (λ k. limit - at leasts k) ≡ overHelpers nodes (at old) n spare
-        spares n = helpers-eq nodes (at old) n (λ k. limit - at leasts k) spare (λ k l y. ap (λ (x : ℕ). limit - x) (least-at k l))
+    leasts-hold : (n : ℕ) → n < nodes → at leasts n ≤ limit
+    leasts-hold n l = omega (arith, least-at n l, holds-at nodes (at old) (at totals) limit h n l)
+
+    kept-shares : KeptWithin nodes (at old) limit (at leasts) (at totals) (held table) (at (keptPlan nodes limit table totals old .shares))
+    kept-shares = table-shares nodes r limit old leasts totals table rooted (g .counted) leasts-are leasts-hold
 
     kept-fine : primary nodes (at totals) limit ≡ false → Fine nodes limit totals (keptPlan nodes limit table totals old)
     kept-fine f =
@@ -146,6 +155,13 @@ module _ (nodes p t : ℕ) (table totals : List ℕ) (tree : Bool) (old : List �
               (kept-shares .root r (rooted .root) (rooted .own));
           inside = rooted .inside;
           enough = kept-shares .enough;
+        }
+
+    kept-levelled : KeptLevelled nodes limit table totals old (keptPlan nodes limit table totals old)
+    kept-levelled =
+        record {
+          levelled = table-levelled nodes r limit old leasts totals table rooted (g .counted) leasts-are leasts-hold;
+          shares-end = take-at-tabulate nodes (keptShare nodes (at old) limit (at leasts) (at totals) (held table));
         }
 
     kept-way : KeptFine nodes limit totals old (keptPlan nodes limit table totals old)
@@ -191,6 +207,16 @@ module _ (nodes p t : ℕ) (table totals : List ℕ) (tree : Bool) (old : List �
       → RebuiltFine nodes p totals decision
   unfolding decided
   decided-rebuilt f h = simp (f, h) rebuilt-way
+
+  -- THEOREM. Where a tree is needed and the old one is kept, the rest of each family is levelled.
+  pub decided-levelled : primary nodes (at totals) limit ≡ false → tree ≡ true → decision .kind ≡ 1
+      → KeptLevelled nodes limit table totals old decision
+  decided-levelled f e k = by (either (holds nodes (at old) (at totals) limit))
+    where
+      by : (holds nodes (at old) (at totals) limit ≡ true) ⊎ (holds nodes (at old) (at totals) limit ≡ false)
+          → KeptLevelled nodes limit table totals old decision
+      by (inl h) = unfold decided in let r = g .rooted e in simp (f, e, h) (kept-levelled (r .0) (r .1) h)
+      by (inr h) = absurd (omega (arith, k, decided-rebuilt f (simp (e, h)) .kind))
 
   -- THEOREM. Whichever way it went, the plan is read back as what was written, and no owner's helpers are given more than there is.
   pub decided-fine : Fine nodes limit totals decision

@@ -24,7 +24,7 @@ ghost use Rattle.firrozka.specs.Version.{version};
 pub extern "C" fn firrozka_version() -> u32
     ensures { λ r. ⌜ r ≡ version ⌝ }
 {
-    102
+    103
 }
 
 // *Read sheet*.

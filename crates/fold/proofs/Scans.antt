@@ -76,7 +76,7 @@ module _ (ok : ℕ → Bool) (beats : ℕ → ℕ → Bool) where
 module _ (ok : ℕ → Bool) (beats : ℕ → ℕ → Bool) (R : ℕ → ℕ → Type 0)
     (itself : (b : ℕ) → R b b)
     (through : (n b k : ℕ) → beats n b ≡ true → R b k → R n k)
-    (else : (n b : ℕ) → beats n b ≡ false → R b n) where
+    (else : (n b : ℕ) → b < n → beats n b ≡ false → R b n) where
   ahead : (n b : ℕ) → best ok beats n ≡ At b → (k : ℕ) → k < n → ok k ≡ true → R b k
   ahead zero b e k h o = absurd (omega arith)
   ahead (suc n) b e k h o = step (either (ok n)) (best ok beats n) refl (λ c q. ahead n c q k)
@@ -111,7 +111,7 @@ module _ (ok : ℕ → Bool) (beats : ℕ → ℕ → Bool) (R : ℕ → ℕ →
               let y : At c ≡ At b = sym (sym one-more ∙ best-stays ok beats n c t q w) ∙ e in
               let z : c ≡ b = cc in
               elim (ℕ-discrete k n) [
-                | yes y ↦ rw (y, ← z) (else n c w)
+                | yes y ↦ rw (y, ← z) (else n c (best-found ok beats n c q .0) w)
                 | no d ↦ rw (← z) (ih c q (omega arith) o)
               ]
 
@@ -120,11 +120,21 @@ smallest-le ok f =
     ahead ok (smaller f) (λ b k. f b ≤ f k)
     (λ b. omega arith)
     (λ n b k w r. omega (arith, ltb-true (f n) (f b) w))
-    (λ n b w. ltb-false (f n) (f b) w)
+    (λ n b l w. ltb-false (f n) (f b) w)
+
+-- and the lowest of those that are as small
+pub smallest-lt : (ok : ℕ → Bool) (f : ℕ → ℕ) (n b : ℕ) → best ok (smaller f) n ≡ At b
+    → (k : ℕ) → k < n → ok k ≡ true → k < b → f b < f k
+smallest-lt ok f n b e k l o =
+    ahead ok (smaller f) (λ b k. (f b ≤ f k) × (k < b → f b < f k))
+    (λ b. (omega arith, λ h. absurd (omega arith)))
+    (λ n b k w r. (omega (arith, ltb-true (f n) (f b) w, r .0), λ h. omega (arith, ltb-true (f n) (f b) w, r .0)))
+    (λ n b l w. (ltb-false (f n) (f b) w, λ h. absurd (omega arith)))
+    n b e k l o .1
 
 pub largest-le : (ok : ℕ → Bool) (f : ℕ → ℕ) (n b : ℕ) → best ok (larger f) n ≡ At b → (k : ℕ) → k < n → ok k ≡ true → f k ≤ f b
 largest-le ok f =
     ahead ok (larger f) (λ b k. f k ≤ f b)
     (λ b. omega arith)
     (λ n b k w r. omega (arith, ltb-true (f b) (f n) w))
-    (λ n b w. ltb-false (f b) (f n) w)
+    (λ n b l w. ltb-false (f b) (f n) w)

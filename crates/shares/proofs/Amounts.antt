@@ -5,13 +5,14 @@ use mathlib.Core.Bool.{true}
 use Prim.Native.Nat.{ℕ, _+_, _-_, _≤_, _<_, min}
 use native.Mathlib.Omega.{arith}
 use Rattle.fold.specs.Sum.{only, sum}
-use Rattle.fold.proofs.Sums.{sum-le, sum-fewer}
+use Rattle.fold.proofs.Sums.{sum-le, sum-eq, sum-add, sum-fewer}
 use Rattle.tree.specs.Family.{helps, overHelpers}
-use Rattle.tree.proofs.Families.{helpers-eq, helpers-add, helpers-more}
+use Rattle.tree.proofs.Families.{helpers-eq, helpers-more}
 use Rattle.shares.specs.Fill.{room}
-use Rattle.shares.specs.Shares.{space, kept, rest, amount}
+use Rattle.shares.specs.Shares.{space, beside, kept, rest, amount}
 use Rattle.shares.proofs.Spaces.{space-own, space-helper, family-part}
-use Rattle.shares.proofs.FillLaws.{fill-space, fill-keeps, fill-whole}
+use Rattle.shares.proofs.Levelled.{Levelled}
+use Rattle.shares.proofs.FillLaws.{levelled, fill-space, fill-keeps, fill-none, fill-sum}
 
 module _ (h : ℕ → ℕ) (limit : ℕ) (least holding : ℕ → ℕ) (r n : ℕ) where
   abbrev spaces : ℕ → ℕ
@@ -37,42 +38,55 @@ module _ (h : ℕ → ℕ) (limit : ℕ) (least holding : ℕ → ℕ) (r n : �
       )
 
   -- what is kept and the rooms make up the spaces
-  rooms-sum : (nodes : ℕ)
-      → overHelpers nodes h n (room spaces keeps) + overHelpers nodes h n keeps ≡ overHelpers nodes h n (λ k. limit - least k)
-  rooms-sum nodes =
+  rooms-sum : (nodes : ℕ) → n < nodes
+      → sum nodes (room spaces keeps) + sum nodes keeps ≡ limit - r + overHelpers nodes h n (λ k. limit - least k)
+  rooms-sum nodes l =
       omega (
         arith,
-        helpers-add nodes h n (room spaces keeps) keeps,
-        helpers-eq nodes h n (λ k. room spaces keeps k + keeps k) (λ k. limit - least k)
-            (λ k b y. omega (arith, space-helper h limit least r n k y)),
+        sum-add nodes (room spaces keeps) keeps,
+        sum-eq nodes (λ k. room spaces keeps k + keeps k) spaces (λ k b. omega arith),
+        family-part h limit least r n spaces (λ k. omega arith) nodes l,
+        space-own h limit least r n,
+        helpers-eq nodes h n spaces (λ k. limit - least k) (λ k b y. space-helper h limit least r n k y),
       )
 
 module _ (nodes : ℕ) (h : ℕ → ℕ) (limit : ℕ) (least total : ℕ → ℕ) (held : ℕ → ℕ → ℕ) (r n : ℕ) where
   abbrev given : ℕ → ℕ
   given = amount nodes h limit least total held r n
 
-  -- no member gets more than its space, or less than it keeps
-  pub amount-space : (k : ℕ) → given k ≤ space h limit least r n k
-  unfolding amount
-  amount-space k = fill-space h n (space h limit least r n) _ _ k (omega arith)
+  abbrev spaced : ℕ → ℕ
+  spaced = space h limit least r n
 
-  pub amount-keeps : (k : ℕ) → min (space h limit least r n k) (held k n) ≤ given k
+  abbrev keeping : ℕ → ℕ
+  keeping = kept (space h limit least r n) (λ j. held j n)
+
+  -- no member gets more than its space, or less than it keeps
+  pub amount-space : (k : ℕ) → given k ≤ spaced k
   unfolding amount
-  amount-keeps k = fill-keeps h n (space h limit least r n) (kept (space h limit least r n) (λ j. held j n)) _ k
+  amount-space k = fill-space nodes (beside least r n) spaced keeping (rest nodes (total n) keeping) k (omega arith)
+
+  pub amount-keeps : (k : ℕ) → k < nodes → min (spaced k) (held k n) ≤ given k
+  unfolding amount
+  amount-keeps k l = fill-keeps nodes (beside least r n) spaced keeping (rest nodes (total n) keeping) k l
+
+  -- they are levelled
+  pub amount-levelled : Levelled nodes (beside least r n) spaced keeping (rest nodes (total n) keeping) given
+  unfolding amount
+  amount-levelled = levelled nodes (beside least r n) spaced keeping (rest nodes (total n) keeping)
+
+  -- where there is no rest, each has what it keeps
+  pub amount-kept : rest nodes (total n) keeping ≡ 0 → (k : ℕ) → k < nodes → given k ≡ keeping k
+  unfolding amount
+  amount-kept e k l = rw e (fill-none nodes (beside least r n) spaced keeping k l)
 
   -- and the members get all, where they have space for it
   pub amount-whole : n < nodes → sum nodes (λ k. held k n) ≡ total n → total n ≤ limit - r + overHelpers nodes h n (λ k. limit - least k)
       → given n + overHelpers nodes h n given ≡ total n
-  unfolding amount
   amount-whole l e f =
-      let s : ℕ → ℕ = space h limit least r n in
-      let ks : ℕ → ℕ = kept s (λ j. held j n) in
-      let whole = kept-sum h limit least (λ j. held j n) r n nodes l in
-      let under = sum-le nodes ks (λ k. held k n) (λ k b. omega arith) in
-      omega (
-        arith,
-        fill-whole h n s ks (rest nodes (total n) ks) nodes
-            (omega (arith, space-own h limit least r n, rooms-sum h limit least (λ j. held j n) r n nodes, whole, under)),
-        whole,
-        under,
-      )
+      let under = sum-le nodes keeping (λ k. held k n) (λ k b. omega arith) in
+      let room = rooms-sum h limit least (λ j. held j n) r n nodes l in
+      omega (arith, family-part h limit least r n given amount-space nodes l, summed (omega arith), under)
+    where
+      summed : rest nodes (total n) keeping ≤ sum nodes (room spaced keeping)
+          → sum nodes given ≡ sum nodes keeping + rest nodes (total n) keeping
+      summed = unfold amount in fill-sum nodes (beside least r n) spaced keeping (rest nodes (total n) keeping)

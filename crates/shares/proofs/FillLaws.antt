@@ -1,49 +1,44 @@
--- Laws of `fill`: what a member gets when its turn comes, and then all that is used of it elsewhere. No member gets more than its space or
--- less than it keeps, and all of the rest is given where there is room for it. Assumes nothing.
-use mathlib.Core.Path.{_≡_, refl, ap, _∙_}
-use mathlib.Core.Bool.{true}
-use Prim.Native.Nat.{ℕ, _+_, _-_, _≤_, min}
+-- Laws of `fill`, all that is used of it elsewhere: no member gets more than its space or less than it keeps, all of the rest is given
+-- where there is room for it, the amounts are levelled, and the level form is the same. Assumes nothing.
+use mathlib.Core.Path.{_≡_}
+use Prim.Native.Nat.{ℕ, _+_, _-_, _≤_, _<_}
+use native.Mathlib.Decide.{decLt}
 use native.Mathlib.Omega.{arith}
-use borrow.Author.Tests.{eq-eqb, ne-eqb}
-use Rattle.tree.specs.Family.{helps, overHelpers}
-use Rattle.tree.proofs.Families.{helps-ne, helpers-eq, helpers-add, helpers-in-turn}
-use Rattle.shares.specs.Fill.{room, ahead, fill}
+use Rattle.fold.specs.Sum.{sum}
+use Rattle.arrays.specs.Arrays.{at, tabulate}
+use Rattle.arrays.proofs.Tabulate.{tabulate-at, tabulate-behind, tabulate-long}
+use Rattle.shares.specs.Fill.{room, fill}
+use Rattle.shares.specs.Inner.{over, Lowest, gets}
+use Rattle.shares.proofs.Levelled.{Levelled, fill-levelled, levelled-one, levelled-eq, fill-behind}
+use Rattle.shares.proofs.LevelForm.{UpTo, level-levelled}
 
-pub sub-sub : (x a b : ℕ) → x - (a + b) ≡ x - a - b
-sub-sub x a b = omega arith
+pub fill-none : (nodes : ℕ) (beside space kept : ℕ → ℕ) (k : ℕ) → k < nodes
+    → at (fill nodes beside space (tabulate nodes kept) 0) k ≡ kept k
+unfolding fill
+fill-none nodes beside space kept k l = tabulate-at nodes kept k l
 
-module _ (h : ℕ → ℕ) (n : ℕ) (space kept : ℕ → ℕ) (rest : ℕ) where
-  abbrev rooms : ℕ → ℕ
-  rooms = room space kept
+module _ (nodes : ℕ) (beside space kept : ℕ → ℕ) (rest : ℕ) where
+  abbrev filled : ℕ → ℕ
+  filled = at (fill nodes beside space (tabulate nodes kept) rest)
 
-  fill-own : fill h n space kept rest n ≡ kept n + min rest (rooms n)
-  unfolding fill
-  fill-own = rw (eq-eqb n n refl)
+  pub levelled : Levelled nodes beside space kept rest filled
+  levelled =
+      levelled-eq (fill-levelled nodes beside space (tabulate nodes kept) rest (tabulate-long nodes kept)) (tabulate-at nodes kept)
 
-  pub fill-helper : (k : ℕ) → helps h n k ≡ true → fill h n space kept rest k ≡ kept k + min (rest - ahead h n rooms k) (rooms k)
-  unfolding fill
-  fill-helper k y = rw (ne-eqb k n (helps-ne h n k y))
+  pub fill-space : (k : ℕ) → kept k ≤ space k → filled k ≤ space k
+  fill-space k h = elim (decLt k nodes) [
+    | yes l ↦ omega (arith, levelled .fits k l)
+    | no d ↦
+        omega (arith, fill-behind nodes beside space rest (tabulate nodes kept) k (omega arith), tabulate-behind nodes kept k (omega arith))
+  ]
 
-  pub fill-space : (k : ℕ) → kept k ≤ space k → fill h n space kept rest k ≤ space k
-  unfolding fill
-  fill-space k l = omega arith
+  pub fill-keeps : (k : ℕ) → k < nodes → kept k ≤ filled k
+  fill-keeps k l = levelled .keeps k l
 
-  pub fill-keeps : (k : ℕ) → kept k ≤ fill h n space kept rest k
-  unfolding fill
-  fill-keeps k = omega arith
+  pub fill-sum : rest ≤ sum nodes (room space kept) → sum nodes filled ≡ sum nodes kept + rest
+  fill-sum h = omega (arith, levelled .adds)
 
-  -- what helper k gets of what the owner leaves
-  abbrev turn : ℕ → ℕ
-  turn k = min (rest - rooms n - overHelpers k h n rooms) (rooms k)
-
-  pub fill-whole : (nodes : ℕ) → rest ≤ rooms n + overHelpers nodes h n rooms
-      → fill h n space kept rest n + overHelpers nodes h n (fill h n space kept rest) ≡ kept n + overHelpers nodes h n kept + rest
-  fill-whole nodes l =
-      omega (
-        arith,
-        fill-own,
-        helpers-eq nodes h n (fill h n space kept rest) (λ k. kept k + turn k)
-            (λ k b y. fill-helper k y ∙ ap (λ (x : ℕ). kept k + min x (rooms k)) (sub-sub rest (rooms n) (overHelpers k h n rooms))),
-        helpers-add nodes h n kept turn,
-        helpers-in-turn h n rooms nodes (rest - rooms n),
-      )
+  -- the level form
+  pub fill-level : (limit level : ℕ) → UpTo limit nodes beside space → Lowest nodes (room space kept) rest level
+      → (k : ℕ) → k < nodes → filled k ≡ kept k + gets (room space kept) level (rest - over nodes (room space kept) level) k
+  fill-level limit level up p = levelled-one levelled (level-levelled nodes limit beside space kept rest level up p)

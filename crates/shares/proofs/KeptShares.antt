@@ -3,7 +3,8 @@
 use mathlib.Core.Path.{_≡_, refl, sym, ap, _∙_}
 use mathlib.Core.Bool.{true}
 use mathlib.Core.List.{List}
-use Prim.Native.Nat.{ℕ, _-_, _≤_, _<_, min}
+use Prim.Native.Nat.{ℕ, _+_, _-_, _≤_, _<_, min}
+use native.Mathlib.Decide.{decLt}
 use native.Mathlib.Omega.{arith}
 use Rattle.fold.specs.Sum.{sum}
 use Rattle.plan.specs.Tree.{Tree}
@@ -14,8 +15,9 @@ use Rattle.tree.specs.Division.{WithinLimit, ownOf}
 use Rattle.arrays.specs.Arrays.{at}
 use Rattle.tree.proofs.Filling.{Fills, family-room, share-spare, helpers-most, own-filled, descends-within, down-descends, descends-only, descends-at, descends-same}
 use Rattle.shares.specs.Shares.{amount, keptShare, keptShares}
-use Rattle.shares.proofs.Spaces.{space-own, space-helper}
-use Rattle.shares.proofs.Amounts.{amount-space, amount-keeps, amount-whole}
+use Rattle.shares.specs.Levelled.{partOf, RestLevelled}
+use Rattle.shares.proofs.Spaces.{family-own, family-helper, family-other, each-node, space-own, space-helper, space-other, beside-own, beside-helper}
+use Rattle.shares.proofs.Amounts.{amount-space, amount-keeps, amount-levelled, amount-whole}
 use Rattle.arrays.proofs.Tabulate.{tabulate-at}
 use Rattle.sheet.specs.Totals.{totalOf, totalsOf}
 
@@ -80,7 +82,7 @@ module _ {nodes : ℕ} {h : ℕ → ℕ} {limit : ℕ} {least total : ℕ → �
             omega (
               arith,
               own-filled fills s n l,
-              amount-keeps nodes h limit least total held (share n) n n,
+              amount-keeps nodes h limit least total held (share n) n n l,
               space-own h limit least (share n) n,
             );
         helper-space = λ n k l y. share-spare fills s k l;
@@ -88,26 +90,104 @@ module _ {nodes : ℕ} {h : ℕ → ℕ} {limit : ℕ} {least total : ℕ → �
             omega (
               arith,
               descends-at s n k (share n) l y refl,
-              amount-keeps nodes h limit least total held (share n) n k,
+              amount-keeps nodes h limit least total held (share n) n k l,
               space-helper h limit least (share n) n k y,
             );
       }
 
--- THEOREM 3, as a program has it: the array of shares of a table of counts, on which the totals are counted.
-pub table-shares : (nodes root limit : ℕ) (helpands leasts totals table : List ℕ)
-    → Tree nodes (at helpands) root → totals ≡ totalsOf nodes table
-    → ((n : ℕ) → n < nodes → at leasts n ≡ at totals n - overHelpers nodes (at helpands) n (λ k. limit - at leasts k))
-    → ((n : ℕ) → n < nodes → at leasts n ≤ limit)
-    → KeptWithin nodes (at helpands) limit (at leasts) (at totals) (held table)
-    (at (keptShares nodes (at helpands) limit (at leasts) (at totals) (held table)))
-table-shares nodes root limit helpands leasts totals table t e f g =
-    let share : ℕ → ℕ = keptShare nodes (at helpands) limit (at leasts) (at totals) (held table) in
-    kept-shares
-    (record {
-      leasts = f;
-      holds = g;
-      adds = λ n l. sym (ap (λ (xs : List ℕ). at xs n) e ∙ tabulate-at nodes (totalOf nodes table) n l);
-    })
-    (at (keptShares nodes (at helpands) limit (at leasts) (at totals) (held table)))
-    (descends-same (shares-described nodes (at helpands) limit (at leasts) (at totals) (held table) root t)
-    (at (keptShares nodes (at helpands) limit (at leasts) (at totals) (held table))) (t .inside) (tabulate-at nodes share))
+  -- ---- request 2026-03, by the shares alone
+
+  module _ (share : ℕ → ℕ) (s : Descends nodes h (amount nodes h limit least total held) share) where
+    -- what a node has of subdomain n is its amount
+    part-is : (n : ℕ) → n < nodes → (k : ℕ) → k < nodes
+        → partOf nodes h total share n k ≡ amount nodes h limit least total held (share n) n k
+    part-is n l =
+        let own = ownOf nodes h total share n in
+        each-node h n (λ k. k < nodes → partOf nodes h total share n k ≡ amount nodes h limit least total held (share n) n k)
+        (λ b. family-own h n own share ∙ own-filled fills s n l)
+        (λ k y b. family-helper h n own share k y ∙ sym (descends-at s n k (share n) b y refl))
+        (λ k d y b. omega (
+          arith,
+          family-other h n own share k d y,
+          amount-space nodes h limit least total held (share n) n k,
+          space-other h limit least (share n) n k d y,
+        ))
+
+    -- THEOREM. No member that was given a particle stands more than one above a member that still has space, nor at all above one of
+    -- lower number.
+    pub rest-levelled : RestLevelled nodes h limit least total held share
+    rest-levelled =
+        record {
+          near = λ n j k c.
+              let a = amount-levelled nodes h limit least total held (share n) n in
+              let pj = part-is n (c .owner) j (c .one) in
+              let pk = part-is n (c .owner) k (c .other) in
+              omega (arith, a .near j k (c .one) (c .other) (omega (arith, pj, c .given)) (omega (arith, pk, c .has-space)), pj, pk);
+          ties = λ n j k c b.
+              let a = amount-levelled nodes h limit least total held (share n) n in
+              let pj = part-is n (c .owner) j (c .one) in
+              let pk = part-is n (c .owner) k (c .other) in
+              omega (arith, a .ties j k (c .one) b (omega (arith, pj, c .given)) (omega (arith, pk, c .has-space)), pj, pk);
+        }
+
+-- ---- as a program has it: the array of shares of a table of counts, on which the totals are counted
+
+module _ (nodes root limit : ℕ) (helpands leasts totals table : List ℕ) (t : Tree nodes (at helpands) root)
+    (e : totals ≡ totalsOf nodes table)
+    (f : (n : ℕ) → n < nodes → at leasts n ≡ at totals n - overHelpers nodes (at helpands) n (λ k. limit - at leasts k))
+    (g : (n : ℕ) → n < nodes → at leasts n ≤ limit) where
+  abbrev arrayed : List ℕ
+  arrayed = keptShares nodes (at helpands) limit (at leasts) (at totals) (held table)
+
+  counted : Holding nodes (at helpands) limit (at leasts) (at totals) (held table)
+  counted =
+      record {
+        leasts = f;
+        holds = g;
+        adds = λ n l. sym (ap (λ (xs : List ℕ). at xs n) e ∙ tabulate-at nodes (totalOf nodes table) n l);
+      }
+
+  descended : Descends nodes (at helpands) (amount nodes (at helpands) limit (at leasts) (at totals) (held table)) (at arrayed)
+  descended =
+      descends-same (shares-described nodes (at helpands) limit (at leasts) (at totals) (held table) root t) (at arrayed) (t .inside)
+      (tabulate-at nodes (keptShare nodes (at helpands) limit (at leasts) (at totals) (held table)))
+
+  -- THEOREM 3
+  pub table-shares : KeptWithin nodes (at helpands) limit (at leasts) (at totals) (held table) (at arrayed)
+  table-shares = kept-shares counted (at arrayed) descended
+
+  -- and the rest is levelled
+  pub table-levelled : RestLevelled nodes (at helpands) limit (at leasts) (at totals) (held table) (at arrayed)
+  table-levelled = rest-levelled counted (at arrayed) descended
+
+-- ---- "owners sit at the limit while their helpers idle": no more
+
+module _ {nodes : ℕ} {h : ℕ → ℕ} {limit : ℕ} {least total : ℕ → ℕ} {held : ℕ → ℕ → ℕ} {share : ℕ → ℕ} where
+  -- THEOREM. Where an owner was given a particle of the rest and is at the limit, each of its helpers stands at most one below it.
+  pub helpers-level : RestLevelled nodes h limit least total held share → (n k : ℕ) → n < nodes → k < nodes → helps h n k ≡ true
+      → min (limit - share n) (held n n) < ownOf nodes h total share n → share n + ownOf nodes h total share n ≡ limit
+      → limit ≤ least k + share k + 1
+  helpers-level p n k l b y g e =
+      let own = ownOf nodes h total share n in
+      let part = family-own h n own share in
+      let part-k = family-helper h n own share k y in
+      let space = space-own h limit least (share n) n in
+      let space-k = space-helper h limit least (share n) n k y in
+      elim (decLt (share k) (limit - least k)) [
+        | yes d ↦
+            omega (
+              arith,
+              p .near n n k (record {
+                owner = l;
+                one = l;
+                other = b;
+                given = omega (arith, part, space);
+                has-space = omega (arith, part-k, space-k);
+              }),
+              part,
+              part-k,
+              beside-own least (share n) n,
+              beside-helper h least (share n) n k y,
+            )
+        | no d ↦ omega arith
+      ]

@@ -1,6 +1,11 @@
 pub mod Spaces
+pub mod Levelled
+pub mod LevelForm
+pub mod Raising
 pub mod FillLaws
 pub mod Amounts
+pub mod Filling
+pub mod Summing
 pub mod Noting
 pub mod KeptShares
 pub mod Vectors

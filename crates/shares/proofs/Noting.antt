@@ -4,10 +4,10 @@ use mathlib.Core.Path.{_≡_, refl, sym, _∙_}
 use mathlib.Core.Logic.{_⊎_, inl, inr}
 use mathlib.Core.Bool.{true, false, true≢false}
 use mathlib.Core.List.{List}
-use Prim.Native.Nat.{ℕ, _+_, _<_}
+use Prim.Native.Nat.{ℕ, _+_, _-_, _≤_, _<_}
 use native.Mathlib.Decide.{ℕ-discrete, decLt}
 use native.Mathlib.Omega.{arith}
-use lib.ListN.{length, set}
+use lib.ListN.{length, set, length-set}
 use lib.Seq.{getD-set-same, getD-set-other}
 use Rattle.fold.specs.First.{FirstFrom}
 use Rattle.fold.proofs.Tests.{either}
@@ -15,6 +15,7 @@ use Rattle.arrays.specs.Arrays.{at}
 use Rattle.tree.specs.Family.{helps}
 use Rattle.tree.specs.Down.{Descends}
 use Rattle.tree.specs.Inner.{Descended}
+use Rattle.tree.proofs.Linking.{Left, left-first, left-next, left-all}
 use Rattle.tree.proofs.Passing.{HelpersPassed}
 use Rattle.tree.proofs.Filling.{descends-at}
 use Rattle.shares.specs.Inner.{Noted}
@@ -49,6 +50,36 @@ module _ {h : ℕ → ℕ} {n : ℕ} {amount : ℕ → ℕ} {before : List ℕ} 
           | no d ↦ getD-set-other out k j v 0 d ∙ p .other j (λ l. z (omega arith))
         ];
       }
+
+-- ---- a loop that notes the helpers of n, and takes a part of something for each: those below k are noted
+
+pub record NotedSoFar (nodes : ℕ) (h : ℕ → ℕ) (n : ℕ) (amount part : ℕ → ℕ) (x : ℕ) (before out : List ℕ) (left k : ℕ) : Type 0 where
+  pub long : length out ≡ 64
+  pub taken : Left nodes h n part x left k
+  pub noted : Noted h n amount k before out
+
+module _ {nodes : ℕ} {h : ℕ → ℕ} {n : ℕ} {amount part : ℕ → ℕ} {x : ℕ} {before : List ℕ} where
+  pub so-far-none : {left k : ℕ} → length before ≡ 64 → left ≡ x → FirstFrom nodes (helps h n) 0 k
+      → NotedSoFar nodes h n amount part x before before left k
+  so-far-none l e f = record { long = l; taken = left-first e f; noted = noted-next noted-none f }
+
+  pub so-far-more : {out : List ℕ} {left rest k to v : ℕ} → NotedSoFar nodes h n amount part x before out left k → nodes ≤ 64 → k < nodes
+      → v ≡ amount k → rest ≡ left - part k → FirstFrom nodes (helps h n) (k + 1) to
+      → NotedSoFar nodes h n amount part x before (set out k v) rest to
+  so-far-more p few l e q f =
+      record {
+        long = simp length-set (p .long);
+        taken = left-next (p .taken) l q f;
+        noted = noted-next (noted-more (p .noted) (omega (arith, p .long)) (p .taken .helper l) e) f;
+      }
+
+  pub so-far-all : {out : List ℕ} {left k : ℕ} → NotedSoFar nodes h n amount part x before out left k → nodes ≤ k
+      → (length out ≡ 64) × Noted h n amount nodes before out
+  so-far-all p l = (p .long, rw (left-all (p .taken) l .0) at (p .noted))
+
+  -- what is noted for helper k is as it was
+  pub so-far-before : {out : List ℕ} {left k : ℕ} → NotedSoFar nodes h n amount part x before out left k → at out k ≡ at before k
+  so-far-before {k = k} p = p .noted .other k (λ l. absurd (omega arith))
 
 -- where the noted amounts are those of the family of n, from the root down, no right share is lost
 pub noted-right : {nodes : ℕ} {h : ℕ → ℕ} {fill : ℕ → ℕ → ℕ → ℕ} {share : ℕ → ℕ} {n r : ℕ} {before out : List ℕ}

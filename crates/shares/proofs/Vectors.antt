@@ -1,15 +1,17 @@
--- Shares by example, beside the steps of document 01. The theorem computes, the leasts too. Assumes nothing.
+-- Shares by example, beside the steps of document 01; the first one is request 2026-03's. The theorem computes, the leasts too.
+-- Assumes nothing.
 use mathlib.Core.Path.{_≡_, refl}
 use mathlib.Core.List.{List, [], _∷_, map}
 use Prim.Native.Nat.{ℕ}
 use lib.ListN.{getD, length}
 use Rattle.fold.specs.Sum.{sum}
+use Rattle.fold.specs.Best.{best}
 use Rattle.fold.specs.Collect.{collect}
 use Rattle.arrays.specs.Arrays.{padded, at, tabulate}
 use Rattle.tree.specs.Least.{leastWithin, least}
 use Rattle.tree.specs.Down.{down}
-use Rattle.shares.specs.Fill.{fill}
-use Rattle.shares.specs.Shares.{space, amount, keptShares}
+use Rattle.shares.specs.Fill.{chosen, fill}
+use Rattle.shares.specs.Shares.{inFamily, space, beside, amount, keptShares}
 
 -- the limit, the helpands, a row of holdings for each node, and the shares
 pub record Example : Type 0 where
@@ -33,17 +35,24 @@ example limit helpands rows shares = record { limit = limit; helpands = helpands
 
 unfoldable pub examples : List Example
 examples =
-    -- E with subdomain 0 held 34, 23, 30
-    example 36 (0 ∷ 0 ∷ 0 ∷ []) ((34 ∷ 0 ∷ 3 ∷ []) ∷ (23 ∷ 6 ∷ 0 ∷ []) ∷ (30 ∷ 0 ∷ 4 ∷ []) ∷ []) (0 ∷ 23 ∷ 29 ∷ [])
-    -- the first helper up to its space, the next one with what is left, and node 2 as owner
-    ∷ example 12 (2 ∷ 2 ∷ 2 ∷ []) ((2 ∷ 0 ∷ 0 ∷ []) ∷ (0 ∷ 2 ∷ 0 ∷ []) ∷ (0 ∷ 0 ∷ 30 ∷ []) ∷ []) (10 ∷ 8 ∷ 0 ∷ [])
+    -- E with subdomain 0 held 34, 23, 30: node 1 stands at 29 and node 0 at 34, so the rest of 1 goes to node 1
+    example 36 (0 ∷ 0 ∷ 0 ∷ []) ((34 ∷ 0 ∷ 3 ∷ []) ∷ (23 ∷ 6 ∷ 0 ∷ []) ∷ (30 ∷ 0 ∷ 4 ∷ []) ∷ []) (0 ∷ 24 ∷ 29 ∷ [])
+    -- node 2, the owner, is full, and both helpers are raised to 11
+    ∷ example 12 (2 ∷ 2 ∷ 2 ∷ []) ((2 ∷ 0 ∷ 0 ∷ []) ∷ (0 ∷ 2 ∷ 0 ∷ []) ∷ (0 ∷ 0 ∷ 30 ∷ []) ∷ []) (9 ∷ 9 ∷ 0 ∷ [])
     -- node 1 has a share of 5, and so keeps but 5 of its own 8
     ∷ example 10 (0 ∷ 0 ∷ 1 ∷ []) ((15 ∷ 0 ∷ 0 ∷ []) ∷ (0 ∷ 8 ∷ 0 ∷ []) ∷ (0 ∷ 0 ∷ 0 ∷ []) ∷ []) (0 ∷ 5 ∷ 3 ∷ [])
-    -- what a node outside the family holds is part of the rest
-    ∷ example 10 (0 ∷ 0 ∷ 1 ∷ []) ((2 ∷ 0 ∷ 0 ∷ []) ∷ (3 ∷ 0 ∷ 0 ∷ []) ∷ (9 ∷ 0 ∷ 0 ∷ []) ∷ []) (0 ∷ 4 ∷ 0 ∷ [])
+    -- what a node outside the family holds is part of the rest: nodes 0 and 1 are raised from 2 and 3 to 7
+    ∷ example 10 (0 ∷ 0 ∷ 1 ∷ []) ((2 ∷ 0 ∷ 0 ∷ []) ∷ (3 ∷ 0 ∷ 0 ∷ []) ∷ (9 ∷ 0 ∷ 0 ∷ []) ∷ []) (0 ∷ 7 ∷ 0 ∷ [])
+    -- on ties the lowest number: node 0, and not node 1, which is the owner
+    ∷ example 9 (1 ∷ 1 ∷ 1 ∷ 0 ∷ [])
+    ((0 ∷ 0 ∷ 0 ∷ 0 ∷ []) ∷ (0 ∷ 0 ∷ 0 ∷ 0 ∷ []) ∷ (0 ∷ 0 ∷ 0 ∷ 0 ∷ []) ∷ (0 ∷ 10 ∷ 0 ∷ 0 ∷ []) ∷ []) (4 ∷ 0 ∷ 3 ∷ 0 ∷ [])
+    -- node 1 stands at R + 4 = 14, and its helpers are raised from their leasts, 6 and 9, to 13
+    ∷ example 20 (0 ∷ 0 ∷ 1 ∷ 1 ∷ 0 ∷ [])
+    ((20 ∷ 0 ∷ 0 ∷ 0 ∷ 0 ∷ []) ∷ (10 ∷ 4 ∷ 0 ∷ 0 ∷ 0 ∷ []) ∷ (0 ∷ 0 ∷ 6 ∷ 0 ∷ 0 ∷ []) ∷ (0 ∷ 0 ∷ 0 ∷ 9 ∷ 0 ∷ [])
+    ∷ (2 ∷ 11 ∷ 0 ∷ 0 ∷ 1 ∷ []) ∷ []) (0 ∷ 10 ∷ 7 ∷ 4 ∷ 2 ∷ [])
     ∷ []
 
 -- THEOREM. The shares of all these examples are as noted.
 pub examples-shared : map sharesIn examples ≡ map (λ x. padded (x .shares)) examples
-unfolding examples sum collect tabulate leastWithin fill space amount down
+unfolding examples sum best collect tabulate leastWithin chosen fill inFamily space beside amount down
 examples-shared = refl

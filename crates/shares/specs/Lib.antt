@@ -1,3 +1,4 @@
 pub mod Fill
 pub mod Shares
+pub mod Levelled
 pub mod Inner

@@ -1,53 +1,52 @@
-// One family: the spaces of its members, what they keep, and the rest.
+// One family: the room that a member has, what it keeps, and the rest.
 use fold::numbers;
 use limit::TABLE_SIZE;
 use sheet::table;
 use tree::links;
 ghost use mathlib.Core.Path.{_≡_};
-ghost use Prim.Native.Nat.{_-_, _<_, min};
+ghost use Prim.Native.Nat.{_+_, _-_, _<_, min, max};
+ghost use lib.ListN.{length};
 ghost use Rattle.limit.specs.Limit.{maxNodes};
 ghost use Rattle.arrays.specs.Arrays.{at};
 ghost use Rattle.sheet.specs.Table.{held};
 ghost use Rattle.tree.specs.Inner.{LinkedTree};
-ghost use Rattle.shares.specs.Inner.{restIn};
+ghost use Rattle.shares.specs.Inner.{keepsIn, roomsIn, restIn, Noted, Somewhere};
 ghost use Rattle.sheet.specs.Totals.{totalsOf};
 
-// A member of the family of n: its space for subdomain n, and what it keeps of it.
-pub struct Member {
-    pub space: u32,
-    pub keeps: u32,
-}
-
-// The owner n itself, which has this share of its own helpand's subdomain.
-pub fn owner(table: &[u32; TABLE_SIZE], limit: u32, share: u32, n: usize) -> Member
-    requires { ⌜ n < maxNodes ⌝ }
-    ensures { λ m. ⌜ (m .space ≡ limit - share) × (m .keeps ≡ min (limit - share) (held (now (table .entry)) n n)) ⌝ }
+// What a member has space for beyond its amount. Beside it an owner has its share, and a helper its least.
+pub fn room(limit: u32, beside: u32, amount: u32) -> u32
+    ensures { λ r. ⌜ (r ≡ limit - beside - amount) × (amount + r < 4294967296) ⌝ }
 {
-    let space = numbers::saturating_sub(limit, share);
-    let keeps = numbers::min(space, table::held(table, n, n));
-    Member { space, keeps }
+    numbers::saturating_sub(numbers::saturating_sub(limit, beside), amount)
 }
 
-// Helper k of n.
-pub fn helper(
-    table: &[u32; TABLE_SIZE],
-    leasts: &[u32; 64],
-    limit: u32,
-    n: usize,
-    k: usize,
-) -> Member
-    requires { ⌜ (n < maxNodes) × (k < maxNodes) ⌝ }
-    ensures { λ m. ⌜
-        (m .space ≡ limit - at (now (leasts .entry)) k)
-        × (m .keeps ≡ min (limit - at (now (leasts .entry)) k) (held (now (table .entry)) k n)) ⌝ }
+// What member k of the family of n keeps of subdomain n.
+fn keeps(table: &[u32; TABLE_SIZE], limit: u32, beside: u32, k: usize, n: usize) -> u32
+    requires { ⌜ (k < maxNodes) × (n < maxNodes) ⌝ }
+    ensures { λ r. ⌜ r ≡ min (limit - beside) (held (now (table .entry)) k n) ⌝ }
 {
-    let space = numbers::saturating_sub(limit, leasts[k]);
-    let keeps = numbers::min(space, table::held(table, k, n));
-    Member { space, keeps }
+    numbers::min(
+        numbers::saturating_sub(limit, beside),
+        table::held(table, k, n),
+    )
 }
 
-// "The rest": what the members of the family of n do not keep of subdomain n.
-pub fn rest(
+// The larger of two numbers.
+fn larger(a: u32, b: u32) -> u32
+    ensures { λ r. ⌜ r ≡ max a b ⌝ }
+{
+    if a < b { b } else { a }
+}
+
+// What the owner keeps, the rest, which no member keeps, and the largest room that a member has.
+pub struct Kept {
+    pub own: u32,
+    pub rest: u32,
+    pub most: u32,
+}
+
+// What the members of the family of n keep of subdomain n, noted for its helpers. The share of n is this one.
+pub fn keep(
     table: &[u32; TABLE_SIZE],
     totals: &[u32; 64],
     leasts: &[u32; 64],
@@ -57,19 +56,30 @@ pub fn rest(
     limit: u32,
     share: u32,
     n: usize,
-) -> u32
+    shares: &mut [u32; 64],
+) -> Kept
     requires { ⌜
-        (LinkedTree nodes (at (now helpands)) (now links)) × (n < nodes) × (now totals ≡ totalsOf nodes (now table)) ⌝ }
+        (LinkedTree nodes (at (now helpands)) (now links)) × (n < nodes) × (now totals ≡ totalsOf nodes (now table))
+        × (length (now shares) ≡ 64) ⌝ }
     ensures { λ r. ⌜
-        r ≡ restIn nodes limit (now (helpands .entry)) (now (leasts .entry)) (now (totals .entry)) (now (table .entry)) share n ⌝ }
+        (r .own ≡ keepsIn limit (now (helpands .entry)) (now (leasts .entry)) (now (table .entry)) share n n)
+        × (r .rest ≡ restIn nodes limit (now (helpands .entry)) (now (leasts .entry)) (now (totals .entry)) (now (table .entry)) share n)
+        × (Somewhere nodes (roomsIn limit (now (helpands .entry)) (now (leasts .entry)) (now (table .entry)) share n) (r .most))
+        × (length (now (shares .exit)) ≡ 64)
+        × Noted (at (now (helpands .entry))) n
+        (keepsIn limit (now (helpands .entry)) (now (leasts .entry)) (now (table .entry)) share n)
+        nodes (now (shares .entry)) (now (shares .exit)) ⌝ }
 {
-    let own = owner(table, limit, share, n);
-    let mut rest = totals[n] - own.keeps;
+    let own = keeps(table, limit, share, n, n);
+    let mut rest = totals[n] - own;
+    let mut most = room(limit, share, own);
     let mut k = links::first(links, n);
     while k < nodes {
-        let member = helper(table, leasts, limit, n, k);
-        rest -= member.keeps;
+        let amount = keeps(table, limit, leasts[k], k, n);
+        rest -= amount;
+        most = larger(most, room(limit, leasts[k], amount));
+        shares[k] = amount;
         k = links::next(links, k);
     }
-    rest
+    Kept { own, rest, most }
 }

@@ -2,6 +2,7 @@
 // helper; the helpands are there for the contracts.
 mod family;
 mod fill;
+mod level;
 
 use limit::TABLE_SIZE;
 use tree::links;
@@ -41,7 +42,7 @@ fn divide_family(
         nodes (now (shares .entry)) (now (shares .exit)) ⌝ }
 {
     let share = shares[n];
-    let rest = family::rest(
+    let kept = family::keep(
         table,
         totals,
         leasts,
@@ -51,16 +52,21 @@ fn divide_family(
         limit,
         share,
         n,
+        shares,
     );
+    if kept.rest == 0 {
+        return;
+    }
     fill::fill(
-        table,
         leasts,
         helpands,
         links,
         nodes,
         limit,
         share,
-        rest,
+        kept.own,
+        kept.most,
+        kept.rest,
         n,
         shares,
     );

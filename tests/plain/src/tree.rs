@@ -49,26 +49,64 @@ pub fn shares(
     let n = order.len();
     let mut shares = [0; 64];
     for &owner in order {
-        let helps = |node: usize| helpands[node] as usize == owner && node != owner;
-        // first what each member keeps
-        let own_space = limit - shares[owner];
-        let own = own_space.min(table[64 * owner + owner]);
-        let mut rest = totals[owner] - own;
+        // first what each member keeps, in its standing load
+        let (mut nodes, mut standing, mut members) = ([0; 64], [0; 64], 0);
+        let mut rest = totals[owner];
         for node in 0..n {
-            if helps(node) {
-                shares[node] = (limit - leasts[node]).min(table[64 * node + owner]);
-                rest -= shares[node];
+            if helpands[node] as usize == owner || node == owner {
+                let base = if node == owner {
+                    shares[node]
+                } else {
+                    leasts[node]
+                };
+                let keeps = (limit - base).min(table[64 * node + owner]);
+                nodes[members] = node;
+                standing[members] = base + keeps;
+                members += 1;
+                rest -= keeps;
             }
         }
         // then the rest
-        rest -= rest.min(own_space - own);
-        for node in 0..n {
-            if helps(node) {
-                let more = rest.min(limit - leasts[node] - shares[node]);
-                shares[node] += more;
-                rest -= more;
+        if rest > 0 {
+            fill(&mut standing[..members], rest);
+        }
+        for at in 0..members {
+            if nodes[at] != owner {
+                shares[nodes[at]] = standing[at] - leasts[nodes[at]];
             }
         }
     }
     shares
+}
+
+/// Gives the rest to the lowest of some standing loads, by rising number. There
+/// is space for it, so nobody comes above the limit.
+fn fill(standing: &mut [u32], rest: u32) {
+    let (level, mut over) = level(standing, rest);
+    for load in standing {
+        if *load <= level {
+            let more = over.min(1);
+            *load = level + more;
+            over -= more;
+        }
+    }
+}
+
+/// How high the lowest loads rise, and what is then left over for some of them.
+fn level(standing: &[u32], rest: u32) -> (u32, u32) {
+    let mut sorted = [0; 64];
+    let sorted = &mut sorted[..standing.len()];
+    sorted.copy_from_slice(standing);
+    sorted.sort_unstable();
+    let (mut level, mut lowest, mut rest) = (sorted[0], 1, u64::from(rest));
+    for &next in &sorted[1..] {
+        let missing = u64::from(next - level) * lowest;
+        if missing > rest {
+            break;
+        }
+        rest -= missing;
+        level = next;
+        lowest += 1;
+    }
+    (level + (rest / lowest) as u32, (rest % lowest) as u32)
 }

@@ -2,8 +2,10 @@
 //! nodes: microseconds for one call of each, and the ratio of later to earlier,
 //! all of them medians of five runs, and the smallest and the largest ratio.
 //! WORDs choose the rows that have them all. Rows of an operation that one of the
-//! archives lacks are left out. FIRROZKA_RUNS and FIRROZKA_SAMPLES give other
-//! numbers of runs and of samples. It needs a C compiler to link.
+//! archives lacks are left out. A row ends with `other bytes` if they do not write
+//! the same and the rules of their versions do not say so. FIRROZKA_RUNS and
+//! FIRROZKA_SAMPLES give other numbers of runs and of samples. It needs a C
+//! compiler to link.
 #![forbid(unsafe_code)]
 
 use firrozka_tests::settings::setting;
@@ -43,10 +45,10 @@ fn main() {
 /// A line for each row, and the largest median.
 fn print(rows: &[Row], times: &[Vec<[f64; 2]>]) {
     println!(
-        "operation    sheet   outcome            inputs    | earlier  later | ratio   from     to"
+        "operation    sheet   outcome                  inputs    | earlier  later | ratio   from     to"
     );
     println!(
-        "--------------------------------------------------+----------------+--------------------"
+        "--------------------------------------------------------+----------------+--------------------"
     );
     let mut worst: f64 = 0.0;
     for (row, times) in rows.iter().zip(times) {

@@ -12,7 +12,7 @@
 //! | `tree` | The bench's boundary, helpands and helpers |
 //! | `deciding` | Deciding, the three kinds |
 //! | `weighing` | Weighing |
-//! | `keeping` | Shares in a kept tree |
+//! | `keeping` | Shares in a kept tree; request 2026-03 |
 //! | `rebuilding` | Rebuilding |
 //! | `transfer` | Moves, and the sheet that follows |
 //! | `operations` | Operations on more than one record; request 2026-02 |
@@ -31,6 +31,6 @@ pub mod weighing;
 mod words;
 
 pub use moves::read_moves;
-pub use operations::{carry_out, join_sheets, plan_step, tree_in_force, weigh};
+pub use operations::{carry_out, join_sheets, plan_step, plan_step_with, tree_in_force, weigh};
 pub use plan::read_plan;
 pub use sheet::read_sheet;

@@ -7,7 +7,7 @@
 use super::jobs::{Job, Measured};
 use super::table::Row;
 use super::timing::in_turn;
-use crate::implementations::{Implementation, REFERENCE};
+use crate::implementations::{Implementation, OWNER_FIRST, REFERENCE};
 use firrozka_loaded as loaded;
 use std::io::{self, Write};
 use std::path::{Path, PathBuf};
@@ -104,35 +104,47 @@ fn link(archive: &Path, moved: usize, object: &Path) -> io::Result<()> {
 
 /// Lower quartiles for one call of both archives, as they are loaded.
 fn in_this_place(row: &Row, samples: usize) -> [f64; 2] {
-    let quartiles = with_jobs(row, |[earlier, later]| {
-        in_turn(
-            later,
-            samples,
-            [
-                &mut |buffers| earlier.run(&EARLIER, buffers),
-                &mut |buffers| later.run(&LATER, buffers),
-            ],
-        )
-    });
+    let job = row.job(64);
+    let [earlier, later] = [0, 1].map(|place| for_version(&job, loaded::version(place)));
+    let quartiles = in_turn(
+        &later,
+        samples,
+        [
+            &mut |buffers| earlier.run(&EARLIER, buffers),
+            &mut |buffers| later.run(&LATER, buffers),
+        ],
+    );
     quartiles.map(|[lower, ..]| lower)
 }
 
-/// Does something with the calls of a row for each archive, which are the same
-/// if both count the tolerance in the same unit.
-fn with_jobs<T>(row: &Row, act: impl FnOnce([&Job; 2]) -> T) -> T {
-    let job = row.job(64);
-    let in_percent = job.in_percent();
-    act([0, 1].map(|place| match loaded::version(place) {
-        100 => &in_percent,
-        _ => &job,
-    }))
+/// The calls for an archive of this version, which are the same for all that count
+/// the tolerance in the same unit.
+fn for_version(job: &Job, version: u32) -> Job {
+    match version {
+        100 => job.in_percent(),
+        _ => job.clone(),
+    }
 }
 
-/// Whether both archives write the same bytes in all calls of a row.
+/// Whether both archives write the same bytes in all calls of a row, or each what
+/// the rules of its version say.
 pub fn agree(row: &Row) -> bool {
-    with_jobs(row, |[earlier, later]| {
-        earlier.written(&EARLIER) == later.written(&LATER)
-    })
+    let job = row.job(64);
+    let versions = [0, 1].map(loaded::version);
+    let written = |by, version| for_version(&job, version).written(by);
+    written(&EARLIER, versions[0]) == written(&LATER, versions[1])
+        || follows(&job, &EARLIER, versions[0]) && follows(&job, &LATER, versions[1])
+}
+
+/// Whether somebody of this version writes what the second implementation writes
+/// by the rules of that version: before request 2026-03 the rest went to the owner
+/// first.
+pub fn follows(job: &Job, by: &Implementation, version: u32) -> bool {
+    let rules = match version {
+        100..=102 => &OWNER_FIRST,
+        _ => &REFERENCE,
+    };
+    for_version(job, version).written(by) == job.written(rules)
 }
 
 /// The median of some numbers.

@@ -1,15 +1,17 @@
 //! Sheets and old plans for each outcome. Every input is asked whether it has
 //! the outcome that it is meant for.
 
+use super::kept::{self, Rest};
 use crate::implementations::REFERENCE;
 use crate::random::Random;
 use crate::records::plans::{self, Form};
-use crate::records::to_words;
+use crate::reference::keeping::families;
 use crate::reference::table::Table;
-use crate::steps::{totals, Step};
+use crate::reference::{plan, sheet};
+use crate::steps::Step;
 
 /// The tolerance of all sheets, in tenths of a percent.
-const TOLERANCE: u32 = 100;
+pub const TOLERANCE: u32 = 100;
 
 /// How many particles a node has on average.
 const AVERAGE: u64 = 100_000;
@@ -20,7 +22,8 @@ pub enum Filling {
     /// All N × N cells.
     Dense,
     /// About 3N cells: of each subdomain, what its owner, one of its helpers
-    /// and one other node hold.
+    /// and one other node hold; in a kept tree, what its family and one other
+    /// node hold.
     Sparse,
 }
 
@@ -28,7 +31,7 @@ pub enum Filling {
 #[derive(Clone, Copy, Debug, PartialEq, Eq)]
 pub enum Outcome {
     Primary,
-    Kept(Form),
+    Kept(Form, Rest),
     /// Rebuilt, with an old tree that does not hold or with none.
     Rebuilt(Option<Form>),
     /// Primary, and the sheet is joined with another, which is filled so.
@@ -37,11 +40,14 @@ pub enum Outcome {
 
 pub const FILLINGS: [Filling; 2] = [Filling::Dense, Filling::Sparse];
 
-pub const OUTCOMES: [Outcome; 8] = [
+pub const OUTCOMES: [Outcome; 11] = [
     Outcome::Primary,
-    Outcome::Kept(Form::Chain),
-    Outcome::Kept(Form::Star),
-    Outcome::Kept(Form::Random),
+    Outcome::Kept(Form::Chain, Rest::Small),
+    Outcome::Kept(Form::Chain, Rest::Large),
+    Outcome::Kept(Form::Star, Rest::Small),
+    Outcome::Kept(Form::Star, Rest::Large),
+    Outcome::Kept(Form::Random, Rest::Small),
+    Outcome::Kept(Form::Random, Rest::Large),
     Outcome::Rebuilt(None),
     Outcome::Rebuilt(Some(Form::Random)),
     Outcome::Joined(Filling::Dense),
@@ -52,7 +58,7 @@ impl Outcome {
     pub fn kind(self) -> u32 {
         match self {
             Outcome::Primary | Outcome::Joined(_) => 0,
-            Outcome::Kept(_) => 1,
+            Outcome::Kept(..) => 1,
             Outcome::Rebuilt(_) => 2,
         }
     }
@@ -61,7 +67,7 @@ impl Outcome {
     pub fn form(self) -> Option<Form> {
         match self {
             Outcome::Primary | Outcome::Joined(_) => None,
-            Outcome::Kept(form) => Some(form),
+            Outcome::Kept(form, _) => Some(form),
             Outcome::Rebuilt(form) => form,
         }
     }
@@ -69,7 +75,9 @@ impl Outcome {
     pub fn name(self) -> String {
         match (self, self.form()) {
             (Outcome::Primary, _) => "primary".into(),
-            (Outcome::Kept(form), _) => format!("kept, {form:?}").to_lowercase(),
+            (Outcome::Kept(form, rest), _) => {
+                format!("kept, {form:?}, {rest:?} rest").to_lowercase()
+            }
             (Outcome::Joined(filling), _) => format!("with {filling:?}").to_lowercase(),
             (_, Some(_)) => "rebuilt, old tree".into(),
             (_, None) => "rebuilt, no tree".into(),
@@ -81,11 +89,25 @@ impl Outcome {
 pub fn step(n: usize, filling: Filling, outcome: Outcome, random: &mut Random) -> Step {
     loop {
         let step = attempt(n, filling, outcome, random);
-        let planned = REFERENCE.plan(&step);
-        if to_words(&planned.plan)[1] == outcome.kind() {
+        if is_met(outcome, &step) {
             return step;
         }
     }
+}
+
+/// Whether the step comes to this.
+fn is_met(outcome: Outcome, step: &Step) -> bool {
+    let planned = REFERENCE.plan(step);
+    let plan = plan::read(&planned.plan).expect("the plan is accepted");
+    let rest_is_met = |rest: Rest| {
+        let sheet = sheet::read(&step.sheet).expect("the sheet is accepted");
+        rest.is_met(&families(&plan, &Table::of(&sheet)))
+    };
+    plan.kind == outcome.kind()
+        && match outcome {
+            Outcome::Kept(_, rest) => rest_is_met(rest),
+            _ => true,
+        }
 }
 
 fn attempt(n: usize, filling: Filling, outcome: Outcome, random: &mut Random) -> Step {
@@ -93,12 +115,13 @@ fn attempt(n: usize, filling: Filling, outcome: Outcome, random: &mut Random) ->
         Some(form) => tree(n, form, random),
         None => (0..n as u32).collect(),
     };
-    let totals = match outcome {
-        Outcome::Primary | Outcome::Joined(_) => level(n, random),
-        Outcome::Kept(_) => divided(&helpands, random),
-        Outcome::Rebuilt(_) => uneven(n, random),
+    let table = match outcome {
+        Outcome::Primary | Outcome::Joined(_) => {
+            spread(&level(n, random), &helpands, filling, random)
+        }
+        Outcome::Kept(_, rest) => kept::divided(&helpands, filling, rest, random),
+        Outcome::Rebuilt(_) => spread(&uneven(n, random), &helpands, filling, random),
     };
-    let table = spread(&totals, &helpands, filling, random);
     let old = match outcome.form() {
         Some(_) => plans::plan(2, 0, &helpands, &vec![0; n]).bytes(),
         None => Vec::new(),
@@ -117,16 +140,9 @@ fn tree(n: usize, form: Form, random: &mut Random) -> Vec<u32> {
 }
 
 /// Totals within a few percent of each other.
-fn level(n: usize, random: &mut Random) -> Vec<u64> {
+pub fn level(n: usize, random: &mut Random) -> Vec<u64> {
     let (low, high) = (AVERAGE - AVERAGE / 40, AVERAGE + AVERAGE / 40);
     (0..n).map(|_| random.amount(low, high)).collect()
-}
-
-/// The totals of a division along the tree with loads within a few percent of
-/// each other, in which each node has a part of its helpand's subdomain.
-fn divided(helpands: &[u32], random: &mut Random) -> Vec<u64> {
-    let loads = level(helpands.len(), random);
-    totals::divided(&loads, helpands, |_, load| random.amount(0, load * 3 / 4))
 }
 
 /// Totals of which some are many times others, and one is about half of all.

@@ -2,6 +2,7 @@
 //! mere copy of the bytes that it reads and writes.
 
 use super::inputs::{self, Filling, Outcome};
+use super::kept::Rest;
 use crate::answers::WrittenAnswer;
 use crate::implementations::{Implementation, MOVES_BYTES, PLAN_BYTES, REFERENCE, SHEET_BYTES};
 use crate::random::Random;
@@ -35,12 +36,14 @@ impl Measured {
         }
     }
 
-    /// *Weigh* takes a tree, and *join sheets* a second sheet.
+    /// *Weigh* takes a tree, whoever holds the particles, and *join sheets* a
+    /// second sheet.
     pub fn takes(self, outcome: Outcome) -> bool {
         let joined = matches!(outcome, Outcome::Joined(_));
+        let again = matches!(outcome, Outcome::Kept(_, Rest::Large));
         match self {
             Measured::PlanStep | Measured::CarryOut => !joined,
-            Measured::Weigh => outcome.form().is_some(),
+            Measured::Weigh => outcome.form().is_some() && !again,
             Measured::JoinSheets => joined,
         }
     }

@@ -5,6 +5,7 @@
 //! | file | what it holds |
 //! |---|---|
 //! | `inputs` | sheets and old plans for each outcome |
+//! | `kept` | sheets for kept trees, with a small or a large rest |
 //! | `jobs` | an operation on some inputs, ready to be timed |
 //! | `timing` | medians |
 //! | `table` | what is printed |
@@ -13,5 +14,6 @@
 pub mod compared;
 pub mod inputs;
 pub mod jobs;
+pub mod kept;
 pub mod table;
 pub mod timing;

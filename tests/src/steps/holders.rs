@@ -9,9 +9,9 @@ use crate::reference::table::Table;
 /// way or for each in another.
 pub fn spread(totals: &[u64], helpands: &[u32], size: Size, random: &mut Random) -> Table {
     let mut table = Table::empty(totals.len());
-    let way = random.below(7);
+    let way = random.below(8);
     for (subdomain, &total) in totals.iter().enumerate() {
-        let way = if way == 6 { random.below(6) } else { way };
+        let way = if way == 7 { random.below(7) } else { way };
         let holders = holders(way, subdomain, helpands, size, random);
         let pieces = cut(total, holders.len(), random);
         for (holder, piece) in holders.into_iter().zip(pieces) {
@@ -39,6 +39,12 @@ fn holders(
             .chain([random.place(n), random.place(n)])
             .collect(),
         3 => vec![random.place(n)],
+        // One node has as much as the whole family: a rest for many members.
+        6 => {
+            let mut holders: Vec<usize> = (0..n).filter(family).collect();
+            holders.extend(vec![random.place(n); holders.len()]);
+            holders
+        }
         4 if !matches!(size, Size::Few(_)) => (0..n).collect(),
         _ => (0..random.between(1, 3)).map(|_| random.place(n)).collect(),
     }

@@ -1,0 +1,167 @@
+//! Request 2026-03 in the second implementation: level filling gives what one
+//! particle after another would give, in all small families, in random ones and
+//! in whole steps.
+#![forbid(unsafe_code)]
+
+use firrozka_tests::bench_text;
+use firrozka_tests::implementations::{MOVES_BYTES, PLAN_BYTES, REFERENCE};
+use firrozka_tests::random::Random;
+use firrozka_tests::records::plans;
+use firrozka_tests::reference::keeping::{level_filling, one_after_another, Fill, Member};
+use firrozka_tests::reference::plan_step_with;
+use firrozka_tests::reference::table::Table;
+use firrozka_tests::settings::SEED;
+use firrozka_tests::steps::Step;
+use firrozka_tests::{exhaustive, worked};
+use std::fs;
+
+/// A member with this standing load, a part of which it keeps of the subdomain,
+/// and space for so many more.
+fn member(node: usize, owner: usize, [standing, kept, more]: [u64; 3]) -> Member {
+    Member {
+        node,
+        is_owner: node == owner,
+        base: standing - kept,
+        space: kept + more,
+        amount: kept,
+    }
+}
+
+/// Fills a family both ways.
+fn filled(members: &[Member], rest: u64) {
+    let after = |fill: Fill| {
+        let mut members = members.to_vec();
+        fill(&mut members, rest);
+        members
+    };
+    let [level, one_by_one] = [level_filling, one_after_another].map(|fill| after(fill));
+    assert_eq!(level, one_by_one, "{rest} to {members:?}");
+}
+
+fn space_left(members: &[Member]) -> u64 {
+    members.iter().map(Member::space_left).sum()
+}
+
+/// All families of up to four members with standing loads and spaces below 4,
+/// the owner at each place, and every rest.
+#[test]
+fn all_small_families() {
+    for size in 1..=4 {
+        for row in exhaustive::rows(2 * size, 4) {
+            let owner = row[0] as usize % size;
+            let one = |node: usize| {
+                let [standing, more] = [row[2 * node], row[2 * node + 1]].map(u64::from);
+                member(node, owner, [standing, standing / 2, more])
+            };
+            let members: Vec<Member> = (0..size).map(one).collect();
+            for rest in 0..=space_left(&members) {
+                filled(&members, rest);
+            }
+        }
+    }
+}
+
+/// Families of up to 64 members under a limit, with rests up to some thousand.
+#[test]
+fn random_families() {
+    for index in 0..1_000 {
+        let random = &mut Random::at(SEED, index);
+        let size = 1 + random.place(64);
+        let owner = random.place(size);
+        let limit = random.amount(1, 300);
+        // Few different standing loads, so that many tie.
+        let step = random.one_of(&[1, 1, limit / 3 + 1]);
+        let one = |node| {
+            let standing = random.amount(0, limit) / step * step;
+            let kept = random.amount(0, standing);
+            member(node, owner, [standing, kept, limit - standing])
+        };
+        let members: Vec<Member> = (0..size).map(one).collect();
+        let most = space_left(&members);
+        let any = random.amount(0, most);
+        filled(&members, random.one_of(&[any, any, most / 2, most]));
+    }
+}
+
+/// A billion, more than can be given one after another.
+#[test]
+fn the_largest_rest() {
+    let empty = |node| member(node, 0, [0, 0, 500_000_000]);
+    let mut members: Vec<Member> = (0..3).map(empty).collect();
+    level_filling(&mut members, 1_000_000_000);
+    let amounts: Vec<u64> = members.iter().map(|member| member.amount).collect();
+    assert_eq!(amounts, [333_333_334, 333_333_333, 333_333_333]);
+}
+
+/// The request's own example, as the example prints it: the leasts, then the plan.
+#[test]
+fn the_example() {
+    let Step { sheet, old } = worked::e_levelled();
+    let (leasts, holds) = REFERENCE.weighed(&sheet, &old).expect("accepted");
+    let mut text = format!("limit {}\n", (REFERENCE.read_sheet)(&sheet).limit);
+    for (node, least) in leasts.iter().enumerate() {
+        text += &format!("node {node} least {least}\n");
+    }
+    assert!(holds);
+    text += "the tree holds\n";
+    text += &bench_text::text(&sheet, &old);
+    let path = concat!(env!("CARGO_MANIFEST_DIR"), "/../examples/level.expected");
+    let expected = fs::read_to_string(path).expect("the file is there");
+    assert!(expected == text, "it should be:\n{text}");
+}
+
+/// What *plan a step* writes with this filling.
+fn written(fill: Fill, sheet: &[u8], old: &[u8]) -> (u32, Vec<u8>) {
+    let (mut plan, mut moves) = (vec![0; PLAN_BYTES], vec![0; MOVES_BYTES]);
+    let answer = plan_step_with(fill, [sheet, old], &mut plan, &mut moves);
+    (answer.kind, [plan, moves].concat())
+}
+
+/// All steps of three nodes and any tree, in which everybody holds none, one or
+/// three of what it may hold.
+#[test]
+fn all_small_steps() {
+    let mut kept = 0;
+    let trees = exhaustive::trees(3);
+    for row in exhaustive::rows(9, 3) {
+        let mut table = Table::empty(3);
+        for (at, &count) in row.iter().enumerate() {
+            table.counts[at / 3][at % 3] = [0, 1, 3][count as usize];
+        }
+        let sheet = table.sheet(worked::ONE_PERCENT).bytes();
+        for helpands in &trees {
+            let old = worked::old(helpands);
+            let (kind, bytes) = written(level_filling, &sheet, &old);
+            if kind == 1 {
+                let (_, other) = written(one_after_another, &sheet, &old);
+                assert!(bytes == other, "{row:?} along {helpands:?}");
+                kept += 1;
+            }
+        }
+    }
+    assert!(kept > 10_000, "{kept}");
+}
+
+/// Steps of many nodes with a few thousand particles, held by anybody.
+#[test]
+fn random_steps() {
+    let mut kept = 0;
+    for index in 0..600 {
+        let random = &mut Random::at(SEED, index);
+        let n = random.between(2, 64);
+        let mut table = Table::empty(n as usize);
+        let most = random.one_of(&[1, 3, 100]);
+        for _ in 0..10 * n {
+            let (holder, subdomain) = (random.place(n as usize), random.place(n as usize));
+            table.counts[holder][subdomain] += random.amount(0, most);
+        }
+        let sheet = table.sheet(random.between(100, 999)).bytes();
+        let old = worked::old(&plans::tree(n, random));
+        let (kind, bytes) = written(level_filling, &sheet, &old);
+        if kind == 1 {
+            assert!(bytes == written(one_after_another, &sheet, &old).1);
+            kept += 1;
+        }
+    }
+    assert!(kept > 100, "{kept}");
+}
