@@ -8,4 +8,5 @@ pub mod Filling
 pub mod Summing
 pub mod Noting
 pub mod KeptShares
+pub mod Determined
 pub mod Vectors

@@ -2,7 +2,7 @@
 use mathlib.Core.Path.{_≡_, sym, _∙_}
 use mathlib.Core.Logic.{_≢_, _⊎_, inl, inr}
 use mathlib.Core.Bool.{true, false}
-use Prim.Native.Nat.{ℕ, _+_, _*_, _≤_, _<_}
+use Prim.Native.Nat.{ℕ, _+_, _-_, _*_, _≤_, _<_}
 use native.Mathlib.Decide.{decLt}
 use native.Mathlib.Omega.{arith}
 use lib.Dec.{ltb}
@@ -57,7 +57,7 @@ module _ {nodes : ℕ} {h : ℕ → ℕ} {n : ℕ} {part : ℕ → ℕ} where
 -- ---- members in the order of their numbers: what those below k add up to
 
 module _ (h : ℕ → ℕ) (n : ℕ) (f : ℕ → ℕ) (other : (j : ℕ) → j ≢ n → helps h n j ≡ false → f j ≡ 0) where
-  pub members-below : (k : ℕ) → sum k f ≡ only (ltb n k) (f n) + overHelpers k h n f
+  members-below : (k : ℕ) → sum k f ≡ only (ltb n k) (f n) + overHelpers k h n f
   members-below k = elim (decLt n k) [
     | yes l ↦ omega (arith, family-sum h n f k l other, only-is (ltb n k) (f n) (lt-ltb n k l))
     | no d ↦
@@ -71,3 +71,8 @@ module _ (h : ℕ → ℕ) (n : ℕ) (f : ℕ → ℕ) (other : (j : ℕ) → j 
       helper : (j : ℕ) → j ≢ n → (helps h n j ≡ true) ⊎ (helps h n j ≡ false) → f j ≡ only (helps h n j) (f j)
       helper j d (inl y) = sym (only-is (helps h n j) (f j) y)
       helper j d (inr y) = other j d y ∙ sym (only-not (helps h n j) (f j) y)
+
+  -- what all of them leave, taken from the helpers first
+  pub left-below : (left k : ℕ) {some result : ℕ} → some ≡ left - overHelpers k h n f → result ≡ some - only (ltb n k) (f n)
+      → result ≡ left - sum k f
+  left-below left k p q = omega (arith, members-below k)

@@ -1,10 +1,10 @@
 -- `family::keep` meets its contract: at the loop's head the helpers passed are noted with what they keep, and the rest is the total less
 -- what the owner and they keep. Assumes nothing.
 use borrow.Author.Needs.{needs}
-use mathlib.Core.Path.{_≡_, ap, _∙_}
+use mathlib.Core.Path.{_≡_, sym, ap, _∙_}
 use mathlib.Core.Bool.{true}
 use mathlib.Core.List.{List}
-use Prim.Native.Nat.{ℕ, _+_, _-_, _≤_, _<_}
+use Prim.Native.Nat.{ℕ, _+_, _-_, _≤_, _<_, min}
 use native.Mathlib.Omega.{arith}
 use denote.Ref.{now}
 use Rattle.fold.specs.First.{FirstFrom}
@@ -101,7 +101,7 @@ module _ (c : tie.After-keeps2 Inv-loop μ-loop) where
   keeps-is =
       let a = start .args in
       let e = space-helper (at (now (a .helpands))) (a .limit) (at (now (a .leasts))) (a .share) (a .n) k helps-n in
-      omega (arith, c .keeps2 .ensures, e)
+      c .keeps2 .ensures ∙ ap (λ (x : ℕ). min x (holding start k)) (sym e)
 
   still-there : c .keeps2 .result ≤ loop .loop .rest
   still-there =

@@ -16,7 +16,7 @@ use Rattle.tree.proofs.Linking.{link-first, link-next}
 use Rattle.shares.specs.Inner.{roomsNow, unit, gets}
 use Rattle.shares.proofs.LevelForm.{gets-turn}
 use Rattle.shares.proofs.Spaces.{family-own, family-helper, family-other}
-use Rattle.shares.proofs.Summing.{members-below}
+use Rattle.shares.proofs.Summing.{left-below}
 use Rattle.shares.proofs.Noting.{NotedSoFar, so-far-none, so-far-more, so-far-all, so-far-before}
 use Rattle.shares.proofs.fill.spread.Statement.{statement}
 use Rattle.shares.proofs.fill.spread.Tie as tie
@@ -98,14 +98,10 @@ module _ (c : tie.After-raised-arg Inv-loop μ-loop) where
   -- what is left for helper k
   left-is : smaller .before .left-for .result ≡ start .args .left - sum k (unit (rooms start) (start .args .level))
   left-is =
-      let units = unit (rooms start) (start .args .level) in
-      omega (
-        arith,
-        smaller .before .left-for .ensures,
-        ap (λ (x : ℕ). only (ltb (start .args .n) k) x) (owner-is (loop .before .before)),
-        loop .loop .inv .taken .left-is,
-        members-below (h start) (start .args .n) units (none-other start) k,
-      )
+      left-below (h start) (start .args .n) (unit (rooms start) (start .args .level)) (none-other start) (start .args .left) k
+      (loop .loop .inv .taken .left-is)
+      (smaller .before .left-for .ensures
+      ∙ ap (λ (x : ℕ). loop .loop .some - only (ltb (start .args .n) k) x) (owner-is (loop .before .before)))
 
   extra-most : smaller .min .result ≤ one .unit2 .result
   extra-most = omega (arith, smaller .min .ensures)
