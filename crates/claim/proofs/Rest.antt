@@ -3,7 +3,7 @@
 use mathlib.Core.Path.{_≡_, sym, ap, _∙_, subst}
 use mathlib.Core.Logic.{inl}
 use mathlib.Core.List.{List}
-use Prim.Native.Nat.{ℕ}
+use Prim.Native.Nat.{ℕ, _≤_}
 use native.Mathlib.Omega.{arith}
 use lib.ListN.{length, take}
 use Rattle.arrays.specs.Arrays.{at, tabulate}
@@ -16,7 +16,7 @@ use Rattle.shares.specs.Levelled.{RestLevelled}
 use Rattle.decide.specs.declared.Decision.{Decision}
 use Rattle.decide.proofs.Decided.{KeptLevelled, decided-levelled}
 use Rattle.planner.specs.declared.StepAnswer.{StepAnswer}
-use Rattle.planner.specs.Step.{readOld, oldHelpands, decisionIn, planIn, stepAnswer, planAfter}
+use Rattle.planner.specs.Step.{readOld, oldHelpands, decisionIn, planIn, movesIn, stepAnswer, planAfter}
 use Rattle.planner.proofs.Facts.{given, decision}
 use Rattle.planner.proofs.ReadBack.{Plannable, was-read, done-step, plan-front}
 use Rattle.planner.proofs.Sizes.{plan-size, moves-size}
@@ -70,8 +70,8 @@ pub rest-levelled : (s o p m x : List ℕ) → Overloaded s → AcceptedTree s o
     a .kind ≡ 1 → RestLevelledIn s (take (a .plan) (planAfter s o p (length m)))
 rest-levelled s o p m x over t long k =
     let y = plannable s o over (inl t) in
-    let plan-fits = omega (arith, plan-size y, long .plan) in
-    let moves-fit = omega (arith, moves-size y, long .moves) in
+    let plan-fits : length (planIn s o) ≤ length p = omega (arith, plan-size y, long .plan) in
+    let moves-fit : length (movesIn s o) ≤ length m = omega (arith, moves-size y, long .moves) in
     let answer = done-step s o (length p) (length m) y plan-fits moves-fit in
     let e : stepAnswer s o (length p) (length m) .refusal ≡ 0 = ap (λ (a : StepAnswer). a .refusal) answer in
     let kinds : stepAnswer s o (length p) (length m) .kind ≡ decisionIn s o .kind = ap (λ (a : StepAnswer). a .kind) answer in
