@@ -18,9 +18,9 @@
 extern "C" {
 #endif
 
-/* The version, 100 × major + minor: 1.3 is 103. CHANGELOG.md says what each brought. firrozka_version() is the archive's own: where the
+/* The version, 100 × major + minor: 1.4 is 104. CHANGELOG.md says what each brought. firrozka_version() is the archive's own: where the
  * two differ, a program was compiled with the header of another version. */
-#define FIRROZKA_VERSION 103
+#define FIRROZKA_VERSION 104
 uint32_t firrozka_version(void);
 
 /* Buffers of so many bytes are long enough for every call. */
@@ -28,7 +28,8 @@ enum {
     FIRROZKA_SHEET_BYTES = 32780, /* 4 × (3 + 2 × 4,096) */
     FIRROZKA_PLAN_BYTES = 524,    /* 4 × (3 + 2 × 64) */
     FIRROZKA_MOVES_BYTES = 32264, /* 4 × (2 + 2 × 4,032) */
-    FIRROZKA_LEAST_BYTES = 256    /* 4 × 64 */
+    FIRROZKA_LEAST_BYTES = 256,   /* 4 × 64 */
+    FIRROZKA_PAGE_BYTES = 1625    /* 25 × (64 + 1) */
 };
 
 /* The kind of a plan. */
@@ -79,13 +80,15 @@ enum firrozka_refusal {
     FIRROZKA_MOVES_LENGTH = 34,  /* the length is not 4 × (2 + 2E) bytes */
     FIRROZKA_MOVES_ROUTE = 35,   /* a route does not rise, names a node not below N, or has one node as sender and receiver */
     FIRROZKA_MOVES_COUNT = 36,   /* a count is 0 or above 1,000,000,000 */
-    /* carry out */
+    /* carry out; 41 and 42 also traffic page */
     FIRROZKA_MOVES_NODES_DIFFER = 41, /* the N of sheet and moves differ */
     FIRROZKA_MOVES_SENDS = 42,        /* some cell sends in all more than the old sheet gives it */
     FIRROZKA_SHEET_BUFFER = 43,       /* the buffer is too short */
     /* join sheets */
     FIRROZKA_SHEETS_DIFFER = 51, /* the N or the t of the two sheets differ */
-    FIRROZKA_JOINED_BUFFER = 52  /* the buffer is too short */
+    FIRROZKA_JOINED_BUFFER = 52, /* the buffer is too short */
+    /* traffic page */
+    FIRROZKA_PAGE_BUFFER = 53 /* the buffer is under 25 × (N+1) bytes */
 };
 
 /* Read sheet: N, the tolerance t in tenths of a percent, the number of cells E, the total P and the limit L. Refused: 1 to 7. */
@@ -135,6 +138,13 @@ struct firrozka_written firrozka_carry_out(const uint8_t *sheet, size_t sheet_le
  * together are above 1,000,000,000; 52. */
 struct firrozka_written firrozka_join_sheets(const uint8_t *first, size_t first_len, const uint8_t *second, size_t second_len,
                                              uint8_t *out, size_t out_len);
+
+/* Traffic page: writes what each node sends and receives in all when these moves are carried out, as text to pin up, and gives its length
+ * in bytes, 25 × (N+1). A line has the node in 2 columns, a blank, sent in 10, a blank, received in 10, all right-aligned, and a newline.
+ * The last line has == for the node and the two totals, which are equal. The text is ASCII, and no null byte ends it.
+ * Refused: the sheet's; the moves'; 41, 42, 53. */
+struct firrozka_written firrozka_traffic_page(const uint8_t *sheet, size_t sheet_len, const uint8_t *moves, size_t moves_len,
+                                              uint8_t *page, size_t page_len);
 
 /* Tree in force: the helpands that hold after a step, as a stretch of one of the two plans: which plan, and where in it, in bytes. It is
  * of the old plan if the new kind is 1, else of the new. A new plan of kind 0 gives its roots. Nothing is copied, nothing is refused.

@@ -4,7 +4,7 @@
 #include <string.h>
 #include "firrozka.h"
 
-#if FIRROZKA_VERSION < 103
+#if FIRROZKA_VERSION < 104
 #error "the preprocessor can test the version"
 #endif
 
@@ -26,7 +26,23 @@ static const uint8_t other_nodes[] = {2, 0, 0, 0, 100, 0, 0, 0, 0, 0, 0, 0};
 static const uint8_t other_tolerance[] = {3, 0, 0, 0, 35, 0, 0, 0, 0, 0, 0, 0};
 static const uint8_t too_many[] = {3, 0, 0, 0, 100, 0, 0, 0, 1, 0, 0, 0, 0, 0, 0, 0, 0x9d, 0xc9, 0x9a, 0x3b};
 
+/* Nodes 0, 1 and 2 hold 34 and 3, 23, and 1,200 particles. Of subdomain 0 node 2 sends 1,000 to node 0 and 7 to node 1; of subdomain 1
+ * node 0 sends 3 to node 1, and node 1 sends 20 to node 2. Then the page, and moves that are refused: one from node 0 to itself, of 2
+ * nodes, and 24 where node 1 has 23. */
+static const uint8_t busy[] = {3, 0, 0, 0, 100, 0, 0, 0, 4, 0, 0, 0, 0, 0, 0, 0, 1, 0, 0, 0, 65, 0, 0, 0,
+                               128, 0, 0, 0, 34, 0, 0, 0, 3, 0, 0, 0, 23, 0, 0, 0, 0xb0, 4, 0, 0};
+static const uint8_t traffic[] = {3, 0, 0, 0, 4, 0, 0, 0, 128, 0, 0, 0, 129, 0, 0, 0, 1, 16, 0, 0,
+                                  66, 16, 0, 0, 0xe8, 3, 0, 0, 7, 0, 0, 0, 3, 0, 0, 0, 20, 0, 0, 0};
+static const char text[] = " 0          3       1000\n"
+                           " 1         20         10\n"
+                           " 2       1007         20\n"
+                           "==       1030       1030\n";
+static const uint8_t to_itself[] = {3, 0, 0, 0, 1, 0, 0, 0, 0, 0, 0, 0, 1, 0, 0, 0};
+static const uint8_t moves_of_two[] = {2, 0, 0, 0, 0, 0, 0, 0};
+static const uint8_t too_much[] = {3, 0, 0, 0, 1, 0, 0, 0, 66, 16, 0, 0, 24, 0, 0, 0};
+
 static uint8_t plan[FIRROZKA_PLAN_BYTES], moves[FIRROZKA_MOVES_BYTES], next[FIRROZKA_SHEET_BYTES], least[FIRROZKA_LEAST_BYTES];
+static uint8_t page[FIRROZKA_PAGE_BYTES];
 
 static void check(int line, int good)
 {
@@ -81,6 +97,34 @@ static void check_join(void)
     CHECK(not_joined(FIRROZKA_JOINED_BUFFER, inlet, sizeof inlet, sizeof joined - 1));
 }
 
+/* Whether these moves are refused so on that sheet, with 0 bytes and the buffer as it was. */
+static int no_page(uint32_t refusal, size_t sheet_len, const uint8_t *list, size_t list_len, size_t page_len)
+{
+    uint8_t untouched[sizeof page];
+    memset(untouched, 0xa5, sizeof untouched);
+    memset(page, 0xa5, sizeof page);
+    struct firrozka_written t = firrozka_traffic_page(busy, sheet_len, list, list_len, page, page_len);
+    return t.refusal == refusal && !t.bytes && !memcmp(page, untouched, sizeof page);
+}
+
+static void check_traffic(void)
+{
+    const size_t length = sizeof text - 1;
+    uint8_t untouched[sizeof page];
+    memset(untouched, 0xa5, sizeof untouched);
+    memset(page, 0xa5, sizeof page);
+    struct firrozka_written t = firrozka_traffic_page(busy, sizeof busy, traffic, sizeof traffic, page, sizeof page);
+    CHECK(!t.refusal && t.bytes == length && !memcmp(page, text, length));
+    CHECK(!memcmp(page + length, untouched, sizeof page - length));
+    /* A buffer of just this length. */
+    CHECK(firrozka_traffic_page(busy, sizeof busy, traffic, sizeof traffic, page, length).bytes == length);
+    CHECK(no_page(FIRROZKA_SHEET_LENGTH, sizeof busy - 1, traffic, sizeof traffic, sizeof page));
+    CHECK(no_page(FIRROZKA_MOVES_ROUTE, sizeof busy, to_itself, sizeof to_itself, sizeof page));
+    CHECK(no_page(FIRROZKA_MOVES_NODES_DIFFER, sizeof busy, moves_of_two, sizeof moves_of_two, sizeof page));
+    CHECK(no_page(FIRROZKA_MOVES_SENDS, sizeof busy, too_much, sizeof too_much, sizeof page));
+    CHECK(no_page(FIRROZKA_PAGE_BUFFER, sizeof busy, traffic, sizeof traffic, length - 1));
+}
+
 /* With length 0 a pointer may be null, a buffer's too. */
 static void check_null(void)
 {
@@ -94,6 +138,9 @@ static void check_null(void)
     CHECK(firrozka_join_sheets(NULL, 0, sheet, sizeof sheet, next, sizeof next).refusal == FIRROZKA_SHEET_SHORT);
     CHECK(firrozka_join_sheets(sheet, sizeof sheet, NULL, 0, next, sizeof next).refusal == FIRROZKA_SHEET_SHORT);
     CHECK(firrozka_join_sheets(sheet, sizeof sheet, inlet, sizeof inlet, NULL, 0).refusal == FIRROZKA_JOINED_BUFFER);
+    CHECK(firrozka_traffic_page(NULL, 0, traffic, sizeof traffic, page, sizeof page).refusal == FIRROZKA_SHEET_SHORT);
+    CHECK(firrozka_traffic_page(busy, sizeof busy, NULL, 0, page, sizeof page).refusal == FIRROZKA_MOVES_SHORT);
+    CHECK(firrozka_traffic_page(busy, sizeof busy, traffic, sizeof traffic, NULL, 0).refusal == FIRROZKA_PAGE_BUFFER);
     CHECK(firrozka_tree_in_force(NULL, 0, NULL, 0).length == 0);
 }
 
@@ -121,6 +168,7 @@ int main(void)
     check_readers();
     check_operations();
     check_join();
+    check_traffic();
     check_null();
     check_force();
     return 0;

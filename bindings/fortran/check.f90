@@ -62,6 +62,7 @@ program check
 
     call same([firrozka_version()], [integer :: firrozka_module_version])
     call check_join
+    call check_traffic
     call check_words
 
 contains
@@ -94,6 +95,46 @@ contains
         next = untouched
         written = firrozka_join_sheets(d, size(d, kind=c_size_t), second, size(second, kind=c_size_t), next, out_len)
         call same([written%refusal, written%bytes, count(next /= untouched, kind=c_int32_t)], [integer :: refusal, 0, 0])
+    end subroutine
+
+    ! Nodes 0, 1 and 2 hold 34 and 3, 23, and 1,200 particles. Of subdomain 0 node 2 sends 1,000 to node 0 and 7 to node 1; of
+    ! subdomain 1 node 0 sends 3 to node 1, and node 1 sends 20 to node 2. Refused are a move from node 0 to itself, moves of
+    ! 2 nodes, and 24 where node 1 has 23.
+    subroutine check_traffic
+        character(len=*), parameter :: lines(4) = [' 0          3       1000', ' 1         20         10', &
+                                                   ' 2       1007         20', '==       1030       1030']
+        character(len=firrozka_page_bytes) :: page
+        integer(c_int8_t) :: busy(44), traffic(40)
+        integer :: k
+
+        busy = words_to_bytes([3, 100, 4, 0, 1, 65, 128, 34, 3, 23, 1200])
+        traffic = words_to_bytes([3, 4, 128, 129, 4097, 4162, 1000, 7, 3, 20])
+        page = repeat('~', len(page))
+        written = firrozka_traffic_page(busy, size(busy, kind=c_size_t), traffic, size(traffic, kind=c_size_t), &
+                                        page, len(page, kind=c_size_t))
+        call same([written%refusal, written%bytes, verify(page(101:), '~', kind=c_int32_t)], [0, 100, 0])
+        call same([count([(page(25 * k - 24:25 * k) /= lines(k) // achar(10), k = 1, 4)], kind=c_int32_t)], [0])
+        ! A buffer of just this length.
+        written = firrozka_traffic_page(busy, size(busy, kind=c_size_t), traffic, size(traffic, kind=c_size_t), page, 100_c_size_t)
+        call same([written%refusal, written%bytes], [0, 100])
+
+        call check_no_page(firrozka_sheet_length, busy(:43), traffic, firrozka_page_bytes)
+        call check_no_page(firrozka_moves_route, busy, words_to_bytes([3, 1, 0, 1]), firrozka_page_bytes)
+        call check_no_page(firrozka_moves_nodes_differ, busy, words_to_bytes([2, 0]), firrozka_page_bytes)
+        call check_no_page(firrozka_moves_sends, busy, words_to_bytes([3, 1, 4162, 24]), firrozka_page_bytes)
+        call check_no_page(firrozka_page_buffer, busy, traffic, 99_c_size_t)
+    end subroutine
+
+    ! Of this sheet and these moves there is no page, and the buffer is left alone.
+    subroutine check_no_page(refusal, busy, traffic, page_len)
+        integer(c_int32_t), intent(in) :: refusal
+        integer(c_int8_t), intent(in) :: busy(:), traffic(:)
+        integer(c_size_t), intent(in) :: page_len
+        character(len=firrozka_page_bytes) :: page
+
+        page = repeat('~', len(page))
+        written = firrozka_traffic_page(busy, size(busy, kind=c_size_t), traffic, size(traffic, kind=c_size_t), page, page_len)
+        call same([written%refusal, written%bytes, verify(page, '~', kind=c_int32_t)], [integer :: refusal, 0, 0])
     end subroutine
 
     ! Words of all four bytes, both ways, from integers of either size.

@@ -1,25 +1,28 @@
 ! Firrozka for Fortran 2008: interfaces of the functions in include/firrozka.h, which says what each does.
 !
 ! Every kind is named, so the module serves programs with default integers of 4 bytes and of 8 (-fdefault-integer-8) alike.
-! A record is an array of bytes, integer(c_int8_t), and its length in bytes. Its words are low byte first; words_to_bytes and word_at
-! go both ways on any machine. Fortran has no unsigned integers: in an accepted record every word is below 2**31, so none is negative.
-! Buffers and records do not overlap.
+! A record is an array of bytes, integer(c_int8_t), and its length in bytes. Its words are low byte first; words_to_bytes and
+! word_at go both ways on any machine. Fortran has no unsigned integers: in an accepted record every word is below 2**31, so none
+! is negative. The traffic page is text: its buffer is a character variable, and its length that of the variable. Buffers and
+! records do not overlap.
 module firrozka
-    use, intrinsic :: iso_c_binding, only: c_int8_t, c_int32_t, c_int64_t, c_size_t
+    use, intrinsic :: iso_c_binding, only: c_char, c_int8_t, c_int32_t, c_int64_t, c_size_t
     implicit none
     private
 
     public :: firrozka_version
     public :: firrozka_read_sheet, firrozka_read_plan, firrozka_read_moves
-    public :: firrozka_weigh, firrozka_plan_step, firrozka_carry_out, firrozka_join_sheets, firrozka_tree_in_force
+    public :: firrozka_weigh, firrozka_plan_step, firrozka_carry_out, firrozka_join_sheets
+    public :: firrozka_traffic_page, firrozka_tree_in_force
     public :: words_to_bytes, word_at
 
-    ! The version that this module was written for, 100 × major + minor: 1.3 is 103. firrozka_version() is the archive's own.
-    integer(c_int32_t), parameter, public :: firrozka_module_version = 103
+    ! The version that this module was written for, 100 × major + minor: 1.4 is 104. firrozka_version() is the archive's own.
+    integer(c_int32_t), parameter, public :: firrozka_module_version = 104
 
     ! Buffers of so many bytes are long enough for every call.
     integer(c_size_t), parameter, public :: &
-        firrozka_sheet_bytes = 32780, firrozka_plan_bytes = 524, firrozka_moves_bytes = 32264, firrozka_least_bytes = 256
+        firrozka_sheet_bytes = 32780, firrozka_plan_bytes = 524, firrozka_moves_bytes = 32264, firrozka_least_bytes = 256, &
+        firrozka_page_bytes = 1625
 
     ! The kind of a plan.
     integer(c_int32_t), parameter, public :: firrozka_primary = 0, firrozka_kept = 1, firrozka_rebuilt = 2
@@ -62,13 +65,15 @@ module firrozka
         firrozka_moves_length = 34, &  ! the length is not 4 × (2 + 2E) bytes
         firrozka_moves_route = 35, &   ! a route does not rise, names a node not below N, or has one node as sender and receiver
         firrozka_moves_count = 36, &   ! a count is 0 or above 1,000,000,000
-        ! carry out
+        ! carry out; 41 and 42 also traffic page
         firrozka_moves_nodes_differ = 41, & ! the N of sheet and moves differ
         firrozka_moves_sends = 42, &        ! some cell sends in all more than the old sheet gives it
         firrozka_sheet_buffer = 43, &       ! the buffer is too short
         ! join sheets
         firrozka_sheets_differ = 51, & ! the N or the t of the two sheets differ
-        firrozka_joined_buffer = 52    ! the buffer is too short
+        firrozka_joined_buffer = 52, & ! the buffer is too short
+        ! traffic page
+        firrozka_page_buffer = 53 ! the buffer is under 25 × (N+1) bytes
 
     ! The answers: 0 or a refusal number, and the values named, all 0 in a refusal. The tolerance t is in tenths of a percent.
     type, bind(c), public :: firrozka_sheet
@@ -169,6 +174,15 @@ module firrozka
             integer(c_int8_t), intent(in) :: first(*), second(*)
             integer(c_int8_t), intent(inout) :: out(*)
             integer(c_size_t), value :: first_len, second_len, out_len
+            type(firrozka_written) :: answer
+        end function
+
+        ! Each line has 25 characters, and the last of them is achar(10).
+        function firrozka_traffic_page(sheet, sheet_len, moves, moves_len, page, page_len) bind(c) result(answer)
+            import :: c_char, c_int8_t, c_size_t, firrozka_written
+            integer(c_int8_t), intent(in) :: sheet(*), moves(*)
+            character(kind=c_char), intent(inout) :: page(*)
+            integer(c_size_t), value :: sheet_len, moves_len, page_len
             type(firrozka_written) :: answer
         end function
 

@@ -1,7 +1,7 @@
 """Firrozka for Python: the operations, and records taken apart for looking at.
 
 A record is any bytes-like object: bytes, bytearray, memoryview, array and so on; docs/FORMATS.md describes the three. Records that are
-made are bytes. Names are document 01's and 02's.
+made are bytes, and the traffic page is a str. Names are document 01's and 02's.
 
 ctypes needs a shared object: bindings/python/build makes target/libfirrozka.so from the archive. It is looked for there, or in the file
 that FIRROZKA_SO names. The proof covers the archive, not this module.
@@ -13,14 +13,15 @@ import struct
 from pathlib import Path
 from typing import NamedTuple
 
-# The version that this module was written for, 100 × major + minor: 1.3 is 103. version() is the archive's own.
-VERSION = 103
+# The version that this module was written for, 100 × major + minor: 1.4 is 104. version() is the archive's own.
+VERSION = 104
 
 # Buffers of so many bytes are long enough for every call.
 SHEET_BYTES = 32780
 PLAN_BYTES = 524
 MOVES_BYTES = 32264
 LEAST_BYTES = 256
+PAGE_BYTES = 1625
 
 # The kind of a plan, by its number.
 KINDS = ("primary", "kept", "rebuilt")
@@ -57,11 +58,12 @@ REFUSALS = {
     34: ("moves", "the length is not 4 × (2 + 2E) bytes"),
     35: ("moves", "a route does not rise, names a node not below N, or has one node as sender and receiver"),
     36: ("moves", "a count is 0 or above 1,000,000,000"),
-    41: ("carry out", "the N of sheet and moves differ"),
-    42: ("carry out", "some cell sends in all more than the old sheet gives it"),
+    41: ("carry out, traffic page", "the N of sheet and moves differ"),
+    42: ("carry out, traffic page", "some cell sends in all more than the old sheet gives it"),
     43: ("carry out", "the buffer is too short"),
     51: ("join sheets", "the N or the t of the two sheets differ"),
     52: ("join sheets", "the buffer is too short"),
+    53: ("traffic page", "the buffer is under 25 × (N+1) bytes"),
 }
 
 
@@ -169,6 +171,7 @@ _FUNCTIONS = {
     "plan_step": (4, _answer("refusal", "kind", "limit", "plan_bytes", "moves_bytes")),
     "carry_out": (3, _WRITTEN),
     "join_sheets": (3, _WRITTEN),
+    "traffic_page": (3, _WRITTEN),
     "tree_in_force": (2, _answer("source", "start", "length")),
 }
 
@@ -253,16 +256,16 @@ def plan_step(sheet, old_plan=None):
     return Step(answer.kind, answer.limit, plan.raw[: answer.plan_bytes], moves.raw[: answer.moves_bytes])
 
 
-def _written_sheet(name, *records):
-    """The sheet that a function writes for these records, as bytes."""
-    sheet = ctypes.create_string_buffer(SHEET_BYTES)
-    answer = _call(name, *records, sheet)
-    return sheet.raw[: answer.bytes]
+def _written(name, longest, *records):
+    """What a function writes for these records, at most so many bytes."""
+    buffer = ctypes.create_string_buffer(longest)
+    answer = _call(name, *records, buffer)
+    return buffer.raw[: answer.bytes]
 
 
 def carry_out(sheet, moves):
     """Carry out: the sheet that follows, as bytes."""
-    return _written_sheet("carry_out", _bytes("sheet", sheet), _bytes("moves", moves))
+    return _written("carry_out", SHEET_BYTES, _bytes("sheet", sheet), _bytes("moves", moves))
 
 
 def join_sheets(first, second):
@@ -270,7 +273,15 @@ def join_sheets(first, second):
 
     Refusals 1 to 7 may be either sheet's, and 7 also that of the joint total: read_sheet of each tells which.
     """
-    return _written_sheet("join_sheets", _bytes("first", first), _bytes("second", second))
+    return _written("join_sheets", SHEET_BYTES, _bytes("first", first), _bytes("second", second))
+
+
+def traffic_page(sheet, moves):
+    """Traffic page: what each node sends and receives, as text.
+
+    A line has node, sent and received, in 2, 10 and 10 columns with a blank between; the last has == and the two totals.
+    """
+    return _written("traffic_page", PAGE_BYTES, _bytes("sheet", sheet), _bytes("moves", moves)).decode("ascii")
 
 
 def tree_in_force(old_plan, new_plan):

@@ -1,4 +1,4 @@
-"""The module over the archive: document 01's steps, refusals and parts, and document 02's joined sheets."""
+"""The module over the archive: document 01's steps, refusals and parts, and document 02's joined sheets and traffic pages."""
 
 import array
 import copy
@@ -19,6 +19,17 @@ MOVES = firrozka.to_bytes([3, 2, 1, 2, 27, 29])
 # What the gas inlet injects at node 0, 17 of subdomain 0 and 3 of subdomain 1, and this and step D's sheet joined.
 INLET = firrozka.to_bytes([3, 100, 2, 0, 1, 17, 3])
 JOINED = firrozka.to_bytes([3, 100, 4, 0, 1, 65, 130, 107, 3, 6, 4])
+
+# Nodes 0, 1 and 2 hold 34 and 3, 23, and 1,200 particles. Of subdomain 0 node 2 sends 1,000 to node 0 and 7 to node 1; of subdomain 1
+# node 0 sends 3 to node 1, and node 1 sends 20 to node 2.
+BUSY = firrozka.to_bytes([3, 100, 4, 0, 1, 65, 128, 34, 3, 23, 1200])
+TRAFFIC = firrozka.to_bytes([3, 4, 128, 129, 4096 + 1, 4096 + 66, 1000, 7, 3, 20])
+PAGE = """\
+ 0          3       1000
+ 1         20         10
+ 2       1007         20
+==       1030       1030
+"""
 
 # Steps H and I: the old plan by its helpands, and the sheets.
 CHAIN = firrozka.to_bytes([3, 2, 36, 0, 0, 1, 0, 0, 0])
@@ -42,12 +53,15 @@ class Operations(unittest.TestCase):
         self.assertEqual(firrozka.join_sheets(INLET, SHEET), JOINED)
         self.assertEqual(firrozka.join_sheets(SHEET, firrozka.to_bytes([3, 100, 0])), SHEET)
 
-    def assert_not_joined(self, number, second, length):
+    def assert_unwritten(self, number, name, first, second, length):
         buffer = ctypes.create_string_buffer(b"\xa5" * length, length)
         with self.assertRaises(firrozka.Refused) as caught:
-            firrozka._call("join_sheets", SHEET, second, buffer)
+            firrozka._call(name, first, second, buffer)
         self.assertEqual(caught.exception.number, number)
         self.assertEqual(buffer.raw, b"\xa5" * length)
+
+    def assert_not_joined(self, number, second, length):
+        self.assert_unwritten(number, "join_sheets", SHEET, second, length)
 
     def test_sheets_that_are_not_joined(self):
         other_nodes, other_tolerance = firrozka.to_bytes([2, 100, 0]), firrozka.to_bytes([3, 35, 0])
@@ -60,6 +74,36 @@ class Operations(unittest.TestCase):
         with self.assertRaises(firrozka.Refused) as caught:
             firrozka.join_sheets(SHEET, other_tolerance)
         self.assertEqual(str(caught.exception), "refused 51: join sheets: the N or the t of the two sheets differ")
+
+    def test_traffic_page(self):
+        self.assertEqual(firrozka.traffic_page(BUSY, TRAFFIC), PAGE)
+        buffer = ctypes.create_string_buffer(b"\xa5" * firrozka.PAGE_BYTES, firrozka.PAGE_BYTES)
+        self.assertEqual(firrozka._call("traffic_page", BUSY, TRAFFIC, buffer).bytes, 100)
+        self.assertEqual(buffer.raw, PAGE.encode() + b"\xa5" * (firrozka.PAGE_BYTES - 100))
+
+    def test_the_longest_traffic_page(self):
+        # Node 0 sends all that there can be to node 63.
+        sheet = firrozka.to_bytes([64, 100, 1, 0, 1_000_000_000])
+        page = firrozka.traffic_page(sheet, firrozka.to_bytes([64, 1, 63, 1_000_000_000]))
+        self.assertEqual(len(page), firrozka.PAGE_BYTES)
+        lines = page.splitlines()
+        self.assertEqual(lines[0], " 0 1000000000          0")
+        self.assertEqual((lines[9], lines[10]), (" 9          0          0", "10          0          0"))
+        self.assertEqual(lines[63:], ["63          0 1000000000", "== 1000000000 1000000000"])
+
+    def test_no_traffic_page(self):
+        # In the order of the checks; the buffer is a byte too short throughout.
+        cases = (
+            (5, BUSY[:-1], b""),
+            (31, BUSY, b""),
+            (35, BUSY, firrozka.to_bytes([3, 1, 0, 1])),
+            (41, BUSY, firrozka.to_bytes([2, 0])),
+            (42, BUSY, firrozka.to_bytes([3, 1, 4096 + 66, 24])),
+            (53, BUSY, TRAFFIC),
+        )
+        for number, sheet, moves in cases:
+            self.assert_unwritten(number, "traffic_page", sheet, moves, len(PAGE) - 1)
+        self.assertEqual(str(firrozka.Refused(53)), "refused 53: traffic page: the buffer is under 25 × (N+1) bytes")
 
     def test_weigh(self):
         self.assertEqual(firrozka.weigh(SHEET_H, CHAIN), (True, [28, 36, 0]))
@@ -140,6 +184,7 @@ class Arguments(unittest.TestCase):
             self.assertEqual(firrozka.plan_step(form(SHEET_H), form(CHAIN)), firrozka.plan_step(SHEET_H, CHAIN))
             self.assertEqual(firrozka.carry_out(form(SHEET), form(MOVES)), firrozka.carry_out(SHEET, MOVES))
             self.assertEqual(firrozka.join_sheets(form(SHEET), form(INLET)), JOINED)
+            self.assertEqual(firrozka.traffic_page(form(BUSY), form(TRAFFIC)), PAGE)
             self.assertEqual(firrozka.tree_in_force(form(CHAIN), form(kept)), [0, 0, 1])
 
     def test_no_old_plan_is_none_or_empty(self):
@@ -162,6 +207,8 @@ class Arguments(unittest.TestCase):
         self.assert_named("moves", "Moves", firrozka.carry_out, SHEET, firrozka.read_moves(MOVES))
         self.assert_named("first", "Sheet", firrozka.join_sheets, firrozka.read_sheet(SHEET), INLET)
         self.assert_named("second", "NoneType", firrozka.join_sheets, SHEET, None)
+        self.assert_named("sheet", "Sheet", firrozka.traffic_page, firrozka.read_sheet(BUSY), TRAFFIC)
+        self.assert_named("moves", "str", firrozka.traffic_page, BUSY, PAGE)
         self.assert_named("old_plan", "NoneType", firrozka.tree_in_force, None, PLAN)
         self.assert_named("new_plan", "NoneType", firrozka.tree_in_force, PLAN, None)
 

@@ -1,9 +1,9 @@
-/* Plans step D and prints it as the bench program does. */
+/* Plans step D and prints it as the bench program does, and then its traffic page. */
 #include <inttypes.h>
 #include <stdio.h>
 #include "firrozka.h"
 
-static uint8_t plan[FIRROZKA_PLAN_BYTES], moves[FIRROZKA_MOVES_BYTES];
+static uint8_t plan[FIRROZKA_PLAN_BYTES], moves[FIRROZKA_MOVES_BYTES], page[FIRROZKA_PAGE_BYTES];
 
 /* The word at a place: 4 bytes, low byte first. */
 static uint32_t word(const uint8_t *record, size_t place)
@@ -39,6 +39,12 @@ static void print_step(const uint8_t *sheet, struct firrozka_step step)
     }
 }
 
+static int refused(uint32_t refusal)
+{
+    printf("refused %" PRIu32 "\n", refusal);
+    return 1;
+}
+
 int main(void)
 {
     /* The words 3 100 3 0 65 130 90 6 4: 3 nodes, a tolerance of 100 tenths of a percent, 3 cells. */
@@ -46,10 +52,14 @@ int main(void)
                                     0,  0, 130, 0, 0, 0, 90, 0, 0, 0, 6, 0, 0, 0, 4, 0, 0,  0};
     struct firrozka_step step =
         firrozka_plan_step(sheet, sizeof sheet, NULL, 0, plan, sizeof plan, moves, sizeof moves);
-    if (step.refusal) {
-        printf("refused %" PRIu32 "\n", step.refusal);
-        return 1;
-    }
+    if (step.refusal)
+        return refused(step.refusal);
     print_step(sheet, step);
+    struct firrozka_written written =
+        firrozka_traffic_page(sheet, sizeof sheet, moves, step.moves_bytes, page, sizeof page);
+    if (written.refusal)
+        return refused(written.refusal);
+    /* No null byte ends the page. */
+    fwrite(page, 1, written.bytes, stdout);
     return 0;
 }

@@ -1,8 +1,9 @@
-// Plans step D and prints it as the bench program does.
+// Plans step D and prints it as the bench program does, and then its traffic page.
 #include <array>
 #include <cstdint>
 #include <initializer_list>
 #include <iostream>
+#include <string>
 #include <vector>
 
 #include "firrozka.h"
@@ -38,6 +39,19 @@ Step plan_step(const Bytes &sheet, const Bytes &old_plan) {
     return step;
 }
 
+// What traffic page answers and writes.
+struct Page {
+    firrozka_written answer;
+    std::string text;
+};
+
+Page traffic_page(const Bytes &sheet, const Bytes &moves) {
+    Bytes page(FIRROZKA_PAGE_BYTES);
+    const auto answer =
+        firrozka_traffic_page(sheet.data(), sheet.size(), moves.data(), moves.size(), page.data(), page.size());
+    return {answer, std::string(page.begin(), page.begin() + answer.bytes)};
+}
+
 // Each node's amount of its own subdomain: Pn less the shares of its helpers. A root's share is 0.
 std::array<std::uint32_t, 64> own_amounts(const std::vector<std::uint32_t> &sheet, const std::vector<std::uint32_t> &plan) {
     std::array<std::uint32_t, 64> own{};
@@ -47,14 +61,16 @@ std::array<std::uint32_t, 64> own_amounts(const std::vector<std::uint32_t> &shee
     return own;
 }
 
+int refused(std::uint32_t refusal) {
+    std::cout << "refused " << refusal << '\n';
+    return 1;
+}
+
 int main() {
     // 3 nodes, a tolerance of 100 tenths of a percent, 3 cells.
     const Bytes sheet = to_bytes({3, 100, 3, 0, 65, 130, 90, 6, 4});
     const Step step = plan_step(sheet, {});
-    if (step.answer.refusal != FIRROZKA_ACCEPTED) {
-        std::cout << "refused " << step.answer.refusal << '\n';
-        return 1;
-    }
+    if (step.answer.refusal != FIRROZKA_ACCEPTED) return refused(step.answer.refusal);
     const auto plan = to_words(step.plan), moves = to_words(step.moves);
     const auto own = own_amounts(to_words(sheet), plan);
     const auto n = plan[0], e = moves[1];
@@ -67,4 +83,7 @@ int main() {
         std::cout << "move " << route / 4096 << " from " << route / 64 % 64 << " to " << route % 64 << " count "
                   << moves[2 + e + i] << '\n';
     }
+    const Page page = traffic_page(sheet, step.moves);
+    if (page.answer.refusal != FIRROZKA_ACCEPTED) return refused(page.answer.refusal);
+    std::cout << page.text;
 }

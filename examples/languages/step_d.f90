@@ -1,23 +1,22 @@
-! Plans step D and prints it as the bench program does.
+! Plans step D and prints it as the bench program does, and then its traffic page.
 program step_d
-    use, intrinsic :: iso_c_binding, only: c_int8_t, c_size_t
+    use, intrinsic :: iso_c_binding, only: c_int8_t, c_int32_t, c_size_t
     use firrozka
     implicit none
 
     ! 3 nodes, a tolerance of 100 tenths of a percent, 3 cells.
     integer, parameter :: words(9) = [3, 100, 3, 0, 65, 130, 90, 6, 4]
     integer(c_int8_t) :: sheet(4 * size(words)), no_plan(1), plan(firrozka_plan_bytes), moves(firrozka_moves_bytes)
+    character(len=firrozka_page_bytes) :: page
     type(firrozka_step) :: step
+    type(firrozka_written) :: written
     integer :: n, k
 
     sheet = words_to_bytes(words)
     no_plan = 0
     step = firrozka_plan_step(sheet, size(sheet, kind=c_size_t), no_plan, 0_c_size_t, &
                               plan, size(plan, kind=c_size_t), moves, size(moves, kind=c_size_t))
-    if (step%refusal /= firrozka_accepted) then
-        print '("refused ", i0)', step%refusal
-        stop 1
-    end if
+    call accept(step%refusal)
 
     n = word_at(plan, 0)
     print '("kind ", i0, " limit ", i0)', step%kind, step%limit
@@ -28,7 +27,23 @@ program step_d
         call print_move(int(word_at(moves, 2 + k)), int(word_at(moves, 2 + word_at(moves, 1) + k)))
     end do
 
+    written = firrozka_traffic_page(sheet, size(sheet, kind=c_size_t), moves, int(step%moves_bytes, c_size_t), &
+                                    page, len(page, kind=c_size_t))
+    call accept(written%refusal)
+    ! A line of the page has 24 characters, and a newline, which print puts there itself.
+    do k = 1, written%bytes, 25
+        print '(a)', page(k:k + 23)
+    end do
+
 contains
+
+    subroutine accept(refusal)
+        integer(c_int32_t), intent(in) :: refusal
+
+        if (refusal == firrozka_accepted) return
+        print '("refused ", i0)', refusal
+        stop 1
+    end subroutine
 
     integer function helpand(node)
         integer, intent(in) :: node

@@ -1,4 +1,4 @@
-"""Plans step D and prints it as the bench program does."""
+"""Plans step D and prints it as the bench program does, and then its traffic page."""
 
 import firrozka
 
@@ -19,3 +19,4 @@ for node in range(plan.n):
     print(f"node {node} helps {plan.helpands[node]} share {plan.shares[node]} own {own[node]}")
 for move in firrozka.read_moves(step.moves).moves:
     print(f"move {move.subdomain} from {move.sender} to {move.receiver} count {move.count}")
+print(firrozka.traffic_page(sheet, step.moves), end="")

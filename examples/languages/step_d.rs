@@ -1,8 +1,8 @@
-//! Plans step D and prints it as the bench program does.
+//! Plans step D and prints it as the bench program does, and then its traffic page.
 
 use firrozka::{
-    plan_step, read_moves, read_plan, read_sheet, to_bytes, Refusal, MOVES_BYTES, NO_PLAN,
-    PLAN_BYTES,
+    plan_step, read_moves, read_plan, read_sheet, to_bytes, traffic_page, Refusal, MOVES_BYTES,
+    NO_PLAN, PAGE_BYTES, PLAN_BYTES,
 };
 
 /// Each node's amount of its own subdomain: Pn less the shares of its helpers.
@@ -33,5 +33,7 @@ fn main() -> Result<(), Refusal> {
         let (subdomain, from, to) = (entry.subdomain, entry.sender, entry.receiver);
         println!("move {subdomain} from {from} to {to} count {}", entry.count);
     }
+    let mut page = [0; PAGE_BYTES];
+    print!("{}", traffic_page(&sheet, step.moves, &mut page)?);
     Ok(())
 }

@@ -1,5 +1,5 @@
 //! Buffers lent by hand: all of one byte, so that it is seen what was written;
-//! and what that is, for the operations that write one record.
+//! and what that is, for the operations that write one record or a page.
 
 use crate::answers::WrittenAnswer;
 use crate::implementations::{Implementation, Write, IMPLEMENTATIONS};

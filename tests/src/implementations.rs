@@ -21,12 +21,15 @@ pub const PLAN_BYTES: usize = 4 * (3 + 2 * MOST_NODES);
 /// The longest moves: 4 × (2+2E) with E = N × (N−1).
 pub const MOVES_BYTES: usize = 4 * (2 + 2 * MOST_NODES * (MOST_NODES - 1));
 
+/// The longest page: 25 × (N+1).
+pub const PAGE_BYTES: usize = 25 * (MOST_NODES + 1);
+
 pub type PlanStep = fn(sheet: &[u8], old: &[u8], plan: &mut [u8], moves: &mut [u8]) -> StepAnswer;
 
-/// An operation that reads two records and writes one.
+/// An operation that reads two records and writes one, or a page.
 pub type Write = fn(first: &[u8], second: &[u8], out: &mut [u8]) -> WrittenAnswer;
 
-/// Someone who does all eight.
+/// Someone who does all nine.
 pub struct Implementation {
     pub name: &'static str,
     pub read_sheet: fn(sheet: &[u8]) -> SheetAnswer,
@@ -36,6 +39,7 @@ pub struct Implementation {
     pub plan_step: PlanStep,
     pub carry_out: fn(sheet: &[u8], moves: &[u8], next: &mut [u8]) -> WrittenAnswer,
     pub join_sheets: fn(first: &[u8], second: &[u8], out: &mut [u8]) -> WrittenAnswer,
+    pub traffic_page: fn(sheet: &[u8], moves: &[u8], page: &mut [u8]) -> WrittenAnswer,
     pub tree_in_force: fn(old: &[u8], new: &[u8]) -> PartAnswer,
 }
 
@@ -49,6 +53,7 @@ pub const REFERENCE: Implementation = Implementation {
     plan_step: reference::plan_step,
     carry_out: reference::carry_out,
     join_sheets: reference::join_sheets,
+    traffic_page: reference::traffic_page,
     tree_in_force: reference::tree_in_force,
 };
 
@@ -62,6 +67,7 @@ pub const ARCHIVE: Implementation = Implementation {
     plan_step: boundary::plan_step,
     carry_out: boundary::carry_out,
     join_sheets: boundary::join_sheets,
+    traffic_page: boundary::traffic_page,
     tree_in_force: boundary::tree_in_force,
 };
 
@@ -72,6 +78,7 @@ pub const PLAIN: Implementation = Implementation {
     plan_step: plain::plan_step,
     carry_out: plain::carry_out,
     join_sheets: plain::join_sheets,
+    traffic_page: plain::traffic_page,
     ..REFERENCE
 };
 
@@ -137,12 +144,17 @@ impl Implementation {
 
     /// *Carry out* with a buffer that is long enough: the sheet, or the refusal.
     pub fn carried_out(&self, sheet: &[u8], moves: &[u8]) -> Result<Vec<u8>, u32> {
-        written(self.carry_out, sheet, moves)
+        written(self.carry_out, sheet, moves, SHEET_BYTES)
     }
 
     /// *Join sheets* with a buffer that is long enough: the sheet, or the refusal.
     pub fn joined(&self, first: &[u8], second: &[u8]) -> Result<Vec<u8>, u32> {
-        written(self.join_sheets, first, second)
+        written(self.join_sheets, first, second, SHEET_BYTES)
+    }
+
+    /// *Traffic page* with a buffer that is long enough: the page, or the refusal.
+    pub fn page(&self, sheet: &[u8], moves: &[u8]) -> Result<Vec<u8>, u32> {
+        written(self.traffic_page, sheet, moves, PAGE_BYTES)
     }
 
     /// *Weigh* with a buffer that is long enough: the leasts and whether the
@@ -158,13 +170,14 @@ impl Implementation {
     }
 }
 
-/// The sheet that an operation writes to a buffer that is long enough, or its refusal.
-fn written(write: Write, first: &[u8], second: &[u8]) -> Result<Vec<u8>, u32> {
-    let mut sheet = vec![0; SHEET_BYTES];
-    let answer = write(first, second, &mut sheet);
-    sheet.truncate(answer.bytes as usize);
+/// What an operation writes to a buffer of this length, which is enough, or its
+/// refusal.
+fn written(write: Write, first: &[u8], second: &[u8], length: usize) -> Result<Vec<u8>, u32> {
+    let mut out = vec![0; length];
+    let answer = write(first, second, &mut out);
+    out.truncate(answer.bytes as usize);
     match answer.refusal {
-        0 => Ok(sheet),
+        0 => Ok(out),
         refusal => Err(refusal),
     }
 }

@@ -24,3 +24,8 @@ pub fn carry_out(sheet: &[u8], moves: &[u8], next: &mut [u8]) -> WrittenAnswer {
 pub fn join_sheets(first: &[u8], second: &[u8], out: &mut [u8]) -> WrittenAnswer {
     firrozka_plain::join_sheets(first, second, out).map_or_else(Answer::refused, answers::written)
 }
+
+/// *Traffic page*, as the baseline does it.
+pub fn traffic_page(sheet: &[u8], moves: &[u8], page: &mut [u8]) -> WrittenAnswer {
+    firrozka_plain::traffic_page(sheet, moves, page).map_or_else(Answer::refused, answers::written)
+}

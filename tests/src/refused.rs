@@ -1,7 +1,7 @@
 //! A small step for each refusal that *plan a step* can give whatever the
-//! buffers: 1 to 7, 11 to 18 and 21.
+//! buffers, 1 to 7, 11 to 18 and 21; and small moves for each of *read moves*.
 
-use crate::records::{plans, sheets, Record};
+use crate::records::{moves, plans, sheets, Record};
 use crate::steps::Step;
 use crate::worked::{self, TEN_PERCENT};
 
@@ -54,6 +54,21 @@ pub fn plans() -> Vec<(u32, Vec<u8>)> {
         (16, plans::plan(2, 36, &[0, 0, 3], &shares).bytes()),
         (17, plans::plan(2, 36, &[0, 2, 1], &shares).bytes()),
         (18, plans::plan(2, 28, &star, &shares).bytes()),
+    ]
+}
+
+/// Moves for the sheet of step D, 31 to 36.
+pub fn moves() -> Vec<(u32, Vec<u8>)> {
+    let route = moves::route;
+    let moves = |n, routes: &[u32], counts: &[u32]| moves::moves(n, routes, counts).bytes();
+    let seven: Vec<u32> = (0..7).map(|k| route(k / 2, 0, 1 + k % 2)).collect();
+    vec![
+        (31, vec![3; 7]),
+        (32, moves(0, &[], &[])),
+        (33, moves(3, &seven, &[1; 7])),
+        (34, [moves(3, &[], &[]), vec![0]].concat()),
+        (35, moves(3, &[route(0, 1, 1)], &[1])),
+        (36, moves(3, &[route(0, 0, 1)], &[0])),
     ]
 }
 

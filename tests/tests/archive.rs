@@ -6,7 +6,9 @@
 //! inputs for each operation. The tally is printed with `-- --nocapture`.
 #![forbid(unsafe_code)]
 
-use firrozka_tests::calls::{CARRY_OUT, JOIN_SHEETS, PLAN_STEP, TREE_IN_FORCE, WEIGH};
+use firrozka_tests::calls::{
+    CARRY_OUT, JOIN_SHEETS, PLAN_STEP, TRAFFIC_PAGE, TREE_IN_FORCE, WEIGH,
+};
 
 const ROUNDS: usize = 8_000;
 
@@ -28,6 +30,11 @@ fn carry_out() {
 #[test]
 fn join_sheets() {
     JOIN_SHEETS.test(ROUNDS);
+}
+
+#[test]
+fn traffic_page() {
+    TRAFFIC_PAGE.test(ROUNDS);
 }
 
 #[test]

@@ -2,7 +2,7 @@
 //! twice. Nothing is said of their times.
 #![forbid(unsafe_code)]
 
-use firrozka_tests::calls::{CARRY_OUT, JOIN_SHEETS, PLAN_STEP, WEIGH};
+use firrozka_tests::calls::{CARRY_OUT, JOIN_SHEETS, PLAN_STEP, TRAFFIC_PAGE, WEIGH};
 use firrozka_tests::implementations::{IN_PERCENT, OWNER_FIRST, REFERENCE};
 use firrozka_tests::records::plans::Form;
 use firrozka_tests::settings::SEED;
@@ -26,18 +26,30 @@ fn archive() -> PathBuf {
     wrapper.join(folder).join("libfirrozka.a")
 }
 
-/// The same without *join sheets*, as one from before request 2026-02.
-fn without_join_sheets() -> PathBuf {
-    let path = Path::new(env!("CARGO_TARGET_TMPDIR")).join("without_join_sheets.a");
+/// What an archive lacks that is from before request 2026-04, and from before
+/// 2026-02.
+const LACKED: [&[Measured]; 2] = [
+    &[Measured::TrafficPage],
+    &[Measured::TrafficPage, Measured::JoinSheets],
+];
+
+/// The same without some operations.
+fn without(lacked: &[Measured]) -> PathBuf {
+    let name = format!("without_{}.a", lacked.len());
+    let path = Path::new(env!("CARGO_TARGET_TMPDIR")).join(name);
     let mut rename = Command::new("objcopy");
-    rename.args(["--redefine-sym", "firrozka_join_sheets=another_name"]);
+    for measured in lacked {
+        let function = measured.name().replace(' ', "_");
+        let other = format!("firrozka_{function}=another_{function}");
+        rename.args(["--redefine-sym", &other]);
+    }
     let renamed = rename.arg(archive()).arg(&path).status();
     assert!(renamed.expect("objcopy is there").success());
     path
 }
 
 /// A row for each operation.
-fn some_rows() -> [Row; 4] {
+fn some_rows() -> [Row; 5] {
     MEASURED.map(|measured| Row {
         measured,
         filling: Filling::Sparse,
@@ -49,21 +61,17 @@ fn some_rows() -> [Row; 4] {
     })
 }
 
-fn is_joining(row: &Row) -> bool {
-    row.measured == Measured::JoinSheets
-}
-
 #[test]
 fn both_answer_like_the_second_implementation() {
     let _alone = PLACES.lock();
     let (archive, rows) = (archive(), some_rows());
     let all = in_both([&archive, &archive], &rows).expect("both are linked and loaded");
-    assert!(all.iter().any(is_joining));
+    assert_eq!(all.len(), rows.len());
     let times = compare([&archive, &archive], &rows, 1).expect("both are linked and loaded");
     assert_eq!(times.len(), rows.len());
     assert!(rows.iter().all(agree));
     for by in [&EARLIER, &LATER] {
-        for operation in [&WEIGH, &PLAN_STEP, &CARRY_OUT, &JOIN_SHEETS] {
+        for operation in [&WEIGH, &PLAN_STEP, &CARRY_OUT, &JOIN_SHEETS, &TRAFFIC_PAGE] {
             let met = operation.run(by, SEED, 100);
             met.unwrap_or_else(|wrong| panic!("{wrong}"));
         }
@@ -72,21 +80,28 @@ fn both_answer_like_the_second_implementation() {
 
 /// What one of two archives lacks is left out, whichever it is.
 #[test]
-fn an_archive_without_join_sheets() {
+fn an_archive_without_some_operations() {
     let _alone = PLACES.lock();
-    let (earlier, later) = (without_join_sheets(), archive());
-    let there = |archives| in_both(archives, &some_rows()).expect("both are linked and loaded");
-    for rows in [there([&later, &earlier]), there([&earlier, &later])] {
-        assert!(rows.len() == 3 && !rows.iter().any(is_joining));
-        assert!(rows.iter().all(agree));
+    for lacked in LACKED {
+        let (earlier, later) = (without(lacked), archive());
+        for archives in [[&later, &earlier], [&earlier, &later]] {
+            let rows = in_both(archives.map(PathBuf::as_path), &some_rows());
+            let rows = rows.expect("both are linked and loaded");
+            let measured: Vec<Measured> = rows.iter().map(|row| row.measured).collect();
+            let left = MEASURED.into_iter().filter(|it| !lacked.contains(it));
+            assert_eq!(measured, left.collect::<Vec<_>>());
+            assert!(rows.iter().all(agree));
+        }
     }
 }
 
 /// An archive of version 1.0 is handed the same steps, with t in percents. It
-/// joins no sheets.
+/// joins no sheets and writes no pages.
 #[test]
 fn sheets_of_another_unit_mean_the_same() {
-    for row in some_rows().iter().filter(|row| !is_joining(row)) {
+    let [_, lacked] = LACKED;
+    let there = |row: &Row| !lacked.contains(&row.measured);
+    for row in some_rows().into_iter().filter(there) {
         let job = row.job(64);
         let written = job.written(&REFERENCE);
         assert!(written == job.in_percent().written(&IN_PERCENT));

@@ -4,7 +4,7 @@
 
 use firrozka_tests::calls::check::check;
 use firrozka_tests::calls::drafts::Draft;
-use firrozka_tests::calls::{Operation, CARRY_OUT, OPERATIONS};
+use firrozka_tests::calls::{Operation, CARRY_OUT, OPERATIONS, TRAFFIC_PAGE};
 use firrozka_tests::implementations::ARCHIVE;
 use firrozka_tests::records::{moves, plans, sheets, shown, Record};
 use firrozka_tests::steps::Step;
@@ -19,6 +19,14 @@ fn expect(operation: &Operation, draft: &Draft) {
             let [first, second] = [0, 1].map(|at| shown(&call.records[at]));
             panic!("{}: {wrong}\n  {first}\n  {second}", operation.name);
         }
+    }
+}
+
+/// The same for the operations that take a sheet and moves.
+fn expect_moves(records: [Record; 2]) {
+    let draft = Draft::new(records);
+    for operation in [&CARRY_OUT, &TRAFFIC_PAGE] {
+        expect(operation, &draft);
     }
 }
 
@@ -146,16 +154,10 @@ fn the_most_moves() {
             .map(|receiver| moves::route(0, 0, receiver))
             .collect();
         let mut counts = vec![1; all.len()];
-        expect(
-            &CARRY_OUT,
-            &Draft::new([sheet, moves::moves(n, &all, &counts)]),
-        );
+        expect_moves([sheet, moves::moves(n, &all, &counts)]);
         counts[0] = 2;
         let sheet = sheets::sheet(n, 1, &[0], &[others]);
-        expect(
-            &CARRY_OUT,
-            &Draft::new([sheet, moves::moves(n, &all, &counts)]),
-        );
+        expect_moves([sheet, moves::moves(n, &all, &counts)]);
         // Every holder of subdomains 0 and up sends to its neighbour.
         let cells = sheets::all_cells(n);
         let route = |k: u32| {
@@ -166,7 +168,7 @@ fn the_most_moves() {
         for count in [1, 2, 3] {
             let sheet = sheets::sheet(n, 1, &cells, &vec![2; cells.len()]);
             let sends = moves::moves(n, &routes, &vec![count; routes.len()]);
-            expect(&CARRY_OUT, &Draft::new([sheet, sends]));
+            expect_moves([sheet, sends]);
         }
     }
 }

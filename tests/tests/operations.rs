@@ -21,19 +21,6 @@ fn some_steps() -> Vec<Step> {
     worked.chain(seeded).collect()
 }
 
-/// Moves for three nodes with a fault each.
-fn bad_moves() -> Vec<(u32, Vec<u8>)> {
-    let seven: Vec<u32> = (0..7).map(|k| route(k / 2, 0, 1 + k % 2)).collect();
-    vec![
-        (31, vec![3; 7]),
-        (32, moves(0, &[], &[]).bytes()),
-        (33, moves(3, &seven, &[1; 7]).bytes()),
-        (34, [moves(3, &[], &[]).bytes(), vec![0]].concat()),
-        (35, moves(3, &[route(0, 1, 1)], &[1]).bytes()),
-        (36, moves(3, &[route(0, 0, 1)], &[0]).bytes()),
-    ]
-}
-
 // Weigh.
 
 /// A refusal, with buffers of any length untouched.
@@ -215,7 +202,7 @@ fn carry_out_refusals() {
         carry_out_refuses(&sheet, &moves(3, &[], &[]).bytes(), &lengths, refusal);
         carry_out_refuses(&sheet, &[], &lengths, refusal);
     }
-    for (refusal, moves) in bad_moves() {
+    for (refusal, moves) in refused::moves() {
         carry_out_refuses(&good, &moves, &lengths, refusal);
         carry_out_refuses(&worked::b().sheet, &moves, &lengths, refusal);
     }

@@ -1,6 +1,7 @@
 //! The tool `firrozka`: steps planned, weighed and carried out from files, sheets
-//! joined, and text to records and back. It is tested, not proved; what is decided,
-//! and what a record may be, is asked of the proved library.
+//! joined, traffic pages printed, and text to records and back. It is tested, not
+//! proved; what is decided, and what a record may be, is asked of the proved
+//! library.
 //!
 //! | module | what it holds |
 //! |---|---|
@@ -10,7 +11,7 @@
 //! | `record` | the three records, and why some bytes are none |
 //! | `table` | tables to the words of records |
 //! | `show` | records as tables |
-//! | `step` | a step planned, weighed and carried out, and sheets joined before it |
+//! | `step` | a step planned, weighed and carried out, its traffic, and sheets joined before it |
 //! | `task` | what the tool can do, from bytes to bytes |
 //! | `verbs` | the verbs of the command line, and the help on each |
 //! | `arguments` | the command line |

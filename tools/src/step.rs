@@ -1,12 +1,12 @@
 //! Steps: planned and printed as the bench program prints them, weighed, and
-//! carried out; and sheets joined before a step. What is decided, the library
-//! decides.
+//! carried out, with their traffic; and sheets joined before a step. What is
+//! decided, the library decides.
 
 use crate::record::explained;
 use crate::tolerance::to_percent;
 use firrozka::{
-    carry_out, join_sheets, plan_step, read_moves, read_plan, read_sheet, weigh, Moves, Refusal,
-    Sheet, LEAST_BYTES, MOVES_BYTES, NO_PLAN, PLAN_BYTES, SHEET_BYTES,
+    carry_out, join_sheets, plan_step, read_moves, read_plan, read_sheet, traffic_text, weigh,
+    Moves, Refusal, Sheet, LEAST_BYTES, MOVES_BYTES, NO_PLAN, PLAN_BYTES, SHEET_BYTES,
 };
 use std::collections::BTreeMap;
 use std::fmt::Display;
@@ -147,16 +147,31 @@ pub fn weighed(sheet: &Source, plan: &Source) -> Result<String, String> {
 
 /// *Carry out*: the sheet that follows.
 pub fn carried(sheet: &Source, moves: &Source) -> Result<Vec<u8>, String> {
-    let (table, list) = (sheet.read(read_sheet)?, moves.read(read_moves)?);
     let mut next = [0; SHEET_BYTES];
-    let next = carry_out(sheet.bytes, moves.bytes, &mut next).map_err(|refusal| {
+    of_moves(sheet, moves, |sheet, moves| {
+        carry_out(sheet, moves, &mut next).map(<[u8]>::to_vec)
+    })
+}
+
+/// *Traffic page*: what each node sends and receives.
+pub fn traffic(sheet: &Source, moves: &Source) -> Result<String, String> {
+    of_moves(sheet, moves, traffic_text)
+}
+
+/// What an operation makes of a sheet and moves, or what is wrong with these.
+fn of_moves<T>(
+    sheet: &Source,
+    moves: &Source,
+    operation: impl FnOnce(&[u8], &[u8]) -> Result<T, Refusal>,
+) -> Result<T, String> {
+    let (table, list) = (sheet.read(read_sheet)?, moves.read(read_moves)?);
+    operation(sheet.bytes, moves.bytes).map_err(|refusal| {
         let detail = match refusal {
             Refusal::MovesNodesDiffer => beside(list.n, sheet, table.n),
             _ => too_much(table, list, sheet.name),
         };
         moves.refused(refusal, &detail)
-    })?;
-    Ok(next.to_vec())
+    })
 }
 
 /// The first cell that sends more than it has.

@@ -21,6 +21,8 @@ pub enum Task {
     Carry,
     /// The sheet with the counts of two.
     Join,
+    /// The traffic page of a sheet and moves.
+    Traffic,
     /// A table of counts to a sheet.
     Table(Sizes),
     /// Text to a record that the library accepts, or words to any bytes.
@@ -60,7 +62,7 @@ impl Task {
     /// more than one byte of what is too long is left out.
     pub fn most(self) -> u64 {
         match self {
-            Task::Plan | Task::Weigh | Task::Carry | Task::Join | Task::Show(_) => {
+            Task::Plan | Task::Weigh | Task::Carry | Task::Join | Task::Traffic | Task::Show(_) => {
                 SHEET_BYTES as u64 + 1
             }
             Task::Table(_) | Task::Write(_) | Task::Words => u64::MAX,
@@ -110,6 +112,9 @@ pub fn run(call: &Call, inputs: &[Vec<u8>]) -> Result<Outcome, String> {
         }
         (Task::Join, [sheet, inlet]) => {
             outcome.put(&call.output, step::joined(sheet, inlet)?);
+        }
+        (Task::Traffic, [sheet, moves]) => {
+            outcome.printed = step::traffic(sheet, moves)?.into_bytes();
         }
         (task, [input]) => {
             let turned = task.turn(input.bytes);

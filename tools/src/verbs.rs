@@ -28,7 +28,7 @@ pub struct Verb {
 pub const FLAGS: [&str; 1] = ["--empty"];
 
 /// All verbs.
-pub static VERBS: [Verb; 8] = [
+pub static VERBS: [Verb; 9] = [
     Verb {
         name: "plan",
         form: "SHEET [OLD_PLAN] [-o PLAN] [-m MOVES]",
@@ -81,6 +81,19 @@ injected at the gas inlet. The number of nodes and the tolerance must be equal.
         options: &["-o"],
         files: &["SHEET", "INLET"],
         task: |given| saved(Task::Join, given, "JOINED"),
+    },
+    Verb {
+        name: "traffic",
+        form: "SHEET MOVES",
+        does: "prints the traffic page of a step, for the shift desk",
+        more: "\
+SHEET and MOVES are those that 'firrozka carry' is given. A line of the page has a
+node, how many particles it sends and how many it receives, of all subdomains and
+to and from all nodes. The last line, ==, has the totals.
+",
+        options: &[],
+        files: &["SHEET", "MOVES"],
+        task: |_| Ok(Task::Traffic),
     },
     Verb {
         name: "table",

@@ -12,8 +12,8 @@ use std::os::unix::ffi::OsStrExt;
 use std::os::unix::fs::{symlink, PermissionsExt};
 use std::process::{Command, Stdio};
 
-const VERBS: [&str; 8] = [
-    "plan", "weigh", "carry", "join", "table", "write", "show", "words",
+const VERBS: [&str; 9] = [
+    "plan", "weigh", "carry", "join", "traffic", "table", "write", "show", "words",
 ];
 
 #[test]
@@ -34,7 +34,7 @@ fn help_and_version_are_printed() {
 
 #[test]
 fn a_wrong_call_is_told_what_is_wrong_and_then_the_usage() {
-    let cases: [(&[&str], &str); 33] = [
+    let cases: [(&[&str], &str); 38] = [
         (&[], "a verb is missing"),
         (&["pland"], "there is no verb 'pland'"),
         (&["plan"], "plan: SHEET is missing"),
@@ -75,6 +75,20 @@ fn a_wrong_call_is_told_what_is_wrong_and_then_the_usage() {
         (
             &["join", "-", "-", "-o", "c"],
             "join: only one input can be the standard input",
+        ),
+        (&["traffic"], "traffic: SHEET is missing"),
+        (&["traffic", "a"], "traffic: MOVES is missing"),
+        (
+            &["traffic", "a", "b", "c"],
+            "traffic: 'c' is one file too many",
+        ),
+        (
+            &["traffic", "-", "-"],
+            "traffic: only one input can be the standard input",
+        ),
+        (
+            &["traffic", "a", "b", "-o", "c"],
+            "traffic: it has no option -o; a file of this name is written ./-o",
         ),
         (&["table", "-t", "10"], "table: -n N is missing"),
         (&["table", "-n", "3"], "table: -t PERCENT is missing"),
@@ -184,6 +198,9 @@ fn a_dash_is_the_standard_input_or_output() {
     );
     let words = written(&["words"], &joined);
     assert_eq!(words, b"3 100 4 0 1 65 130 107 3 6 4\n");
+    let page = printed(&["traffic", &sheet, &moves]).into_bytes();
+    assert_eq!(written(&["traffic", "-", &moves], &bytes(&sheet)), page);
+    assert_eq!(written(&["traffic", &sheet, "-"], &bytes(&moves)), page);
     let words = written(&["words", "-", "-o", "-"], &bytes(&plan));
     assert_eq!(words, b"3 2 36 0 0 0 0 27 29\n");
 }
@@ -214,9 +231,10 @@ fn a_full_disk_is_noticed() {
     let (sheet, plan) = (example("step-d/sheet"), fresh("full-plan"));
     let what = "cannot be written: No space left on device (os error 28)";
     let full = || File::create("/dev/full").expect("Linux has it");
-    let calls: [&[&str]; 5] = [
+    let calls: [&[&str]; 6] = [
         &["plan", &sheet],
         &["weigh", &sheet, &example("step-d/plan")],
+        &["traffic", &sheet, &example("step-d/moves")],
         &["words", &sheet],
         &["--help"],
         &["--version"],
@@ -236,11 +254,15 @@ fn a_full_disk_is_noticed() {
 
 #[test]
 fn a_closed_pipe_is_noticed() {
-    let mut child = tool().args(["plan", "-"]).spawn().expect("it starts");
-    drop(child.stdout.take());
-    let output = end(child, &bytes(&example("step-d/sheet")));
-    let what = "cannot be written: Broken pipe (os error 32)";
-    assert_eq!(failed(output, 1), format!("standard output: {what}\n"));
+    let moves = example("step-d/moves");
+    let calls: [&[&str]; 2] = [&["plan", "-"], &["traffic", "-", &moves]];
+    for call in calls {
+        let mut child = tool().args(call).spawn().expect("it starts");
+        drop(child.stdout.take());
+        let output = end(child, &bytes(&example("step-d/sheet")));
+        let what = "cannot be written: Broken pipe (os error 32)";
+        assert_eq!(failed(output, 1), format!("standard output: {what}\n"));
+    }
 }
 
 /// What the tool says where the shell sets it a limit.
@@ -260,8 +282,12 @@ fn an_endless_file_is_no_record() {
     assert_eq!(of_file, format!("/dev/zero: {what}\n"));
     let of_input = said_under(limit, &["plan", "-"]);
     assert_eq!(of_input, format!("standard input: {what}\n"));
-    let call = ["join", &example("step-d/sheet"), "/dev/zero", "-o", "-"];
+    let sheet = example("step-d/sheet");
+    let call = ["join", &sheet, "/dev/zero", "-o", "-"];
     assert_eq!(said_under(limit, &call), format!("/dev/zero: {what}\n"));
+    let what = "refused 32: moves: N is not 1 to 64";
+    let of_moves = said_under(limit, &["traffic", &sheet, "/dev/zero"]);
+    assert_eq!(of_moves, format!("/dev/zero: {what}\n"));
 }
 
 #[test]

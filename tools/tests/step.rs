@@ -1,4 +1,5 @@
-//! Steps from files: planned, weighed and carried out; and sheets joined.
+//! Steps from files: planned, weighed and carried out, with their traffic; and
+//! sheets joined.
 #![forbid(unsafe_code)]
 
 mod common;
@@ -58,6 +59,8 @@ fn an_old_plan_that_is_missing_is_no_rebuild() {
         let made = said(&[verb, &sheet, &missing, "-o", &output], b"");
         assert_eq!(made, format!("{missing}: {what}"));
     }
+    let traffic = said(&["traffic", &sheet, &missing], b"");
+    assert_eq!(traffic, format!("{missing}: {what}"));
 }
 
 #[test]
@@ -103,6 +106,8 @@ fn a_refused_file_is_named_with_the_reason() {
         (vec!["carry", &sheet, &moves, "-o", &output], &sheet, cell),
         (vec!["join", &sheet, &plan, "-o", &output], &sheet, cell),
         (vec!["join", &sheet_d, &sheet, "-o", &output], &sheet, cell),
+        (vec!["traffic", &sheet, &moves], &sheet, cell),
+        (vec!["traffic", &sheet_d, &moves], &moves, route),
     ];
     for (call, name, what) in cases {
         assert_eq!(said(&call, b""), format!("{name}: {what}"));
@@ -114,7 +119,7 @@ fn a_refused_file_is_named_with_the_reason() {
 fn records_that_are_exchanged_are_recognised() {
     let names = ["step-d/sheet", "step-d/plan", "step-d/moves"];
     let [sheet, plan, moves] = names.map(example);
-    let cases: [(&[&str], &String, &str); 9] = [
+    let cases: [(&[&str], &String, &str); 11] = [
         (&["plan", &plan, &sheet], &plan, "this reads as a plan"),
         (&["plan", &sheet, &sheet], &sheet, "this reads as a sheet"),
         (&["plan", &sheet, &moves], &moves, "this reads as moves"),
@@ -130,6 +135,8 @@ fn records_that_are_exchanged_are_recognised() {
             &moves,
             "this reads as moves",
         ),
+        (&["traffic", &moves, &sheet], &moves, "this reads as moves"),
+        (&["traffic", &sheet, &plan], &plan, "this reads as a plan"),
         (&["show", "sheet", &plan], &plan, "this reads as a plan"),
         (&["show", "moves", &sheet], &sheet, "this reads as a sheet"),
     ];
@@ -147,6 +154,10 @@ fn records_that_are_exchanged_are_recognised() {
     let table =
         "; this is text, of which 'firrozka table' or 'firrozka write sheet' makes a record";
     assert!(text.ends_with(table), "{text}");
+    // A page in place of the moves that it is of.
+    let text = said(&["traffic", &sheet, &example("traffic.expected")], b"");
+    let write = "; this is text, of which 'firrozka write moves' makes a record";
+    assert!(text.ends_with(write), "{text}");
 }
 
 #[test]
@@ -166,12 +177,16 @@ fn two_records_that_do_not_go_together_are_explained() {
     let weighed = said(&["weigh", &sheet, &no_tree], b"");
     assert_eq!(weighed, format!("{no_tree}: {primary}"));
     let differ = format!("refused 41: the N of sheet and moves differ: 2 here, 3 in {sheet}");
+    let expected = format!("{moves_of_two}: {differ}");
     let carried = said(&["carry", &sheet, &moves_of_two, "-o", &next], b"");
-    assert_eq!(carried, format!("{moves_of_two}: {differ}"));
+    assert_eq!(carried, expected);
+    assert_eq!(said(&["traffic", &sheet, &moves_of_two], b""), expected);
     let sends = "refused 42: some cell sends in all more than the old sheet gives it";
     let cell = format!("node 0 sends 91 of subdomain 0, and has 90 in {sheet}");
+    let expected = format!("{too_much}: {sends}: {cell}");
     let carried = said(&["carry", &sheet, &too_much, "-o", &next], b"");
-    assert_eq!(carried, format!("{too_much}: {sends}: {cell}"));
+    assert_eq!(carried, expected);
+    assert_eq!(said(&["traffic", &sheet, &too_much], b""), expected);
     assert!(fs::metadata(&next).is_err());
     // An old plan of kind 0 is an old plan.
     assert_eq!(
@@ -276,4 +291,48 @@ fn two_sheets_that_do_not_go_together_are_explained() {
     let said = said(&["join", &sheet, &inlet, "-o", &joined], b"");
     let count = "refused 7: sheet: a count is 0, or the running sum is above 1,000,000,000";
     assert_eq!(said, format!("{inlet}: {count}"));
+}
+
+#[test]
+fn the_traffic_of_a_step_is_printed() {
+    let (sheet, moves) = (example("step-d/sheet"), example("step-d/moves"));
+    let page = String::from_utf8(bytes(&example("traffic.expected")));
+    assert_eq!(Ok(printed(&["traffic", &sheet, &moves])), page);
+    // Nodes 0, 1 and 2 hold 34 and 3, 23, and 1,200 particles. Of subdomain 0 node 2
+    // sends 1,000 to node 0 and 7 to node 1; of subdomain 1 node 0 sends 3 to node 1,
+    // and node 1 sends 20 to node 2.
+    let sheet = record("busy-sheet", "3 100 4 0 1 65 128 34 3 23 1200");
+    let moves = record("busy-moves", "3 4 128 129 4097 4162 1000 7 3 20");
+    let page = concat!(
+        " 0          3       1000\n",
+        " 1         20         10\n",
+        " 2       1007         20\n",
+        "==       1030       1030\n",
+    );
+    assert_eq!(printed(&["traffic", &sheet, &moves]), page);
+    // Without a move there is a page too.
+    let none = record("no-moves", "3 0");
+    let page = concat!(
+        " 0          0          0\n",
+        " 1          0          0\n",
+        " 2          0          0\n",
+        "==          0          0\n",
+    );
+    assert_eq!(printed(&["traffic", &sheet, &none]), page);
+}
+
+#[test]
+fn the_longest_traffic_page_is_printed() {
+    // Node 0 sends all that there can be to node 63.
+    let sheet = record("largest-sheet", "64 100 1 0 1000000000");
+    let moves = record("largest-moves", "64 1 63 1000000000");
+    let page = printed(&["traffic", &sheet, &moves]);
+    assert_eq!(page.len(), 1_625);
+    let lines: Vec<&str> = page.lines().collect();
+    assert_eq!(lines[0], " 0 1000000000          0");
+    assert_eq!(lines[9], " 9          0          0");
+    assert_eq!(lines[10], "10          0          0");
+    assert_eq!(lines[63], "63          0 1000000000");
+    assert_eq!(lines[64], "== 1000000000 1000000000");
+    assert_eq!(lines.len(), 65);
 }

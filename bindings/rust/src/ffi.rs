@@ -56,7 +56,8 @@ pub struct StepAnswer {
     pub moves_bytes: u32,
 }
 
-/// *Carry out* and *join sheets* give the length in bytes of what they wrote.
+/// *Carry out*, *join sheets* and *traffic page* give the length in bytes of what
+/// they wrote.
 #[repr(C)]
 #[derive(Clone, Copy, Debug, Default, PartialEq, Eq)]
 pub struct WrittenAnswer {
@@ -120,6 +121,14 @@ extern "C" {
         second_len: usize,
         out: *mut u8,
         out_len: usize,
+    ) -> WrittenAnswer;
+    fn firrozka_traffic_page(
+        sheet: *const u8,
+        sheet_len: usize,
+        moves: *const u8,
+        moves_len: usize,
+        page: *mut u8,
+        page_len: usize,
     ) -> WrittenAnswer;
     fn firrozka_tree_in_force(
         old: *const u8,
@@ -202,6 +211,11 @@ pub fn carry_out(sheet: &[u8], moves: &[u8], next: &mut [u8]) -> WrittenAnswer {
 /// *Join sheets*, as the archive does it.
 pub fn join_sheets(first: &[u8], second: &[u8], out: &mut [u8]) -> WrittenAnswer {
     write(firrozka_join_sheets, first, second, out)
+}
+
+/// *Traffic page*, as the archive does it.
+pub fn traffic_page(sheet: &[u8], moves: &[u8], page: &mut [u8]) -> WrittenAnswer {
+    write(firrozka_traffic_page, sheet, moves, page)
 }
 
 /// *Tree in force*, as the archive does it.

@@ -29,8 +29,9 @@ mod words;
 
 pub use ffi::version;
 pub use operations::{
-    carry_out, join_sheets, plan_step, read_moves, read_plan, read_sheet, tree_in_force, weigh,
-    Step, Weighed, LEAST_BYTES, MOVES_BYTES, NO_PLAN, PLAN_BYTES, SHEET_BYTES, VERSION,
+    carry_out, join_sheets, plan_step, read_moves, read_plan, read_sheet, traffic_page,
+    traffic_text, tree_in_force, weigh, Step, Weighed, LEAST_BYTES, MOVES_BYTES, NO_PLAN,
+    PAGE_BYTES, PLAN_BYTES, SHEET_BYTES, VERSION,
 };
 pub use records::{Cell, Kind, Move, Moves, NoKind, Node, Plan, Sheet};
 pub use refusal::Refusal;

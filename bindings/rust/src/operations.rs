@@ -5,9 +5,10 @@ use crate::ffi::{self, PartAnswer, WrittenAnswer};
 use crate::records::{Kind, Moves, Plan, Sheet};
 use crate::refusal::Refusal;
 use crate::words::Words;
+use std::str;
 
 /// The version that this crate was written for: 100 × major + minor.
-pub const VERSION: u32 = 103;
+pub const VERSION: u32 = 104;
 
 /// Enough for every sheet.
 pub const SHEET_BYTES: usize = 4 * (3 + 2 * 64 * 64);
@@ -20,6 +21,9 @@ pub const MOVES_BYTES: usize = 4 * (2 + 2 * 64 * 63);
 
 /// Enough for all leasts.
 pub const LEAST_BYTES: usize = 4 * 64;
+
+/// Enough for every traffic page.
+pub const PAGE_BYTES: usize = 25 * (64 + 1);
 
 /// No old plan.
 pub const NO_PLAN: &[u8] = &[];
@@ -135,6 +139,26 @@ pub fn join_sheets<'a>(
     out: &'a mut [u8],
 ) -> Result<&'a [u8], Refusal> {
     written(ffi::join_sheets(first, second, out), out)
+}
+
+/// *Traffic page*: writes to the front of the buffer, as text to pin up, what each
+/// node sends and receives when these moves are carried out.
+///
+/// A line has node, sent and received, in 2, 10 and 10 columns with a blank
+/// between; the last has `==` for the node and the two totals.
+pub fn traffic_page<'a>(
+    sheet: &[u8],
+    moves: &[u8],
+    page: &'a mut [u8],
+) -> Result<&'a str, Refusal> {
+    let page = written(ffi::traffic_page(sheet, moves, page), page)?;
+    Ok(str::from_utf8(page).expect("the page is ASCII"))
+}
+
+/// *Traffic page* as text of its own, which is long enough for every page: 53 is
+/// no refusal of this function.
+pub fn traffic_text(sheet: &[u8], moves: &[u8]) -> Result<String, Refusal> {
+    traffic_page(sheet, moves, &mut [0; PAGE_BYTES]).map(String::from)
 }
 
 /// *Tree in force*: the helpands, a part of one of the two plans, or an empty

@@ -68,11 +68,13 @@ refusals! {
     MovesRoute = 35, "moves", "a route does not rise, names a node not below N, \
         or has one node as sender and receiver";
     MovesCount = 36, "moves", "a count is 0 or above 1,000,000,000";
-    MovesNodesDiffer = 41, "carry out", "the N of sheet and moves differ";
-    MovesSends = 42, "carry out", "some cell sends in all more than the old sheet gives it";
+    MovesNodesDiffer = 41, "carry out, traffic page", "the N of sheet and moves differ";
+    MovesSends = 42, "carry out, traffic page", "some cell sends in all more than the old sheet \
+        gives it";
     SheetBuffer = 43, "carry out", "the buffer is too short";
     SheetsDiffer = 51, "join sheets", "the N or the t of the two sheets differ";
     JoinedBuffer = 52, "join sheets", "the buffer is too short";
+    PageBuffer = 53, "traffic page", "the buffer is under 25 × (N+1) bytes";
 }
 
 impl Refusal {

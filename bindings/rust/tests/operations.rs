@@ -1,10 +1,10 @@
 //! The wrapper over the archive: document 01's steps, refusals and parts, and
-//! document 02's joined sheets.
+//! document 02's joined sheets and traffic pages.
 
 use firrozka::{
-    carry_out, join_sheets, plan_step, read_moves, read_plan, read_sheet, to_bytes, tree_in_force,
-    weigh, Cell, Kind, Move, Refusal, Step, Words, LEAST_BYTES, MOVES_BYTES, NO_PLAN, PLAN_BYTES,
-    SHEET_BYTES,
+    carry_out, join_sheets, plan_step, read_moves, read_plan, read_sheet, to_bytes, traffic_page,
+    traffic_text, tree_in_force, weigh, Cell, Kind, Move, Refusal, Step, Words, LEAST_BYTES,
+    MOVES_BYTES, NO_PLAN, PAGE_BYTES, PLAN_BYTES, SHEET_BYTES,
 };
 use std::thread;
 
@@ -19,6 +19,19 @@ const INLET: [u32; 7] = [3, 100, 2, 0, 1, 17, 3];
 /// Step D's sheet and the inlet's, joined.
 const JOINED: [u32; 11] = [3, 100, 4, 0, 1, 65, 130, 107, 3, 6, 4];
 const JOINED_BYTES: usize = 44;
+
+/// Nodes 0, 1 and 2 hold 34 and 3, 23, and 1,200 particles.
+const BUSY: [u32; 11] = [3, 100, 4, 0, 1, 65, 128, 34, 3, 23, 1200];
+
+/// Of subdomain 0 node 2 sends 1,000 to node 0 and 7 to node 1; of subdomain 1 node
+/// 0 sends 3 to node 1, and node 1 sends 20 to node 2.
+const TRAFFIC: [u32; 10] = [3, 4, 128, 129, 4096 + 1, 4096 + 66, 1000, 7, 3, 20];
+const PAGE: &str = concat!(
+    " 0          3       1000\n",
+    " 1         20         10\n",
+    " 2       1007         20\n",
+    "==       1030       1030\n",
+);
 
 struct Buffers {
     plan: [u8; PLAN_BYTES],
@@ -247,6 +260,78 @@ fn sheets_that_are_not_joined_leave_the_buffer_untouched() {
     }
     // Each sheet by itself is accepted, so this 7 is that of the joint total.
     assert!(read_sheet(&sheet).is_ok() && read_sheet(&too_many).is_ok());
+}
+
+#[test]
+fn the_traffic_of_moves_is_written_as_a_page() -> Result<(), Refusal> {
+    let (sheet, moves) = (to_bytes(&BUSY), to_bytes(&TRAFFIC));
+    let mut page = [0xa5; PAGE_BYTES];
+    assert_eq!(traffic_page(&sheet, &moves, &mut page)?, PAGE);
+    assert_eq!(page[PAGE.len()..], [0xa5; PAGE_BYTES][PAGE.len()..]);
+    assert_eq!(traffic_text(&sheet, &moves)?, PAGE);
+    // One node, no particle and no move, into a buffer of just this length.
+    let (sheet, moves) = (to_bytes(&[1, 1, 0]), to_bytes(&[1, 0]));
+    let quiet = " 0          0          0\n==          0          0\n";
+    assert_eq!(traffic_page(&sheet, &moves, &mut [0xa5; 50])?, quiet);
+    Ok(())
+}
+
+#[test]
+fn the_longest_page_has_64_nodes() -> Result<(), Refusal> {
+    // Node 0 sends all that there can be to node 63.
+    let sheet = to_bytes(&[64, 100, 1, 0, 1_000_000_000]);
+    let moves = to_bytes(&[64, 1, 63, 1_000_000_000]);
+    let quiet = (1..63).map(|node| format!("{node:>2}          0          0\n"));
+    let expected = format!(
+        " 0 1000000000          0\n{}63          0 1000000000\n== 1000000000 1000000000\n",
+        quiet.collect::<String>()
+    );
+    assert_eq!(expected.len(), PAGE_BYTES);
+    assert_eq!(traffic_text(&sheet, &moves)?, expected);
+    Ok(())
+}
+
+/// Of these two there is no page, and a buffer that is a byte too short for one is
+/// left alone.
+fn assert_no_page(sheet: &[u8], moves: &[u8], refusal: Refusal) {
+    let mut page = [0xa5; PAGE.len() - 1];
+    assert_eq!(traffic_page(sheet, moves, &mut page), Err(refusal));
+    assert_eq!(page, [0xa5; PAGE.len() - 1]);
+}
+
+#[test]
+fn where_there_is_no_page_the_buffer_is_untouched() {
+    // In the order of the checks: beside these sheets stand no moves.
+    let sheets: [(&[u32], Refusal); 7] = [
+        (&[3, 100], Refusal::SheetShort),
+        (&[65, 100, 0], Refusal::SheetNodes),
+        (&[3, 1000, 0], Refusal::SheetTolerance),
+        (&[3, 100, 10], Refusal::SheetEntries),
+        (&[3, 100, 1, 0], Refusal::SheetLength),
+        (&[3, 100, 1, 3, 1], Refusal::SheetCell),
+        (&[3, 100, 1, 0, 0], Refusal::SheetCount),
+    ];
+    for (words, refusal) in sheets {
+        assert_no_page(&to_bytes(words), &[], refusal);
+    }
+    let lists: [(&[u32], Refusal); 9] = [
+        (&[3], Refusal::MovesShort),
+        (&[65, 0], Refusal::MovesNodes),
+        (&[3, 7], Refusal::MovesEntries),
+        (&[3, 1, 1], Refusal::MovesLength),
+        (&[3, 1, 0, 1], Refusal::MovesRoute),
+        (&[3, 1, 1, 0], Refusal::MovesCount),
+        (&[2, 0], Refusal::MovesNodesDiffer),
+        // Node 1 has 23.
+        (&[3, 1, 4096 + 66, 24], Refusal::MovesSends),
+        (&TRAFFIC, Refusal::PageBuffer),
+    ];
+    let sheet = to_bytes(&BUSY);
+    for (words, refusal) in lists {
+        assert_no_page(&sheet, &to_bytes(words), refusal);
+    }
+    assert_eq!(traffic_text(&[], &[]), Err(Refusal::SheetShort));
+    assert_eq!(traffic_text(&sheet, &[]), Err(Refusal::MovesShort));
 }
 
 /// The stack that docs/USING.md asks for.

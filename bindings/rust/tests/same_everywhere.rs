@@ -1,7 +1,9 @@
 //! Numbers and words that several files have: all say the same.
 
 use firrozka::ffi::PartAnswer;
-use firrozka::{version, Refusal, LEAST_BYTES, MOVES_BYTES, PLAN_BYTES, SHEET_BYTES, VERSION};
+use firrozka::{
+    version, Refusal, LEAST_BYTES, MOVES_BYTES, PAGE_BYTES, PLAN_BYTES, SHEET_BYTES, VERSION,
+};
 use std::collections::BTreeSet;
 use std::fs;
 
@@ -111,6 +113,7 @@ fn all_have_the_sizes_of_buffers() {
         ("plan", PLAN_BYTES),
         ("moves", MOVES_BYTES),
         ("least", LEAST_BYTES),
+        ("page", PAGE_BYTES),
     ];
     let c = part("include/firrozka.h", "enum {", "};");
     let fortran = part("bindings/fortran/firrozka.f90", "parameter", "interface");

@@ -1,12 +1,11 @@
 -- What *carry out* accepted, taken apart, and the sheet that follows read again: its table can be written, since accepted moves
 -- keep the sum and name no other node, and what can be written is read back. Assumes nothing.
 use mathlib.Core.Path.{_≡_, refl, sym, ap, _∙_}
-use mathlib.Core.Bool.{true, not}
 use mathlib.Core.List.{List}
 use Prim.Native.Nat.{ℕ, _*_, _≤_}
 use native.Mathlib.Omega.{arith}
-use borrow.Author.Tests.{ltb-false, le-ltb, eqb-true, eq-eqb, not-false}
-use lib.Dec.{ltb, eqb}
+use borrow.Author.Tests.{ltb-false, le-ltb}
+use lib.Dec.{ltb}
 use lib.ListN.{length, take}
 use Rattle.fold.specs.Sum.{sum}
 use Rattle.fold.proofs.Tests.{passed, handed}
@@ -26,39 +25,25 @@ use Rattle.moves.specs.Moves.{readMoves}
 use Rattle.moves.proofs.Accepted.{moves-accepted, routes-are, counts-are}
 use Rattle.transfer.proofs.Acceptable.{Acceptable}
 use Rattle.transfer.proofs.Kept.{acceptable-below, sum-kept, writable-kept}
-use Rattle.carry.specs.Carry.{routesIn, countsIn, withinIn, nextTable, nextSheet, carryAnswer, nextAfter, SheetReadBack}
+use Rattle.carry.specs.Checks.{routesIn, countsIn, checked}
+use Rattle.carry.specs.Carry.{nextTable, nextSheet, carryAnswer, nextAfter, SheetReadBack}
+use Rattle.carry.proofs.Checks.{Carriable, carriable, carriable-checked}
 
--- ---- accepted: every check passed, so each says its part
-
--- the checks before 43
-pub record Carriable (s m : List ℕ) : Type 0 where
-  pub sheet : readSheet s .refusal ≡ 0
-  pub moves : readMoves m .refusal ≡ 0
-  pub nodes : readSheet s .n ≡ readMoves m .n
-  pub within : withinIn s m ≡ true
+-- ---- accepted: every check passed
 
 module _ (s m : List ℕ) (size : ℕ) where
   pub carried-out : carryAnswer s m size .refusal ≡ 0 → Carriable s m × (length (nextSheet s m) ≤ size)
   unfolding carryAnswer
   carried-out q =
       let f : WrittenAnswer → ℕ = λ a. a .refusal in
-      let n = readSheet s .n in
-      let a₁ = handed f refused (λ k. refl) (readSheet s .refusal) _ q in
-      let a₂ = handed f refused (λ k. refl) (readMoves m .refusal) _ (a₁ .1) in
-      let a₃ = passed f (not (eqb n (readMoves m .n))) (refused 41) _ (λ z. omega arith) (a₂ .1) in
-      let a₄ = passed f (not (withinIn s m)) (refused 42) _ (λ z. omega arith) (a₃ .1) in
-      let a₅ = passed f (ltb size (length (nextSheet s m))) (refused 43) _ (λ z. omega arith) (a₄ .1) in
-      let same = eqb-true n (readMoves m .n) (not-false _ (a₃ .0)) in
-      (record { sheet = a₁ .0; moves = a₂ .0; nodes = same; within = not-false _ (a₄ .0) }, ltb-false size (length (nextSheet s m)) (a₅ .0))
+      let a₁ = handed f refused (λ k. refl) (checked s m) _ q in
+      let a₂ = passed f (ltb size (length (nextSheet s m))) (refused 43) _ (λ z. omega arith) (a₁ .1) in
+      (carriable s m (a₁ .0), ltb-false size (length (nextSheet s m)) (a₂ .0))
 
   -- and conversely
   pub carries-out : Carriable s m → length (nextSheet s m) ≤ size → carryAnswer s m size ≡ accepted (length (nextSheet s m))
   unfolding carryAnswer
-  carries-out d fits =
-      let a : eqb (readSheet s .refusal) 0 ≡ true = eq-eqb (readSheet s .refusal) 0 (d .sheet) in
-      let b : eqb (readMoves m .refusal) 0 ≡ true = eq-eqb (readMoves m .refusal) 0 (d .moves) in
-      let c : eqb (readSheet s .n) (readMoves m .n) ≡ true = eq-eqb (readSheet s .n) (readMoves m .n) (d .nodes) in
-      rw (a, b, c, d .within, le-ltb size (length (nextSheet s m)) fits)
+  carries-out d fits = rw (carriable-checked s m d, le-ltb size (length (nextSheet s m)) fits)
 
 -- ---- the table that follows
 
@@ -75,7 +60,7 @@ module _ {s m : List ℕ} (d : Carriable s m) where
   facts : Accepted s (readSheet s)
   facts = sheet-accepted s (d .sheet)
 
-  acceptable : Acceptable n₀ (routesIn m) (countsIn m)
+  pub acceptable : Acceptable n₀ (routesIn m) (countsIn m)
   acceptable =
       let k = moves-accepted m (d .moves) in
       let a = readMoves m in

@@ -1,10 +1,10 @@
 // *Carry out*: the sheet that follows a sheet and moves, written to a lent buffer. Any accepted moves will do, not only ours.
+// The refusals up to 42 stand in `check`.
+use check::CheckRefusal;
 use moves::Moves;
 use moves::MovesReading;
-use moves::MovesRefusal;
 use sheet::Sheet;
 use sheet::SheetReading;
-use sheet::SheetRefusal;
 use words::Written;
 use words::WrittenAnswer;
 ghost use mathlib.Core.Path.{_≡_};
@@ -12,12 +12,11 @@ ghost use lib.ListN.{length};
 ghost use Rattle.carry.specs.Carry.{carryAnswer, nextAfter, numberOf, answerOf};
 ghost use Rattle.carry.specs.Inner.{CarryRead};
 
+pub mod check;
+
 // Why carrying out is refused, in the order of the checks.
 pub enum CarryRefusal {
-    Sheet(SheetRefusal),
-    Moves(MovesRefusal),
-    NodesDiffer,
-    Sends,
+    Check(CheckRefusal),
     Buffer,
 }
 
@@ -34,11 +33,11 @@ fn carry_read(sheet: &[u8], moves: &[u8], s: Sheet, m: Moves, next: &mut [u8]) -
     ensures bytes { λ _. ⌜ now (next .exit) ≡ nextAfter (now (sheet .entry)) (now (moves .entry)) (now (next .entry)) ⌝ }
 {
     if s.n != m.n {
-        return Carrying::Refused(CarryRefusal::NodesDiffer);
+        return Carrying::Refused(CarryRefusal::Check(CheckRefusal::NodesDiffer));
     }
     let mut table = sheet::table::unpack(sheet, s.e as usize);
     if !transfer::apply::apply_moves(&mut table, moves, m.e as usize) {
-        return Carrying::Refused(CarryRefusal::Sends);
+        return Carrying::Refused(CarryRefusal::Check(CheckRefusal::Sends));
     }
     match sheet::write::write_sheet(next, s.n, s.t, &table) {
         Written::Bytes(size) => Carrying::Carried(size as u32),
@@ -52,9 +51,11 @@ pub fn carry_out(sheet: &[u8], moves: &[u8], next: &mut [u8]) -> Carrying
     ensures bytes { λ _. ⌜ now (next .exit) ≡ nextAfter (now (sheet .entry)) (now (moves .entry)) (now (next .entry)) ⌝ }
 {
     match sheet::read_sheet(sheet) {
-        SheetReading::Refused(r) => Carrying::Refused(CarryRefusal::Sheet(r)),
+        SheetReading::Refused(r) => Carrying::Refused(CarryRefusal::Check(CheckRefusal::Sheet(r))),
         SheetReading::Accepted(s) => match moves::read_moves(moves) {
-            MovesReading::Refused(r) => Carrying::Refused(CarryRefusal::Moves(r)),
+            MovesReading::Refused(r) => Carrying::Refused(CarryRefusal::Check(CheckRefusal::Moves(
+                r,
+            ))),
             MovesReading::Accepted(m) => carry_read(sheet, moves, s, m, next),
         },
     }
@@ -65,10 +66,7 @@ fn number(r: CarryRefusal) -> u32
     ensures { λ k. ⌜ k ≡ numberOf r ⌝ }
 {
     match r {
-        CarryRefusal::Sheet(r) => sheet::number(r),
-        CarryRefusal::Moves(r) => moves::number(r),
-        CarryRefusal::NodesDiffer => 41,
-        CarryRefusal::Sends => 42,
+        CarryRefusal::Check(r) => check::number(r),
         CarryRefusal::Buffer => 43,
     }
 }

@@ -37,7 +37,8 @@ use Rattle.planner.proofs.Facts.{given, decision}
 use Rattle.planner.proofs.ReadBack.{Plannable, was-read, records-back, carries, done-step, plan-front, moves-front}
 use Rattle.words.specs.declared.WrittenAnswer.{WrittenAnswer}
 use Rattle.carry.specs.Carry.{nextTable, nextSheet, carryAnswer, nextAfter}
-use Rattle.carry.proofs.ReadBack.{Carriable, carries-out, next-back, next-front}
+use Rattle.carry.proofs.Checks.{Carriable}
+use Rattle.carry.proofs.ReadBack.{carries-out, next-back, next-front}
 use Rattle.claim.specs.Claim.{Overloaded, AcceptedTree, NoTree, Rival, Balanced, Claim}
 use Rattle.claim.proofs.Agree.{tree-agree, within-agree, target-agree, due-agree}
 

@@ -16,6 +16,7 @@ ghost use Rattle.weigh.specs.Weigh.{weighAnswer, weighBytes};
 ghost use Rattle.planner.specs.Step.{stepAnswer, planAfter, movesAfter};
 ghost use Rattle.carry.specs.Carry.{carryAnswer, nextAfter};
 ghost use Rattle.inlet.specs.Join.{joinAnswer, joinedAfter};
+ghost use Rattle.traffic.specs.Page.{pageAnswer, pageAfter};
 ghost use Rattle.in_force.specs.InForce.{inForce, partOf};
 ghost use Rattle.firrozka.specs.Version.{version};
 
@@ -24,7 +25,7 @@ ghost use Rattle.firrozka.specs.Version.{version};
 pub extern "C" fn firrozka_version() -> u32
     ensures { λ r. ⌜ r ≡ version ⌝ }
 {
-    103
+    104
 }
 
 // *Read sheet*.
@@ -94,6 +95,19 @@ pub extern "C" fn firrozka_join_sheets(first: &[u8], second: &[u8], out: &mut [u
     ensures bytes { λ _. ⌜ now (out .exit) ≡ joinedAfter (now (first .entry)) (now (second .entry)) (now (out .entry)) ⌝ }
 {
     inlet::answer(inlet::join_sheets(first, second, out))
+}
+
+// *Traffic page*.
+#[no_mangle]
+pub extern "C" fn firrozka_traffic_page(
+    sheet: &[u8],
+    moves: &[u8],
+    page: &mut [u8],
+) -> WrittenAnswer
+    ensures answer { λ r. ⌜ r ≡ pageAnswer (now (sheet .entry)) (now (moves .entry)) (length (now (page .entry))) ⌝ }
+    ensures bytes { λ _. ⌜ now (page .exit) ≡ pageAfter (now (sheet .entry)) (now (moves .entry)) (now (page .entry)) ⌝ }
+{
+    traffic::answer(traffic::traffic_page(sheet, moves, page))
 }
 
 // *Tree in force*: the stretch by its place, since no reference can be handed back over the boundary.

@@ -9,6 +9,7 @@ use native.Mathlib.Omega.{arith}
 use borrow.Author.Tests.{lt-ltb, le-ltb}
 use lib.ListN.{length, length-append}
 use Rattle.text.specs.Text.{digit, digits, decimal}
+use Rattle.text.specs.Columns.{readFrom}
 
 -- ---- the two ways of a number
 
@@ -21,7 +22,7 @@ unfolding digits
 digits-more k x h = rw (le-ltb x 10 h)
 
 -- x < 10 ^ (k + 2) without its last digit
-shorter : (k x : ℕ) → x < 10 ^ suc (suc k) → x / 10 < 10 ^ suc k
+pub shorter : (k x : ℕ) → x < 10 ^ suc (suc k) → x / 10 < 10 ^ suc k
 shorter k x h =
     let l : x < 10 ^ suc k * 10 = rw (pow-suc 10 (suc k)) at h in
     omega arith
@@ -77,11 +78,6 @@ digits-short (suc k) d x h =
     fewer (suc e) h l ih = omega (arith, ih e (shorter e x h))
 
 -- ---- reading them back
-
--- the number of digits, behind a number that was read before them
-unfoldable pub readFrom : ℕ → List ℕ → ℕ
-readFrom x [] = x
-readFrom x (d ∷ ds) = readFrom (10 * x + (d - 48)) ds
 
 read-last : (x : ℕ) (ds : List ℕ) (d : ℕ) → readFrom x (ds ++ (d ∷ [])) ≡ 10 * readFrom x ds + (d - 48)
 unfolding readFrom

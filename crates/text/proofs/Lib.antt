@@ -1,4 +1,5 @@
 pub mod Digits
+pub mod Columns
 pub mod Lengths
 pub mod Writing
 pub mod Splitting

@@ -20,7 +20,7 @@ use Rattle.words.proofs.Words.{part-more, part-end}
 use Rattle.arrays.specs.Arrays.{at}
 use Rattle.moves.specs.Moves.{routesOf, countsOf}
 use Rattle.transfer.specs.Apply.{fromCell, intoCell, moved, sends, receives, withinFrom, sendsWithin, eachFrom, lessSends, carried}
-use Rattle.transfer.specs.Inner.{Ready}
+use Rattle.transfer.specs.Inner.{Readable}
 use Rattle.transfer.proofs.Ends.{moved-none, moved-one}
 
 -- ---- cells
@@ -38,14 +38,14 @@ pub record Entry (moves : List ℕ) (e i route count : ℕ) : Type 0 where
   pub routes : drop i (routesOf moves e) ≡ route ∷ drop (i + 1) (routesOf moves e)
   pub counts : drop i (countsOf moves e) ≡ count ∷ drop (i + 1) (countsOf moves e)
 
-pub entry-read : (table moves : List ℕ) (e i : ℕ) → Ready table moves e → i < e → (route count : ℕ)
+pub entry-read : (moves : List ℕ) (e i : ℕ) → Readable moves e → i < e → (route count : ℕ)
     → route ≡ getD (words moves) (2 + i) 0 → count ≡ getD (words moves) (2 + e + i) 0 → Entry moves e i route count
-entry-read table moves e i ready h route count is-route is-count =
+entry-read moves e i readable h route count is-route is-count =
     rw (is-route, is-count)
     (record {
-      below = ready .below i h;
-      routes = part-more moves 2 e i h (omega (arith, ready .long));
-      counts = part-more moves (2 + e) e i h (omega (arith, ready .long));
+      below = readable .below i h;
+      routes = part-more moves 2 e i h (omega (arith, readable .long));
+      counts = part-more moves (2 + e) e i h (omega (arith, readable .long));
     })
 
 -- ---- the counts of the moves from entry i on that end at cell c, added up

@@ -112,8 +112,9 @@ once m cells o j count h f g =
     (λ k l. ap (λ (b : Bool). only b count) (eqb-same o (cells k) k j (f k) (g k)))
     ∙ sum-only m (λ k. count) j h
 
-table-one : (o count : ℕ) → o < tableSize → over tableSize (λ c. c) o count ≡ count
-table-one o count h = once tableSize (λ c. c) o o count h (λ k e. sym e) (λ k e. sym e)
+-- of all cells below m, cell o is one
+pub one-of : (m o count : ℕ) → o < m → over m (λ c. c) o count ≡ count
+one-of m o count h = once m (λ c. c) o o count h (λ k e. sym e) (λ k e. sym e)
 
 -- the cell of holder o and subdomain d counts in its own subdomain
 column-one : (nodes o d n count : ℕ) → o < nodes → d < 64 → n < 64 → over nodes (λ k. cell k n) (cell o d) count ≡ only (eqb d n) count
@@ -135,7 +136,8 @@ sum-kept table routes counts size below within =
     even-kept tableSize (λ c. c) table routes counts (λ c l. omega (arith, size))
     (λ i l count.
     let r = getD routes i 0 in
-    table-one (fromCell r) count (from-below r (below i l)) ∙ sym (table-one (intoCell r) count (into-below r (below i l)))) within
+    one-of tableSize (fromCell r) count (from-below r (below i l))
+    ∙ sym (one-of tableSize (intoCell r) count (into-below r (below i l)))) within
 
 -- ---- accepted moves
 

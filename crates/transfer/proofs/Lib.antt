@@ -8,5 +8,6 @@ pub mod Subdomains
 pub mod Acceptable
 pub mod Applied
 pub mod Kept
+pub mod Counts
 pub mod Carrying
 pub mod Vectors

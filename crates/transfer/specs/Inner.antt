@@ -22,11 +22,15 @@ pub record NextFrom (nodes : ℕ) (amount : ℕ → ℕ) (from node count : ℕ)
   pub first : FirstFrom nodes (λ k. ltb 0 (amount k)) from node
   pub is : node < nodes → count ≡ amount node
 
--- what applying moves asks: a table, and the bytes of moves with e entries, each route one of 64 × 4,096
-pub record Ready (table moves : List ℕ) (e : ℕ) : Type 0 where
-  pub size : length table ≡ tableSize
+-- what reading moves entry by entry asks: the bytes of moves with e entries, each route one of 64 × 4,096
+pub record Readable (moves : List ℕ) (e : ℕ) : Type 0 where
   pub long : 4 * (2 + 2 * e) ≤ length moves
   pub below : (i : ℕ) → i < e → getD (words moves) (2 + i) 0 < 64 * tableSize
+
+-- and applying them: a table
+pub record Ready (table moves : List ℕ) (e : ℕ) : Type 0 where
+  pub size : length table ≡ tableSize
+  pub entries : Readable moves e
 
 -- and for what arrives: no cell comes to more than a sheet's sum
 abbrev pub Room : List ℕ → List ℕ → ℕ → Type 0

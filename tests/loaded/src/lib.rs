@@ -28,6 +28,8 @@ struct Archive {
     carry_out: AtomicPtr<c_void>,
     /// Nowhere in an archive from before request 2026-02.
     join_sheets: AtomicPtr<c_void>,
+    /// Nowhere in one from before request 2026-04.
+    traffic_page: AtomicPtr<c_void>,
 }
 
 impl Archive {
@@ -39,6 +41,7 @@ impl Archive {
             plan_step: AtomicPtr::new(ptr::null_mut()),
             carry_out: AtomicPtr::new(ptr::null_mut()),
             join_sheets: AtomicPtr::new(ptr::null_mut()),
+            traffic_page: AtomicPtr::new(ptr::null_mut()),
         }
     }
 }
@@ -77,8 +80,12 @@ pub fn load(file: &Path, place: usize) -> Result<(), String> {
         }
         function.store(found, Ordering::Relaxed);
     }
-    let join_sheets = find("firrozka_join_sheets");
-    archive.join_sheets.store(join_sheets, Ordering::Relaxed);
+    for (function, name) in [
+        (&archive.join_sheets, "firrozka_join_sheets"),
+        (&archive.traffic_page, "firrozka_traffic_page"),
+    ] {
+        function.store(find(name), Ordering::Relaxed);
+    }
     Ok(())
 }
 
@@ -104,6 +111,11 @@ fn loaded(function: &AtomicPtr<c_void>) -> *mut c_void {
 /// Whether the archive at this place has *join sheets*.
 pub fn has_join_sheets(place: usize) -> bool {
     !PLACES[place].join_sheets.load(Ordering::Relaxed).is_null()
+}
+
+/// Whether the archive at this place has *traffic page*.
+pub fn has_traffic_page(place: usize) -> bool {
+    !PLACES[place].traffic_page.load(Ordering::Relaxed).is_null()
 }
 
 /// The version of the archive at this place.
@@ -162,14 +174,23 @@ pub fn join_sheets<const PLACE: usize>(
     write(&PLACES[PLACE].join_sheets, first, second, out)
 }
 
-/// Calls a function that reads two records and writes one.
+/// *Traffic page*, as the archive at this place does it.
+pub fn traffic_page<const PLACE: usize>(
+    sheet: &[u8],
+    moves: &[u8],
+    page: &mut [u8],
+) -> WrittenAnswer {
+    write(&PLACES[PLACE].traffic_page, sheet, moves, page)
+}
+
+/// Calls a function that reads two records and writes one, or a page.
 fn write(
     function: &AtomicPtr<c_void>,
     first: &[u8],
     second: &[u8],
     out: &mut [u8],
 ) -> WrittenAnswer {
-    // SAFETY: both functions that stand here have this type in an archive.
+    // SAFETY: all functions that stand here have this type in an archive.
     let write: Write = unsafe { mem::transmute(loaded(function)) };
     write(
         first.as_ptr(),

@@ -6,11 +6,14 @@
 #![forbid(unsafe_code)]
 
 mod deciding;
+mod page;
 mod records;
 mod transfer;
 mod tree;
 
-use records::{put_record, put_words, read_moves, read_plan, read_sheet, Nodes, Sheet, Table};
+use records::{
+    put_record, put_words, read_moves, read_plan, read_sheet, Moves, Nodes, Sheet, Table,
+};
 
 /// What *plan a step* gives: kind, L and both lengths in bytes.
 pub struct Step {
@@ -84,14 +87,31 @@ pub fn weigh(sheet_bytes: &[u8], plan_bytes: &[u8], least: &mut [u8]) -> Result<
 
 /// *Carry out*: the length in bytes of the sheet that follows.
 pub fn carry_out(sheet_bytes: &[u8], moves_bytes: &[u8], next: &mut [u8]) -> Result<u32, u32> {
-    let sheet = read_sheet(sheet_bytes)?;
-    let moves = read_moves(moves_bytes)?;
-    if sheet.n != moves.n {
-        return Err(41);
-    }
+    let (sheet, moves) = read_sheet_and_moves(sheet_bytes, moves_bytes)?;
     let mut table: Table = records::unpack(sheet_bytes, sheet.e as usize);
     transfer::apply(&mut table, moves_bytes, moves.e as usize)?;
     write_sheet(&table, &sheet, next).ok_or(43)
+}
+
+/// *Traffic page*: its length in bytes.
+pub fn traffic_page(sheet_bytes: &[u8], moves_bytes: &[u8], out: &mut [u8]) -> Result<u32, u32> {
+    let (sheet, moves) = read_sheet_and_moves(sheet_bytes, moves_bytes)?;
+    let mut table: Table = records::unpack(sheet_bytes, sheet.e as usize);
+    let traffic = transfer::traffic(&mut table, moves_bytes, moves.e as usize)?;
+    let n = sheet.n as usize;
+    let bytes = page::LINE * (n + 1);
+    page::put_page(out.get_mut(..bytes).ok_or(53u32)?, &traffic, n);
+    Ok(bytes as u32)
+}
+
+/// A sheet and moves of as many nodes.
+fn read_sheet_and_moves(sheet: &[u8], moves: &[u8]) -> Result<(Sheet, Moves), u32> {
+    let sheet = read_sheet(sheet)?;
+    let moves = read_moves(moves)?;
+    if sheet.n != moves.n {
+        return Err(41);
+    }
+    Ok((sheet, moves))
 }
 
 /// *Join sheets*: the length in bytes of the sheet with the sums.

@@ -1,4 +1,4 @@
-//! Moves: found, and applied.
+//! Moves: found, applied, and counted by node.
 
 use crate::deciding::Decision;
 use crate::records::{entries, Nodes, Table};
@@ -111,17 +111,48 @@ fn match_up(
 /// Applies accepted moves to a table, or refuses with 42.
 pub fn apply(table: &mut Table, moves: &[u8], e: usize) -> Result<(), u32> {
     let mut received = [0; 4096];
+    send(table, moves, e, |subdomain, _, receiver, count| {
+        received[64 * receiver + subdomain] += count;
+    })?;
+    for (count, more) in table.iter_mut().zip(&received) {
+        *count += more;
+    }
+    Ok(())
+}
+
+/// What each node sends and receives in all.
+pub struct Traffic {
+    pub sent: Nodes,
+    pub received: Nodes,
+}
+
+/// The traffic of accepted moves, or the refusal 42.
+pub fn traffic(table: &mut Table, moves: &[u8], e: usize) -> Result<Traffic, u32> {
+    let (mut sent, mut received) = ([0; 64], [0; 64]);
+    send(table, moves, e, |_, sender, receiver, count| {
+        sent[sender] += count;
+        received[receiver] += count;
+    })?;
+    Ok(Traffic { sent, received })
+}
+
+/// Takes what accepted moves send from a table, or refuses with 42. Each move is
+/// handed on: subdomain, sender, receiver and count.
+fn send(
+    table: &mut Table,
+    moves: &[u8],
+    e: usize,
+    mut hand_on: impl FnMut(usize, usize, usize, u32),
+) -> Result<(), u32> {
     for (route, count) in entries(moves, 2, e) {
+        let route = route as usize;
         let (subdomain, sender, receiver) = (route / 4096, route / 64 % 64, route % 64);
-        let left = &mut table[(64 * sender + subdomain) as usize];
+        let left = &mut table[64 * sender + subdomain];
         if *left < count {
             return Err(42);
         }
         *left -= count;
-        received[(64 * receiver + subdomain) as usize] += count;
-    }
-    for (count, more) in table.iter_mut().zip(&received) {
-        *count += more;
+        hand_on(subdomain, sender, receiver, count);
     }
     Ok(())
 }

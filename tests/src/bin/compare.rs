@@ -38,7 +38,7 @@ fn main() {
     print(&rows, &times);
     if rows.len() < chosen.len() {
         let fewer = chosen.len() - rows.len();
-        println!("{fewer} rows are left out, of an operation that not both archives have");
+        println!("{fewer} rows are left out, of operations that not both archives have");
     }
 }
 

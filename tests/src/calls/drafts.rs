@@ -121,7 +121,7 @@ impl Draft {
             31..=36 => moves::inject(beside_sheet(first, second), fault, random),
             111..=118 => plans::inject(second, fault - 100, random),
             21 | 121 => *second = plans::build(random),
-            22 | 25 | 43 | 252 => self.rooms[0] = short,
+            22 | 25 | 43 | 53 | 252 => self.rooms[0] = short,
             23 => self.rooms[1] = short,
             24 => *second = roots(second.words[0], random),
             122 => {
@@ -206,6 +206,14 @@ pub fn join_sheets(random: &mut Random) -> Draft {
         records.reverse();
     }
     Draft::new(records)
+}
+
+/// Sheet and moves: as for *carry out*, or moves that take all from a sheet.
+pub fn traffic_page(random: &mut Random) -> Draft {
+    match random.below(4) {
+        0 => Draft::new(all_sent(random)),
+        _ => carry_out(random),
+    }
 }
 
 /// Old and new plan: those of a step, or two with the same helpands, or with
@@ -327,6 +335,24 @@ fn allowed(sheet: &mut Record, random: &mut Random) -> Record {
         }
     }
     listed(n, sends)
+}
+
+/// Some moves, often of as many particles as there can be, and the sheet that
+/// has these and no others.
+fn all_sent(random: &mut Random) -> [Record; 2] {
+    let mut sends = moves::build(random);
+    let e = sends.entries() as u32;
+    let total = sheets::some_total(e, random);
+    let counts = sheets::counts(e, total, random);
+    sends.second().copy_from_slice(&counts);
+    let mut held = BTreeMap::new();
+    for (route, count) in pairs(&mut sends) {
+        let cell = sheets::cell(route / 64 % 64, route / 4096);
+        *held.entry(cell).or_insert(0) += count;
+    }
+    let (cells, counts): (Vec<u32>, Vec<u32>) = held.into_iter().unzip();
+    let t = random.between(*TOLERANCE.start(), *TOLERANCE.end());
+    [sheets::sheet(sends.words[0], t, &cells, &counts), sends]
 }
 
 /// Has some cell send one particle more than it has, to one node or to several.

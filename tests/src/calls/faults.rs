@@ -39,11 +39,22 @@ pub fn plan_step(call: &Call) -> Vec<u32> {
 /// "Refused: the sheet's; the moves'; 41, N differ; 42, some cell sends in all
 /// more than the old sheet gives it; 43, buffer too short."
 pub fn carry_out(call: &Call) -> Vec<u32> {
+    carrying_out(call, 43)
+}
+
+/// Request 2026-04: "Checks: those of *carry out* up to 42, then 53 for a buffer
+/// under 25 × (N+1) bytes."
+pub fn traffic_page(call: &Call) -> Vec<u32> {
+    carrying_out(call, 53)
+}
+
+/// Those of *carry out* with this number for a short buffer.
+fn carrying_out(call: &Call, too_short: u32) -> Vec<u32> {
     let [first, second] = &call.records;
     let rest = holding(&[
         (41, differ(call, 0)),
         (42, sends_too_much(first, second)),
-        (43, is_short(call, 0)),
+        (too_short, is_short(call, 0)),
     ]);
     [sheet(first), moves(second), rest].concat()
 }
@@ -113,6 +124,14 @@ fn sends_too_much(sheet: &[u8], moves: &[u8]) -> bool {
 pub fn joint_total(call: &Call) -> u64 {
     let [first, second] = [0, 1].map(|at| entries(&call.records[at], 3));
     first.iter().chain(&second).map(|(_, count)| count).sum()
+}
+
+/// The counts of moves in all, as far as they are there.
+pub fn all_moved(call: &Call) -> u64 {
+    entries(&call.records[1], 2)
+        .iter()
+        .map(|(_, count)| count)
+        .sum()
 }
 
 /// The length of a sheet with each cell that one of two sheets has, as far as

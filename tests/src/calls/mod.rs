@@ -1,4 +1,4 @@
-//! The eight operations, seen alike: one record or two are read, up to two
+//! The nine operations, seen alike: one record or two are read, up to two
 //! buffers are lent, and the answer is some words. Then one run serves all.
 //!
 //! | file | what it holds |
@@ -266,6 +266,34 @@ pub const JOIN_SHEETS: Operation = Operation {
     ..CARRY_OUT
 };
 
+pub const TRAFFIC_PAGE: Operation = Operation {
+    name: "traffic page",
+    checks: &[&OF_SHEET, &OF_MOVES, &[41, 42, 53]],
+    answer: |implementation, [sheet, moves], [page, _]| {
+        let answer = (implementation.traffic_page)(sheet, moves, page);
+        vec![answer.refusal, answer.bytes]
+    },
+    needed: |sheet, _| [25 * (nodes(sheet) + 1), 0],
+    faults: faults::traffic_page,
+    build: drafts::traffic_page,
+    corners: &[
+        ("N 1", |call, _| first_word(call) == 1),
+        ("4,096 cells", has_all_cells),
+        ("no moves", |call, _| call.records[1].len() == 8),
+        ("hundreds of moves", |call, _| call.records[1].len() > 2_000),
+        ("999,999,999 particles moved", |call, _| {
+            faults::all_moved(call) == 999_999_999
+        }),
+        ("1,000,000,000 by one move", |call, _| {
+            faults::all_moved(call) == 1_000_000_000 && call.records[1].len() == 16
+        }),
+        ("1,000,000,000 by hundreds", |call, _| {
+            faults::all_moved(call) == 1_000_000_000 && call.records[1].len() > 2_000
+        }),
+    ],
+    ..CARRY_OUT
+};
+
 /// It has no refusals; what leads to the empty stretch has numbers here. Those
 /// of the old plan are *read plan*'s, those of the new plan 100 more, and the
 /// rest is 121, N differ, 122, kind 1 after kind 0, 123, kind 1 with other
@@ -295,8 +323,8 @@ pub const TREE_IN_FORCE: Operation = Operation {
     ],
 };
 
-/// All eight.
-pub const OPERATIONS: [&Operation; 8] = [
+/// All nine.
+pub const OPERATIONS: [&Operation; 9] = [
     &READ_SHEET,
     &READ_PLAN,
     &READ_MOVES,
@@ -304,6 +332,7 @@ pub const OPERATIONS: [&Operation; 8] = [
     &PLAN_STEP,
     &CARRY_OUT,
     &JOIN_SHEETS,
+    &TRAFFIC_PAGE,
     &TREE_IN_FORCE,
 ];
 

@@ -80,7 +80,7 @@ fn some_cells(n: u32, random: &mut Random) -> Vec<u32> {
 }
 
 /// A total of so many counts, from the smallest to the largest.
-fn some_total(e: u32, random: &mut Random) -> u32 {
+pub fn some_total(e: u32, random: &mut Random) -> u32 {
     if e == 0 {
         return 0;
     }
@@ -110,7 +110,7 @@ pub fn recount(pair: &mut [Record; 2], joint: u32, random: &mut Random) {
 }
 
 /// Counts of at least 1, with this total.
-fn counts(e: u32, total: u32, random: &mut Random) -> Vec<u32> {
+pub fn counts(e: u32, total: u32, random: &mut Random) -> Vec<u32> {
     if e == 0 {
         return Vec::new();
     }

@@ -15,12 +15,14 @@
 //! | `keeping` | Shares in a kept tree; request 2026-03 |
 //! | `rebuilding` | Rebuilding |
 //! | `transfer` | Moves, and the sheet that follows |
-//! | `operations` | Operations on more than one record; request 2026-02 |
+//! | `page` | Request 2026-04, the lines |
+//! | `operations` | Operations on more than one record; requests 2026-02 and 2026-04 |
 
 pub mod deciding;
 pub mod keeping;
 pub mod moves;
 pub mod operations;
+mod page;
 pub mod plan;
 pub mod rebuilding;
 pub mod sheet;
@@ -31,6 +33,8 @@ pub mod weighing;
 mod words;
 
 pub use moves::read_moves;
-pub use operations::{carry_out, join_sheets, plan_step, plan_step_with, tree_in_force, weigh};
+pub use operations::{
+    carry_out, join_sheets, plan_step, plan_step_with, traffic_page, tree_in_force, weigh,
+};
 pub use plan::read_plan;
 pub use sheet::read_sheet;

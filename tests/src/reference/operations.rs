@@ -3,6 +3,9 @@
 //! and buffers are untouched. Checks run in the order written."
 
 use super::keeping::{level_filling, Fill};
+use super::moves::Moves;
+use super::page::page;
+use super::sheet::Sheet;
 use super::table::Table;
 use super::tree::old_tree;
 use super::weighing::Weighing;
@@ -106,6 +109,23 @@ pub fn carry_out(sheet: &[u8], moves: &[u8], next: &mut [u8]) -> WrittenAnswer {
 }
 
 fn try_carry_out(sheet: &[u8], moves: &[u8], next: &mut [u8]) -> Result<u32, u32> {
+    let Accepted { sheet, table, .. } = accepted(sheet, moves)?;
+    // "same t"
+    let record = table.sheet(sheet.t).bytes();
+    // "43, buffer too short"
+    written(&record, next).ok_or(43)
+}
+
+/// "a sheet and moves that *carry out* would accept, buffer aside", and the
+/// table that follows.
+struct Accepted {
+    sheet: Sheet,
+    moves: Moves,
+    table: Table,
+}
+
+/// The checks of *carry out* up to 42.
+fn accepted(sheet: &[u8], moves: &[u8]) -> Result<Accepted, u32> {
     // "the sheet's; the moves'"
     let sheet = sheet::read(sheet)?;
     let moves = moves::read(moves)?;
@@ -115,10 +135,30 @@ fn try_carry_out(sheet: &[u8], moves: &[u8], next: &mut [u8]) -> Result<u32, u32
     }
     // "42, some cell sends in all more than the old sheet gives it"
     let table = transfer::apply(&moves, &Table::of(&sheet)).ok_or(42u32)?;
-    // "same t"
-    let record = table.sheet(sheet.t).bytes();
-    // "43, buffer too short"
-    written(&record, next).ok_or(43)
+    Ok(Accepted {
+        sheet,
+        moves,
+        table,
+    })
+}
+
+/// *Traffic page*, request 2026-04: "From a sheet and moves that *carry out*
+/// would accept, buffer aside, write N lines of 25 bytes". It gives the length in
+/// bytes, as *carry out* does.
+pub fn traffic_page(sheet: &[u8], moves: &[u8], out: &mut [u8]) -> WrittenAnswer {
+    try_traffic_page(sheet, moves, out).map_or_else(Answer::refused, answers::written)
+}
+
+fn try_traffic_page(sheet: &[u8], moves: &[u8], out: &mut [u8]) -> Result<u32, u32> {
+    // "those of *carry out* up to 42"
+    let Accepted { sheet, moves, .. } = accepted(sheet, moves)?;
+    // "then 53 for a buffer under 25 × (N+1) bytes"
+    if out.len() < 25 * (sheet.n as usize + 1) {
+        return Err(53);
+    }
+    let page = page(&moves);
+    store(&page, out);
+    Ok(page.len() as u32)
 }
 
 /// *Join sheets*, request 2026-02: "two accepted sheets in, one out, every cell

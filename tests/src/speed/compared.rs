@@ -26,6 +26,7 @@ pub const EARLIER: Implementation = Implementation {
     plan_step: loaded::plan_step::<0>,
     carry_out: loaded::carry_out::<0>,
     join_sheets: loaded::join_sheets::<0>,
+    traffic_page: loaded::traffic_page::<0>,
     ..REFERENCE
 };
 
@@ -36,16 +37,21 @@ pub const LATER: Implementation = Implementation {
     plan_step: loaded::plan_step::<1>,
     carry_out: loaded::carry_out::<1>,
     join_sheets: loaded::join_sheets::<1>,
+    traffic_page: loaded::traffic_page::<1>,
     ..REFERENCE
 };
 
 /// The rows of operations that both archives have. Before request 2026-02 there
-/// was no *join sheets*.
+/// was no *join sheets*, and before 2026-04 no *traffic page*.
 pub fn in_both(archives: [&Path; 2], rows: &[Row]) -> Result<Vec<Row>, String> {
     let folder = Folder::new();
     load(archives, 0, &folder.0)?;
-    let both_join = [0, 1].into_iter().all(loaded::has_join_sheets);
-    let there = |row: &&Row| both_join || row.measured != Measured::JoinSheets;
+    let both = |has: fn(usize) -> bool| has(0) && has(1);
+    let there = |row: &&Row| match row.measured {
+        Measured::JoinSheets => both(loaded::has_join_sheets),
+        Measured::TrafficPage => both(loaded::has_traffic_page),
+        _ => true,
+    };
     Ok(rows.iter().filter(there).copied().collect())
 }
 

@@ -6,6 +6,7 @@ use super::kept::Rest;
 use crate::answers::WrittenAnswer;
 use crate::implementations::{Implementation, MOVES_BYTES, PLAN_BYTES, REFERENCE, SHEET_BYTES};
 use crate::random::Random;
+use crate::records::plans::Form;
 use crate::records::{to_bytes, to_words};
 use std::ops::Range;
 use std::sync::atomic::{compiler_fence, Ordering};
@@ -17,13 +18,15 @@ pub enum Measured {
     CarryOut,
     Weigh,
     JoinSheets,
+    TrafficPage,
 }
 
-pub const MEASURED: [Measured; 4] = [
+pub const MEASURED: [Measured; 5] = [
     Measured::PlanStep,
     Measured::CarryOut,
     Measured::Weigh,
     Measured::JoinSheets,
+    Measured::TrafficPage,
 ];
 
 impl Measured {
@@ -33,11 +36,12 @@ impl Measured {
             Measured::CarryOut => "carry out",
             Measured::Weigh => "weigh",
             Measured::JoinSheets => "join sheets",
+            Measured::TrafficPage => "traffic page",
         }
     }
 
     /// *Weigh* takes a tree, whoever holds the particles, and *join sheets* a
-    /// second sheet.
+    /// second sheet. To *traffic page* all moves are alike: one outcome of each kind.
     pub fn takes(self, outcome: Outcome) -> bool {
         let joined = matches!(outcome, Outcome::Joined(_));
         let again = matches!(outcome, Outcome::Kept(_, Rest::Large));
@@ -45,6 +49,12 @@ impl Measured {
             Measured::PlanStep | Measured::CarryOut => !joined,
             Measured::Weigh => outcome.form().is_some() && !again,
             Measured::JoinSheets => joined,
+            Measured::TrafficPage => matches!(
+                outcome,
+                Outcome::Primary
+                    | Outcome::Kept(Form::Random, Rest::Small)
+                    | Outcome::Rebuilt(None)
+            ),
         }
     }
 }
@@ -83,7 +93,7 @@ impl Job {
             let mut random = Random::at(n as u64, index as u64);
             let step = inputs::step(n, filling, outcome, &mut random);
             let second = match (measured, outcome) {
-                (Measured::CarryOut, _) => REFERENCE.plan(&step).moves,
+                (Measured::CarryOut | Measured::TrafficPage, _) => REFERENCE.plan(&step).moves,
                 (_, Outcome::Joined(other)) => inputs::step(n, other, outcome, &mut random).sheet,
                 _ => step.old,
             };
@@ -184,6 +194,7 @@ fn one(measured: Measured, by: &Implementation, call: &Call, [a, b]: &mut Buffer
         }
         Measured::CarryOut => written((by.carry_out)(sheet, second, a)),
         Measured::JoinSheets => written((by.join_sheets)(sheet, second, a)),
+        Measured::TrafficPage => written((by.traffic_page)(sheet, second, a)),
         Measured::Weigh => {
             let answer = (by.weigh)(sheet, second, a);
             assert_eq!(answer.refusal, 0);

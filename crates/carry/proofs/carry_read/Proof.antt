@@ -15,8 +15,10 @@ use Rattle.sheet.specs.Write.{sheetBytes}
 use Rattle.sheet.proofs.Accepted.{Accepted, sheet-unpackable}
 use Rattle.sheet.proofs.Filled.{length-most}
 use Rattle.moves.specs.declared.Moves.{Moves}
-use Rattle.carry.specs.Carry.{withinIn, nextTable}
-use Rattle.carry.proofs.Carried.{sheet-facts, ready, within-is, carried-is, ends-differ, ends-sends, ends-carried, ends-unwritten}
+use Rattle.carry.specs.Checks.{withinIn}
+use Rattle.carry.specs.Carry.{nextTable}
+use Rattle.carry.proofs.Checks.{sheet-facts, within-is}
+use Rattle.carry.proofs.Carried.{appliable, carried-is, ends-differ, ends-sends, ends-carried, ends-unwritten}
 use Rattle.carry.proofs.carry_read.Statement.{statement}
 use Rattle.carry.proofs.carry_read.Tie as tie
 
@@ -115,7 +117,7 @@ returns-4 c =
     (x .0, w .write-sheet .ensures .1 ∙ x .1)
 
 -- the length that the writer gives fits
-cast : tie.Need-cast-t20
+cast : tie.Need-cast-t22
 cast c =
     let size = c .before .size .given in
     let w = answered (c .before .before .before) in
@@ -127,7 +129,7 @@ cast c =
 apply-moves-requires : tie.Need-apply-moves-requires
 apply-moves-requires c κs =
     let u = c .before .before in
-    ready (start (u .before .before .before) .pre) (u .unpack .ensures)
+    appliable (start (u .before .before .before) .pre) (u .unpack .ensures)
 
 pub carry-read-spec : {M : Type 1} → statement M
 carry-read-spec =

@@ -36,11 +36,11 @@ module _ (table moves : List ℕ) (e : ℕ) (ready : Ready table moves e) where
   below : (i : ℕ) → i < length routes → getD routes i 0 < 64 * tableSize
   below i l =
       let h : i < e = omega (arith, length-take e (drop 2 (words moves))) in
-      rw (part-at (words moves) 2 e i h) (ready .below i h)
+      rw (part-at (words moves) 2 e i h) (ready .entries .below i h)
 
   left-fits : sum tableSize (at table) ≤ maxTotal → sendsWithin table routes counts ≡ true → Ready left moves e × Room left moves e
   left-fits small within = (
-    record { size = length-less routes counts table ∙ ready .size; long = ready .long; below = ready .below },
+    record { size = length-less routes counts table ∙ ready .size; entries = ready .entries },
     λ c h. omega (
       arith,
       sum-term tableSize (at (carried table routes counts)) c h,

@@ -1,0 +1,7 @@
+pub mod Lines
+pub mod Answers
+pub mod Sums
+pub mod Printed
+pub mod ReadBack
+pub mod Sizes
+pub mod Vectors
