@@ -1,6 +1,6 @@
 -- The checks up to 42: one law for each way out, what they say together, and what is known of a sheet and moves that were read.
 -- Assumes nothing.
-use mathlib.Core.Path.{_≡_, refl, sym, ap}
+use mathlib.Core.Path.{_≡_, refl, sym, ap, _∙_}
 use mathlib.Core.Logic.{_≢_}
 use mathlib.Core.Bool.{true, false, not}
 use mathlib.Core.List.{List}
@@ -9,6 +9,10 @@ use native.Mathlib.Omega.{arith}
 use borrow.Author.Tests.{eqb-true, eq-eqb, ne-eqb, not-false}
 use lib.Dec.{eqb}
 use Rattle.fold.proofs.Tests.{passed, handed, most}
+use Rattle.words.specs.Checks.{refuseAs}
+use Rattle.words.specs.Answer.{refused}
+use Rattle.words.specs.declared.WrittenAnswer.{WrittenAnswer}
+use Rattle.words.proofs.Writing.{Ends, ends-refused}
 use Rattle.sheet.specs.declared.Sheet.{Sheet}
 use Rattle.sheet.specs.declared.SheetAnswer.{SheetAnswer}
 use Rattle.sheet.specs.Sheet.{readSheet, accepted as sheetAccepted}
@@ -23,8 +27,12 @@ use Rattle.moves.proofs.Accepted.{Accepted as AcceptedMoves, reading-accepted a
 use Rattle.moves.proofs.Refusals.{moves-most}
 use Rattle.transfer.specs.Apply.{sendsWithin}
 use Rattle.transfer.specs.Inner.{Readable, Ready}
-use Rattle.carry.specs.Checks.{withinIn, checked}
-use Rattle.carry.specs.Inner.{CarryRead}
+use Rattle.carry.specs.declared.check.CheckRefusal.{CheckRefusal}
+use Rattle.carry.specs.Checks.{checkNumber, withinIn, checked}
+use Rattle.carry.specs.Inner.{PairAccepted, PairRead}
+use Rattle.carry.specs.declared.check.PairReading.{PairReading}
+use Rattle.carry.specs.declared.check.PairReading.the-variants.{Accepted, Refused}
+use Rattle.carry.proofs.Answers.{numbered}
 
 -- every check passes
 pub record Carriable (s m : List ℕ) : Type 0 where
@@ -44,25 +52,42 @@ module _ (s m : List ℕ) where
   unfolding checked
   stops-moves z k e d = rw (← z, ← e, ne-eqb k 0 d)
 
--- the sheet and the moves were read
-module _ {s m : List ℕ} {h : Sheet} {q : Moves} (r : CarryRead s m h q) where
-  pub stops-differ : h .n ≢ q .n → 41 ≡ checked s m
+  -- both were read
+  pub stops-differ : {h : Sheet} {q : Moves} → sheetAccepted (h .n) (h .t) (h .e) (h .p) (h .limit) ≡ readSheet s
+      → movesAccepted (q .n) (q .e) ≡ readMoves m → h .n ≢ q .n → 41 ≡ checked s m
   unfolding checked
-  stops-differ d = rw (← r .sheet, ← r .moves, ne-eqb (h .n) (q .n) d)
+  stops-differ {h} {q} a b d = rw (← a, ← b, ne-eqb (h .n) (q .n) d)
 
-  module _ (same : h .n ≡ q .n) where
-    pub stops-sends : withinIn s m ≡ false → 42 ≡ checked s m
-    unfolding checked
-    stops-sends f = rw f (rw (← r .sheet, ← r .moves, eq-eqb (h .n) (q .n) same))
+-- what reading both gave
+module _ (s m : List ℕ) {p : PairReading} (gave : PairRead s m p) where
+  pub pair-refused : {r : CheckRefusal} → p ≡ Refused r → checkNumber r ≡ checked s m
+  pair-refused e = (rw e at gave) .0
 
-    pub stops-nowhere : withinIn s m ≡ true → Carriable s m
-    stops-nowhere w =
-        record {
-          sheet = sym (ap (λ (a : SheetAnswer). a .refusal) (r .sheet));
-          moves = sym (ap (λ (a : MovesAnswer). a .refusal) (r .moves));
-          nodes = rw (← r .sheet, ← r .moves) same;
-          within = w;
-        }
+  pub pair-accepted : {h : Sheet} {q : Moves} → p ≡ Accepted h q → PairAccepted s m h q
+  pair-accepted e = rw e at gave
+
+-- past 41
+module _ {s m : List ℕ} {h : Sheet} {q : Moves} (r : PairAccepted s m h q) where
+  pub stops-sends : withinIn s m ≡ false → 42 ≡ checked s m
+  unfolding checked
+  stops-sends f = rw f (rw (← r .sheet, ← r .moves, eq-eqb (h .n) (q .n) (r .nodes)))
+
+  pub stops-nowhere : withinIn s m ≡ true → Carriable s m
+  stops-nowhere w =
+      record {
+        sheet = sym (ap (λ (a : SheetAnswer). a .refusal) (r .sheet));
+        moves = sym (ap (λ (a : MovesAnswer). a .refusal) (r .moves));
+        nodes = rw (← r .sheet, ← r .moves) (r .nodes);
+        within = w;
+      }
+
+-- an operation that begins with the checks: where one refuses, it answers with its number and leaves the buffer
+pub ends-checked : (s m : List ℕ) (answer rest : WrittenAnswer) → answer ≡ refuseAs refused (checked s m) rest → (rec out : List ℕ)
+    → (r : CheckRefusal) → checkNumber r ≡ checked s m → Ends answer rec out (refused (checkNumber r)) out
+ends-checked s m answer rest begins rec out r e =
+    let k = checkNumber r in
+    let d : k ≢ 0 = λ z. omega (arith, numbered r .0) in
+    ends-refused answer rec out k d (sym (begins ∙ rw (← e, ne-eqb k 0 d)))
 
 -- ---- what they say together
 
@@ -101,7 +126,7 @@ module _ (s m : List ℕ) where
 
 -- ---- what is known of a sheet and moves that were read
 
-module _ {s m : List ℕ} {h : Sheet} {q : Moves} (r : CarryRead s m h q) where
+module _ {s m : List ℕ} {h : Sheet} {q : Moves} (r : PairAccepted s m h q) where
   pub sheet-facts : AcceptedSheet s (sheetAccepted (h .n) (h .t) (h .e) (h .p) (h .limit))
   sheet-facts = reading-accepted s h (r .sheet)
 

@@ -1,16 +1,15 @@
 // *Carry out*: the sheet that follows a sheet and moves, written to a lent buffer. Any accepted moves will do, not only ours.
-// The refusals up to 42 stand in `check`.
+// The checks up to 42 stand in `check`.
 use check::CheckRefusal;
+use check::PairReading;
 use moves::Moves;
-use moves::MovesReading;
 use sheet::Sheet;
-use sheet::SheetReading;
 use words::Written;
 use words::WrittenAnswer;
 ghost use mathlib.Core.Path.{_≡_};
 ghost use lib.ListN.{length};
 ghost use Rattle.carry.specs.Carry.{carryAnswer, nextAfter, numberOf, answerOf};
-ghost use Rattle.carry.specs.Inner.{CarryRead};
+ghost use Rattle.carry.specs.Inner.{PairAccepted};
 
 pub mod check;
 
@@ -28,13 +27,10 @@ pub enum Carrying {
 
 // Carries out moves on a sheet, both read.
 fn carry_read(sheet: &[u8], moves: &[u8], s: Sheet, m: Moves, next: &mut [u8]) -> Carrying
-    requires { ⌜ CarryRead (now sheet) (now moves) s m ⌝ }
+    requires { ⌜ PairAccepted (now sheet) (now moves) s m ⌝ }
     ensures answer { λ r. ⌜ answerOf r ≡ carryAnswer (now (sheet .entry)) (now (moves .entry)) (length (now (next .entry))) ⌝ }
     ensures bytes { λ _. ⌜ now (next .exit) ≡ nextAfter (now (sheet .entry)) (now (moves .entry)) (now (next .entry)) ⌝ }
 {
-    if s.n != m.n {
-        return Carrying::Refused(CarryRefusal::Check(CheckRefusal::NodesDiffer));
-    }
     let mut table = sheet::table::unpack(sheet, s.e as usize);
     if !transfer::apply::apply_moves(&mut table, moves, m.e as usize) {
         return Carrying::Refused(CarryRefusal::Check(CheckRefusal::Sends));
@@ -50,14 +46,9 @@ pub fn carry_out(sheet: &[u8], moves: &[u8], next: &mut [u8]) -> Carrying
     ensures answer { λ r. ⌜ answerOf r ≡ carryAnswer (now (sheet .entry)) (now (moves .entry)) (length (now (next .entry))) ⌝ }
     ensures bytes { λ _. ⌜ now (next .exit) ≡ nextAfter (now (sheet .entry)) (now (moves .entry)) (now (next .entry)) ⌝ }
 {
-    match sheet::read_sheet(sheet) {
-        SheetReading::Refused(r) => Carrying::Refused(CarryRefusal::Check(CheckRefusal::Sheet(r))),
-        SheetReading::Accepted(s) => match moves::read_moves(moves) {
-            MovesReading::Refused(r) => Carrying::Refused(CarryRefusal::Check(CheckRefusal::Moves(
-                r,
-            ))),
-            MovesReading::Accepted(m) => carry_read(sheet, moves, s, m, next),
-        },
+    match check::read_pair(sheet, moves) {
+        PairReading::Refused(r) => Carrying::Refused(CarryRefusal::Check(r)),
+        PairReading::Accepted(s, m) => carry_read(sheet, moves, s, m, next),
     }
 }
 

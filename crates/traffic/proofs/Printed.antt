@@ -1,11 +1,10 @@
 -- The ways out of a traffic page: the answer, and the buffer as it is then. Assumes nothing.
 use mathlib.Core.Path.{_≡_, refl, ap, _∙_}
-use mathlib.Core.Logic.{_≢_}
 use mathlib.Core.Bool.{true, false}
 use mathlib.Core.List.{List}
 use Prim.Native.Nat.{ℕ, _≤_, _<_}
 use native.Mathlib.Omega.{arith}
-use borrow.Author.Tests.{ne-eqb, lt-ltb, le-ltb}
+use borrow.Author.Tests.{lt-ltb, le-ltb}
 use lib.ListN.{length}
 use Rattle.fold.specs.Sum.{sum}
 use Rattle.fold.proofs.Sums.{sum-eq}
@@ -14,16 +13,18 @@ use Rattle.arrays.specs.Arrays.{at}
 use Rattle.words.specs.Buffer.{placed}
 use Rattle.words.specs.Answer.{refused, accepted}
 use Rattle.words.specs.declared.WrittenAnswer.{WrittenAnswer}
-use Rattle.words.proofs.Writing.{Ends, ends-refused}
+use Rattle.words.proofs.Writing.{Ends, ends-refused as leaves}
 use Rattle.sheet.specs.declared.Sheet.{Sheet}
 use Rattle.sheet.specs.declared.SheetAnswer.{SheetAnswer}
 use Rattle.sheet.specs.Sheet.{readSheet}
 use Rattle.moves.specs.declared.Moves.{Moves}
 use Rattle.moves.specs.declared.MovesAnswer.{MovesAnswer}
 use Rattle.moves.specs.Moves.{readMoves}
-use Rattle.carry.specs.Checks.{withinIn, checked}
-use Rattle.carry.specs.Inner.{CarryRead}
-use Rattle.carry.proofs.Checks.{Carriable, carriable-checked, stops-sheet, stops-moves, stops-differ, stops-sends, stops-nowhere, sheet-facts, readable}
+use Rattle.carry.specs.declared.check.CheckRefusal.{CheckRefusal}
+use Rattle.carry.specs.declared.check.CheckRefusal.the-variants.{Sends}
+use Rattle.carry.specs.Checks.{checkNumber, withinIn, checked}
+use Rattle.carry.specs.Inner.{PairAccepted}
+use Rattle.carry.proofs.Checks.{Carriable, carriable-checked, stops-sends, stops-nowhere, ends-checked, sheet-facts, readable}
 use Rattle.traffic.specs.declared.Traffic.{Traffic}
 use Rattle.traffic.specs.Page.{sentBy, receivedBy, pageOf, pageIn, pageSize, pageAnswer}
 use Rattle.traffic.specs.Inner.{Countable, TrafficOf}
@@ -35,21 +36,12 @@ module _ (s m out : List ℕ) where
   abbrev pub PageEnds : WrittenAnswer → List ℕ → Type 0
   PageEnds a out₁ = Ends (pageAnswer s m (length out)) (pageIn s m) out a out₁
 
-  refuses : (k : ℕ) → k ≢ 0 → k ≡ checked s m → PageEnds (refused k) out
+  pub ends-refused : (r : CheckRefusal) → checkNumber r ≡ checked s m → PageEnds (refused (checkNumber r)) out
   unfolding pageAnswer
-  refuses k d e = ends-refused (pageAnswer s m (length out)) (pageIn s m) out k d (rw (← e, ne-eqb k 0 d))
-
-  pub ends-sheet : (k : ℕ) → k ≡ readSheet s .refusal → k ≢ 0 → PageEnds (refused k) out
-  ends-sheet k e d = refuses k d (stops-sheet s m k e d)
-
-  pub ends-moves : 0 ≡ readSheet s .refusal → (k : ℕ) → k ≡ readMoves m .refusal → k ≢ 0 → PageEnds (refused k) out
-  ends-moves z k e d = refuses k d (stops-moves s m z k e d)
+  ends-refused = ends-checked s m (pageAnswer s m (length out)) _ refl (pageIn s m) out
 
 -- the sheet and the moves were read
-module _ {s m : List ℕ} {h : Sheet} {q : Moves} (r : CarryRead s m h q) (out : List ℕ) where
-  pub ends-differ : h .n ≢ q .n → PageEnds s m out (refused 41) out
-  ends-differ d = refuses s m out 41 (λ z. omega arith) (stops-differ r d)
-
+module _ {s m : List ℕ} {h : Sheet} {q : Moves} (r : PairAccepted s m h q) (out : List ℕ) where
   n-is : h .n ≡ readSheet s .n
   n-is = ap (λ (a : SheetAnswer). a .n) (r .sheet)
 
@@ -59,52 +51,51 @@ module _ {s m : List ℕ} {h : Sheet} {q : Moves} (r : CarryRead s m h q) (out :
   n-high : h .n ≤ maxNodes
   n-high = sheet-facts r .n-high
 
-  module _ (same : h .n ≡ q .n) where
-    pub ends-sends : withinIn s m ≡ false → PageEnds s m out (refused 42) out
-    ends-sends f = refuses s m out 42 (λ z. omega arith) (stops-sends r same f)
+  pub ends-sends : withinIn s m ≡ false → PageEnds s m out (refused 42) out
+  ends-sends f = ends-refused s m out Sends (stops-sends r f)
 
-    -- past 42
-    module _ (w : withinIn s m ≡ true) where
-      fine : Carriable s m
-      fine = stops-nowhere r same w
+  -- past 42
+  module _ (w : withinIn s m ≡ true) where
+    fine : Carriable s m
+    fine = stops-nowhere r w
 
-      pub countable : Countable m (q .e)
-      countable = record { entries = readable r; small = rw e-is (total-small fine) }
+    pub countable : Countable m (q .e)
+    countable = record { entries = readable r; small = rw e-is (total-small fine) }
 
-      -- "53 for a buffer under 25 × (N+1) bytes"
-      pub ends-short : length out < pageSize (h .n) → PageEnds s m out (refused 53) out
+    -- "53 for a buffer under 25 × (N+1) bytes"
+    pub ends-short : length out < pageSize (h .n) → PageEnds s m out (refused 53) out
+    unfolding pageAnswer
+    ends-short l =
+        let short : length out < pageSize (readSheet s .n) = rw n-is at l in
+        leaves (pageAnswer s m (length out)) (pageIn s m) out 53 (λ z. omega arith)
+        (rw (carriable-checked s m fine, lt-ltb (length out) (pageSize (readSheet s .n)) short))
+
+    -- the traffic was added up
+    module _ {t : Traffic} (is : TrafficOf m (q .e) t) where
+      traffic-is : TrafficOf m (readMoves m .e) t
+      traffic-is = rw e-is at is
+
+      sent-at : (k : ℕ) → k < h .n → at (t .sent) k ≡ sentBy m k
+      sent-at k l = traffic-is .sent k (omega (arith, n-high))
+
+      received-at : (k : ℕ) → k < h .n → at (t .received) k ≡ receivedBy m k
+      received-at k l = traffic-is .received k (omega (arith, n-high))
+
+      pub sums-fit : (sum (h .n) (at (t .sent)) ≤ maxTotal) × (sum (h .n) (at (t .received)) ≤ maxTotal)
+      sums-fit =
+          let small = total-small fine in (
+            rw (sum-eq (h .n) (at (t .sent)) (sentBy m) sent-at, n-is, sent-sum fine) small,
+            rw (sum-eq (h .n) (at (t .received)) (receivedBy m) received-at, n-is, received-sum fine) small,
+          )
+
+      page-is : pageOf (h .n) (at (t .sent)) (at (t .received)) ≡ pageIn s m
+      page-is =
+          page-eq (h .n) (at (t .sent)) (sentBy m) (at (t .received)) (receivedBy m) sent-at received-at
+          ∙ ap (λ (n : ℕ). pageOf n (sentBy m) (receivedBy m)) n-is
+
+      pub ends-printed : pageSize (h .n) ≤ length out
+          → PageEnds s m out (accepted (pageSize (h .n))) (placed (pageOf (h .n) (at (t .sent)) (at (t .received))) out)
       unfolding pageAnswer
-      ends-short l =
-          let short : length out < pageSize (readSheet s .n) = rw n-is at l in
-          ends-refused (pageAnswer s m (length out)) (pageIn s m) out 53 (λ z. omega arith)
-          (rw (carriable-checked s m fine, lt-ltb (length out) (pageSize (readSheet s .n)) short))
-
-      -- the traffic was added up
-      module _ {t : Traffic} (is : TrafficOf m (q .e) t) where
-        traffic-is : TrafficOf m (readMoves m .e) t
-        traffic-is = rw e-is at is
-
-        sent-at : (k : ℕ) → k < h .n → at (t .sent) k ≡ sentBy m k
-        sent-at k l = traffic-is .sent k (omega (arith, n-high))
-
-        received-at : (k : ℕ) → k < h .n → at (t .received) k ≡ receivedBy m k
-        received-at k l = traffic-is .received k (omega (arith, n-high))
-
-        pub sums-fit : (sum (h .n) (at (t .sent)) ≤ maxTotal) × (sum (h .n) (at (t .received)) ≤ maxTotal)
-        sums-fit =
-            let small = total-small fine in (
-              rw (sum-eq (h .n) (at (t .sent)) (sentBy m) sent-at, n-is, sent-sum fine) small,
-              rw (sum-eq (h .n) (at (t .received)) (receivedBy m) received-at, n-is, received-sum fine) small,
-            )
-
-        page-is : pageOf (h .n) (at (t .sent)) (at (t .received)) ≡ pageIn s m
-        page-is =
-            page-eq (h .n) (at (t .sent)) (sentBy m) (at (t .received)) (receivedBy m) sent-at received-at
-            ∙ ap (λ (n : ℕ). pageOf n (sentBy m) (receivedBy m)) n-is
-
-        pub ends-printed : pageSize (h .n) ≤ length out
-            → PageEnds s m out (accepted (pageSize (h .n))) (placed (pageOf (h .n) (at (t .sent)) (at (t .received))) out)
-        unfolding pageAnswer
-        ends-printed l =
-            let fits : pageSize (readSheet s .n) ≤ length out = rw n-is at l in
-            rw (page-is, n-is, carriable-checked s m fine, le-ltb (length out) (pageSize (readSheet s .n)) fits) (refl, refl)
+      ends-printed l =
+          let fits : pageSize (readSheet s .n) ≤ length out = rw n-is at l in
+          rw (page-is, n-is, carriable-checked s m fine, le-ltb (length out) (pageSize (readSheet s .n)) fits) (refl, refl)

@@ -2,7 +2,7 @@
 -- columns comes to just that. Assumes nothing.
 use mathlib.Core.Path.{_≡_}
 use mathlib.Core.List.{List}
-use Prim.Native.Nat.{ℕ, _≤_, _<_}
+use Prim.Native.Nat.{ℕ, _^_, _≤_, _<_}
 use native.Mathlib.Omega.{arith}
 use lib.ListN.{length, getD}
 use Rattle.fold.specs.Sum.{sum, total}
@@ -56,9 +56,19 @@ module _ {s m : List ℕ} (d : Carriable s m) where
   pub received-sum : sum n (receivedBy m) ≡ total (countsIn m)
   received-sum = sum-moved receiver n (routesIn m) (countsIn m) (moves-fine .same) (λ i l. route-fine i l .receiver-below)
 
-  -- THEOREM. So no number on the page is above P, nor has it more than ten digits.
+  -- THEOREM. So no number on the page is above P.
   pub sent-most : (k : ℕ) → sentBy m k ≤ readSheet s .p
   sent-most k = omega (arith, moved-most sender (routesIn m) (countsIn m) k, total-most)
 
   pub received-most : (k : ℕ) → receivedBy m k ≤ readSheet s .p
   received-most k = omega (arith, moved-most receiver (routesIn m) (countsIn m) k, total-most)
+
+  -- THEOREM. And none needs more than ten columns, for P is at most 1,000,000,000: neither a total nor a node's number.
+  pub ten-columns : (total (countsIn m) < 10 ^ 10) × ((k : ℕ) → (sentBy m k < 10 ^ 10) × (receivedBy m k < 10 ^ 10))
+  ten-columns = (
+    omega (arith, total-small),
+    λ k. (
+      omega (arith, moved-most sender (routesIn m) (countsIn m) k, total-small),
+      omega (arith, moved-most receiver (routesIn m) (countsIn m) k, total-small),
+    ),
+  )

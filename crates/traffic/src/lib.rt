@@ -1,16 +1,15 @@
 // *Traffic page*, request 2026-04: what each node sends and receives in a step, as lines of text in a lent buffer. The page stands in
-// `page`; the refusals up to 42 are those of *carry out*.
+// `page`; the checks up to 42 are those of *carry out*.
 use carry::check;
 use carry::check::CheckRefusal;
+use carry::check::PairReading;
 use moves::Moves;
-use moves::MovesReading;
 use moves::route;
 use sheet::Sheet;
-use sheet::SheetReading;
 use words::WrittenAnswer;
 ghost use mathlib.Core.Path.{_≡_};
 ghost use lib.ListN.{length};
-ghost use Rattle.carry.specs.Inner.{CarryRead};
+ghost use Rattle.carry.specs.Inner.{PairAccepted};
 ghost use Rattle.traffic.specs.Page.{pageAnswer, pageAfter, numberOf, answerOf};
 ghost use Rattle.traffic.specs.Inner.{Countable, TrafficOf};
 
@@ -57,13 +56,10 @@ fn count_traffic(moves: &[u8], e: usize) -> Traffic
 
 // The page of a sheet and moves, both read.
 fn page_read(sheet: &[u8], moves: &[u8], s: Sheet, m: Moves, page: &mut [u8]) -> Printing
-    requires { ⌜ CarryRead (now sheet) (now moves) s m ⌝ }
+    requires { ⌜ PairAccepted (now sheet) (now moves) s m ⌝ }
     ensures answer { λ r. ⌜ answerOf r ≡ pageAnswer (now (sheet .entry)) (now (moves .entry)) (length (now (page .entry))) ⌝ }
     ensures bytes { λ _. ⌜ now (page .exit) ≡ pageAfter (now (sheet .entry)) (now (moves .entry)) (now (page .entry)) ⌝ }
 {
-    if s.n != m.n {
-        return Printing::Refused(PageRefusal::Check(CheckRefusal::NodesDiffer));
-    }
     let mut table = sheet::table::unpack(sheet, s.e as usize);
     if !transfer::apply::subtract_sends(&mut table, moves, m.e as usize) {
         return Printing::Refused(PageRefusal::Check(CheckRefusal::Sends));
@@ -84,14 +80,9 @@ pub fn traffic_page(sheet: &[u8], moves: &[u8], page: &mut [u8]) -> Printing
     ensures answer { λ r. ⌜ answerOf r ≡ pageAnswer (now (sheet .entry)) (now (moves .entry)) (length (now (page .entry))) ⌝ }
     ensures bytes { λ _. ⌜ now (page .exit) ≡ pageAfter (now (sheet .entry)) (now (moves .entry)) (now (page .entry)) ⌝ }
 {
-    match sheet::read_sheet(sheet) {
-        SheetReading::Refused(r) => Printing::Refused(PageRefusal::Check(CheckRefusal::Sheet(r))),
-        SheetReading::Accepted(s) => match moves::read_moves(moves) {
-            MovesReading::Refused(r) => Printing::Refused(PageRefusal::Check(CheckRefusal::Moves(
-                r,
-            ))),
-            MovesReading::Accepted(m) => page_read(sheet, moves, s, m, page),
-        },
+    match check::read_pair(sheet, moves) {
+        PairReading::Refused(r) => Printing::Refused(PageRefusal::Check(r)),
+        PairReading::Accepted(s, m) => page_read(sheet, moves, s, m, page),
     }
 }
 
