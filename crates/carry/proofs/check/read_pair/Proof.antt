@@ -70,12 +70,12 @@ module _ (c : tie.After-m) where
 returns-3 : tie.Need-returns-3
 returns-3 c =
     let b = c .before .before .before .before in
-    (stops-differ _ _ (sheet-read (second b)) (moves-read b) (c .if1 .taken), omega arith)
+    (stops-differ _ _ (sheet-read (second b)) (moves-read b) (λ same. omega (arith, c .if1 .taken, same)), omega arith)
 
 returns-4 : tie.Need-returns-4
 returns-4 c =
     let b = c .before .before .before .before in
-    record { sheet = sheet-read (second b); moves = moves-read b; nodes = c .if1 .left }
+    record { sheet = sheet-read (second b); moves = moves-read b; nodes = omega (arith, c .if1 .left) }
 
 pub read-pair-spec : {M : Type 1} → statement M
 read-pair-spec =
