@@ -3,5 +3,6 @@ pub mod Answers
 pub mod Sums
 pub mod Printed
 pub mod ReadBack
+pub mod Holdings
 pub mod Sizes
 pub mod Vectors

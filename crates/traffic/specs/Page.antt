@@ -13,6 +13,7 @@ use Rattle.words.specs.Buffer.{afterCall}
 use Rattle.words.specs.declared.WrittenAnswer.{WrittenAnswer}
 use Rattle.words.specs.Answer.{refused, accepted}
 use Rattle.sheet.specs.Sheet.{readSheet}
+use Rattle.sheet.specs.Table.{tableIn, held}
 use Rattle.moves.specs.Moves.{sender, receiver}
 use Rattle.transfer.specs.Apply.{moved}
 use Rattle.carry.specs.Checks.{checkNumber, routesIn, countsIn, checked}
@@ -111,3 +112,15 @@ pub record PageReadBack (s m page : List ℕ) : Type 0 where
   -- "Both printed totals must equal the sum of the counts in the moves record."
   pub total-sent : readColumn (sentColumn (lineAt page (readSheet s .n))) ≡ total (countsIn m)
   pub total-received : readColumn (receivedColumn (lineAt page (readSheet s .n))) ≡ total (countsIn m)
+
+-- ---- what the page says of the sheet that follows
+
+-- what node k holds of all subdomains on an accepted sheet
+abbrev pub holding : List ℕ → ℕ → ℕ
+holding s k = sum (readSheet s .n) (λ n. held (tableIn s) k n)
+
+-- *Carry out*: "each cell less what it sends, plus what it receives". So on the sheet `next` that follows each node holds what it held on
+-- s, less the number in its column of sent, plus that in its column of received.
+pub record PageCarried (s page next : List ℕ) : Type 0 where
+  pub holds : (k : ℕ) → k < readSheet s .n
+      → holding next k + readColumn (sentColumn (lineAt page k)) ≡ holding s k + readColumn (receivedColumn (lineAt page k))

@@ -75,26 +75,29 @@ module _ (m : ℕ) (cells : ℕ → ℕ) where
         even-sums rs counts (λ i l. even (suc i) (omega arith)),
       )
 
+  -- what they hold after the moves and what they send is what they held and what they receive
+  pub cells-after : (table routes counts : List ℕ) → ((k : ℕ) → k < m → cells k < length table) → sendsWithin table routes counts ≡ true
+      → sum m (λ k. at (carried table routes counts) (cells k)) + sum m (λ k. sends routes counts (cells k))
+      ≡ sum m (λ k. at table (cells k)) + sum m (λ k. receives routes counts (cells k))
+  cells-after table routes counts inside within =
+      let next : ℕ → ℕ = λ k. at (carried table routes counts) (cells k) in
+      let old : ℕ → ℕ = λ k. at table (cells k) in
+      let out : ℕ → ℕ = λ k. sends routes counts (cells k) in
+      let into : ℕ → ℕ = λ k. receives routes counts (cells k) in
+      sym (sum-add m next out)
+      ∙ sum-eq m (λ k. next k + out k) (λ k. old k + into k) (λ k l. omega (
+        arith,
+        carried-at routes counts table (cells k) (inside k l),
+        within-at table routes counts within (cells k) (inside k l),
+      ))
+      ∙ sum-add m old into
+
   -- then they keep their sum
   even-kept : (table routes counts : List ℕ) → ((k : ℕ) → k < m → cells k < length table) → Even routes
       → sendsWithin table routes counts ≡ true
       → sum m (λ k. at (carried table routes counts) (cells k)) ≡ sum m (λ k. at table (cells k))
   even-kept table routes counts inside even within =
-      let next : ℕ → ℕ = λ k. at (carried table routes counts) (cells k) in
-      let old : ℕ → ℕ = λ k. at table (cells k) in
-      let out : ℕ → ℕ = λ k. sends routes counts (cells k) in
-      let into : ℕ → ℕ = λ k. receives routes counts (cells k) in
-      omega (
-        arith,
-        sum-add m next out,
-        sum-add m old into,
-        sum-eq m (λ k. next k + out k) (λ k. old k + into k) (λ k l. omega (
-          arith,
-          carried-at routes counts table (cells k) (inside k l),
-          within-at table routes counts within (cells k) (inside k l),
-        )),
-        even-sums routes counts even,
-      )
+      omega (arith, cells-after table routes counts inside within, even-sums routes counts even)
 
 -- ---- all cells, and the cells of one subdomain
 
@@ -126,6 +129,18 @@ column-one nodes o d n count ho hd hn = elim (ℕ-discrete d n) [
       sum-zeros nodes (λ k. only (eqb (cell o d) (cell k n)) count)
       (λ k l. only-not (eqb (cell o d) (cell k n)) count (ne-eqb (cell o d) (cell k n) (λ z. q (omega (arith, z)))))
       ∙ sym (only-not (eqb d n) count (ne-eqb d n q))
+]
+
+-- and in those of its own holder
+pub row-one : (nodes o d k count : ℕ) → nodes ≤ 64 → d < nodes → over nodes (λ n. cell k n) (cell o d) count ≡ only (eqb o k) count
+row-one nodes o d k count h64 hd = elim (ℕ-discrete o k) [
+  | yes e ↦
+      once nodes (λ n. cell k n) (cell o d) d count hd (λ n z. omega arith) (λ n z. omega arith)
+      ∙ sym (only-is (eqb o k) count (eq-eqb o k e))
+  | no q ↦
+      sum-zeros nodes (λ n. only (eqb (cell o d) (cell k n)) count)
+      (λ n l. only-not (eqb (cell o d) (cell k n)) count (ne-eqb (cell o d) (cell k n) (λ z. q (omega (arith, z)))))
+      ∙ sym (only-not (eqb o k) count (ne-eqb o k q))
 ]
 
 -- moves that no cell is short of keep the sum of the table
