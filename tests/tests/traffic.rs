@@ -378,6 +378,27 @@ fn short_buffers() {
     }
 }
 
+/// What each of n nodes holds in all.
+fn holdings(sheet: &[u8]) -> Vec<i64> {
+    let words = to_words(sheet);
+    let (cells, counts) = words[3..].split_at(words[2] as usize);
+    let mut holdings = vec![0; words[0] as usize];
+    for (cell, &count) in cells.iter().zip(counts) {
+        holdings[*cell as usize / 64] += i64::from(count);
+    }
+    holdings
+}
+
+/// On the sheet that follows, `next`, a node holds what it held, less what it
+/// sends, plus what it receives.
+fn carried(lines: &[Line], sheet: &[u8], next: &[u8]) {
+    let [before, after] = [sheet, next].map(holdings);
+    for (node, (_, sent, received)) in lines[..before.len()].iter().enumerate() {
+        let more = *received as i64 - *sent as i64;
+        assert_eq!(after[node] - before[node], more, "node {node}");
+    }
+}
+
 /// Whatever accepted moves are shown.
 #[test]
 fn seeded_moves() {
@@ -386,8 +407,9 @@ fn seeded_moves() {
         let draft = drafts::traffic_page(&mut Random::at(SEED, index));
         let [sheet, moves] = draft.records.map(|record| record.bytes());
         for implementation in IMPLEMENTATIONS {
-            if implementation.carried_out(&sheet, &moves).is_ok() {
+            if let Ok(next) = implementation.carried_out(&sheet, &moves) {
                 let lines = page(implementation, &sheet, &moves);
+                carried(&lines, &sheet, &next);
                 shown += 1;
                 ten_digits += usize::from(lines.iter().any(|line| line.1 == u64::from(MOST)));
             }
@@ -418,19 +440,7 @@ fn accepted_like_carry_out() {
     assert!(accepted > 1_000 && refused > 1_000, "{accepted}, {refused}");
 }
 
-/// What each of n nodes holds in all.
-fn holdings(sheet: &[u8]) -> Vec<i64> {
-    let words = to_words(sheet);
-    let (cells, counts) = words[3..].split_at(words[2] as usize);
-    let mut holdings = vec![0; words[0] as usize];
-    for (cell, &count) in cells.iter().zip(counts) {
-        holdings[*cell as usize / 64] += i64::from(count);
-    }
-    holdings
-}
-
-/// In a planned step a node's received less sent is what it holds more of after
-/// the step is carried out.
+/// The moves of planned steps.
 #[test]
 fn planned_steps() {
     for index in 0..500 {
@@ -438,12 +448,8 @@ fn planned_steps() {
         for implementation in IMPLEMENTATIONS {
             let Planned { moves, .. } = implementation.plan(&step);
             let next = implementation.carried_out(&step.sheet, &moves);
-            let [before, after] = [&step.sheet, &next.expect("accepted")].map(|it| holdings(it));
             let lines = page(implementation, &step.sheet, &moves);
-            for (node, (_, sent, received)) in lines[..before.len()].iter().enumerate() {
-                let more = *received as i64 - *sent as i64;
-                assert_eq!(after[node] - before[node], more, "{step}");
-            }
+            carried(&lines, &step.sheet, &next.expect("accepted"));
         }
     }
 }

@@ -120,9 +120,10 @@ module _ (n : ℕ) (h : n ≤ maxNodes) (sent received : ℕ → ℕ) where
   last-line : lineAt (pageOf n sent received) n ≡ lastLine n sent received
   unfolding pageOf
   last-line =
+      let nodes = nodeLines n sent received in
       let last = lastLine n sent received in
-      part-of (25 * n) 25 (nodeLines n sent received) last [] (ap (λ (bs : List ℕ). nodeLines n sent received ++ bs) (sym (append-nil last)))
-      (length-nodes n sent received h) (length-last n sent received)
+      part-of (25 * n) 25 nodes last [] (ap (λ (bs : List ℕ). nodes ++ bs) (sym (append-nil last))) (length-nodes n sent received h)
+      (length-last n sent received)
 
 -- ---- accepted: every check passed
 

@@ -34,7 +34,12 @@ pub page-D : pageIn sheet moves ≡ page
 unfolding pageOf line collect sum moved digits readSheet readHeader readMoves words encode rising every runningSum limitOf
 page-D = refl
 
--- 100 bytes are long enough for it
+-- they pass the checks
+pub page-D-checked : checked sheet moves ≡ 0
+unfolding checked withinFrom moved tableOf countsFrom countAt readSheet readHeader readMoves words encode rising every runningSum limitOf
+page-D-checked = refl
+
+-- and 100 bytes are long enough for the page
 pub page-D-answered : pageAnswer sheet moves 100 ≡ accepted 100
-unfolding pageAnswer checked withinFrom moved tableOf countsFrom countAt readSheet readHeader readMoves words encode rising every runningSum limitOf
-page-D-answered = refl
+unfolding pageAnswer readSheet readHeader words encode rising runningSum limitOf
+page-D-answered = rw page-D-checked

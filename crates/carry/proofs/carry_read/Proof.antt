@@ -92,7 +92,8 @@ returns-2 c =
     let size = c .before .size .given in
     let w = answered (c .before .before .before) in
     let p = passed w in
-    let x = ends-carried (start (u₀ p) .pre) (next (u₀ p)) (within p) (table-is p) (size .0 .0) (sym (size .1) ∙ w .write-sheet .ensures .0) in
+    let x = ends-carried (start (u₀ p) .pre) (next (u₀ p)) (within p) (table-is p) (size .0 .0)
+    (sym (size .1) ∙ w .write-sheet .ensures .0) in
     (x .0, w .write-sheet .ensures .1 ∙ x .1)
 
 returns-3 : tie.Need-returns-3

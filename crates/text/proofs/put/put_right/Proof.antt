@@ -57,8 +57,8 @@ returns c =
     let h = l .before in
     let s = h .before .before in
     let a = s .args in
-    rw (aligned-right (a .width) (a .x) (s .fits .x .fits) (s .pre .0))
-    (put-then (filling-all (now (a .out)) (a .at) (a .width - 1) (a .x) (h .loop .inv) (omega (arith, l .loop-test .left))) (p .put-byte .ensures))
+    let before = filling-all (now (a .out)) (a .at) (a .width - 1) (a .x) (h .loop .inv) (omega (arith, l .loop-test .left)) in
+    rw (aligned-right (a .width) (a .x) (s .fits .x .fits) (s .pre .0)) (put-then before (p .put-byte .ensures))
 
 pub put-right-spec : {M : Type 1} → statement M
 put-right-spec =

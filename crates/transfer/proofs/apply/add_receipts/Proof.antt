@@ -64,7 +64,8 @@ module _ (c : tie.After-word-number2 Inv-loop μ-loop) where
 
   read : let a = start .args in
       Entry (now (a .moves)) (a .e) (turn .before .loop .i) (route-read .word-number .result) (c .word-number2 .result)
-  read = entry-read _ _ _ (start .pre .0 .entries) (turn .loop-test .taken) _ _ (route-read .word-number .ensures) (c .word-number2 .ensures)
+  read =
+      entry-read _ _ _ (start .pre .0 .entries) (turn .loop-test .taken) _ _ (route-read .word-number .ensures) (c .word-number2 .ensures)
 
   into-lt : c .before .into-cell .result < tableSize
   into-lt = omega (arith, c .before .into-cell .ensures, read .below)
