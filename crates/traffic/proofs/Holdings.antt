@@ -17,7 +17,8 @@ use Rattle.carry.specs.Carry.{nextTable, carryAnswer, nextAfter, SheetReadBack}
 use Rattle.carry.proofs.Checks.{Carriable}
 use Rattle.carry.proofs.ReadBack.{acceptable, sheet-read-back}
 use Rattle.traffic.specs.Page.{sentBy, receivedBy, pageAnswer, pageAfter, PageReadBack, holding, PageCarried}
-use Rattle.traffic.proofs.ReadBack.{printed, page-read-back}
+use Rattle.traffic.proofs.Printed.{printed}
+use Rattle.traffic.proofs.ReadBack.{page-read-back}
 
 module _ {s m : List ℕ} (d : Carriable s m) where
   -- of the table that follows

@@ -1,13 +1,16 @@
--- The ways out of a traffic page: the answer, and the buffer as it is then. Assumes nothing.
+-- The ways out of a traffic page: the answer, and the buffer as it is then; and that it is accepted exactly when every check passes.
+-- Assumes nothing.
 use mathlib.Core.Path.{_≡_, refl, ap, _∙_}
 use mathlib.Core.Bool.{true, false}
 use mathlib.Core.List.{List}
 use Prim.Native.Nat.{ℕ, _≤_, _<_}
 use native.Mathlib.Omega.{arith}
-use borrow.Author.Tests.{lt-ltb, le-ltb}
+use borrow.Author.Tests.{ltb-false, lt-ltb, le-ltb}
+use lib.Dec.{ltb}
 use lib.ListN.{length}
 use Rattle.fold.specs.Sum.{sum}
 use Rattle.fold.proofs.Sums.{sum-eq}
+use Rattle.fold.proofs.Tests.{passed, handed}
 use Rattle.limit.specs.Limit.{maxNodes, maxTotal}
 use Rattle.arrays.specs.Arrays.{at}
 use Rattle.words.specs.Buffer.{placed}
@@ -24,7 +27,7 @@ use Rattle.carry.specs.declared.check.CheckRefusal.{CheckRefusal}
 use Rattle.carry.specs.declared.check.CheckRefusal.the-variants.{Sends}
 use Rattle.carry.specs.Checks.{checkNumber, withinIn, checked}
 use Rattle.carry.specs.Inner.{PairAccepted}
-use Rattle.carry.proofs.Checks.{Carriable, carriable-checked, stops-sends, stops-nowhere, ends-checked, sheet-facts, readable}
+use Rattle.carry.proofs.Checks.{Carriable, carriable, carriable-checked, stops-sends, stops-nowhere, ends-checked, sheet-facts, readable}
 use Rattle.traffic.specs.declared.Traffic.{Traffic}
 use Rattle.traffic.specs.Page.{sentBy, receivedBy, pageOf, pageIn, pageSize, pageAnswer}
 use Rattle.traffic.specs.Inner.{Countable, TrafficOf}
@@ -99,3 +102,19 @@ module _ {s m : List ℕ} {h : Sheet} {q : Moves} (r : PairAccepted s m h q) (ou
       ends-printed l =
           let fits : pageSize (readSheet s .n) ≤ length out = rw n-is at l in
           rw (page-is, n-is, carriable-checked s m fine, le-ltb (length out) (pageSize (readSheet s .n)) fits) (refl, refl)
+
+-- ---- accepted: every check passed
+
+module _ (s m : List ℕ) (size : ℕ) where
+  pub printed : pageAnswer s m size .refusal ≡ 0 → Carriable s m × (pageSize (readSheet s .n) ≤ size)
+  unfolding pageAnswer
+  printed q =
+      let f : WrittenAnswer → ℕ = λ a. a .refusal in
+      let a₁ = handed f refused (λ k. refl) (checked s m) _ q in
+      let a₂ = passed f (ltb size (pageSize (readSheet s .n))) (refused 53) _ (λ z. omega arith) (a₁ .1) in
+      (carriable s m (a₁ .0), ltb-false size (pageSize (readSheet s .n)) (a₂ .0))
+
+  -- and conversely
+  pub prints : Carriable s m → pageSize (readSheet s .n) ≤ size → pageAnswer s m size ≡ accepted (pageSize (readSheet s .n))
+  unfolding pageAnswer
+  prints d fits = rw (carriable-checked s m d, le-ltb size (pageSize (readSheet s .n)) fits)

@@ -5,24 +5,20 @@ use mathlib.Core.List.{List, [], _∷_, _++_, append-assoc, append-nil}
 use Prim.Native.Nat.{ℕ, zero, suc, _+_, _*_, _≤_, _<_, _^_}
 use native.Mathlib.Decide.{ℕ-discrete}
 use native.Mathlib.Omega.{arith}
-use borrow.Author.Tests.{ltb-false, le-ltb}
-use lib.Dec.{ltb}
 use lib.ListN.{length, take, length-append}
 use lib.Seq.{take-append-seam, drop-append-seam}
 use Rattle.fold.specs.Sum.{sum, total}
 use Rattle.fold.specs.Collect.{collect}
-use Rattle.fold.proofs.Tests.{passed, handed}
 use Rattle.limit.specs.Limit.{maxNodes}
 use Rattle.words.specs.Words.{part}
-use Rattle.words.specs.Answer.{refused, accepted}
 use Rattle.words.specs.declared.WrittenAnswer.{WrittenAnswer}
 use Rattle.words.proofs.Buffer.{after-front}
 use Rattle.sheet.specs.Sheet.{readSheet}
 use Rattle.sheet.proofs.Accepted.{sheet-accepted}
 use Rattle.moves.specs.Moves.{sender, receiver}
 use Rattle.transfer.proofs.Counts.{moved-most}
-use Rattle.carry.specs.Checks.{routesIn, countsIn, checked}
-use Rattle.carry.proofs.Checks.{Carriable, carriable, carriable-checked}
+use Rattle.carry.specs.Checks.{routesIn, countsIn}
+use Rattle.carry.proofs.Checks.{Carriable}
 use Rattle.text.specs.Text.{decimal, ascii, blank, newline}
 use Rattle.text.specs.Columns.{rightAligned, readColumn}
 use Rattle.text.proofs.Lengths.{decimal-le}
@@ -30,6 +26,7 @@ use Rattle.text.proofs.Columns.{length-aligned, read-aligned}
 use Rattle.traffic.specs.Page.{sentBy, receivedBy, line, nodeLines, lastLine, pageOf, pageIn, pageSize, pageAnswer, pageAfter, lineAt, nodeColumn, sentColumn, receivedColumn, PageReadBack}
 use Rattle.traffic.proofs.Lines.{node-short, length-line, length-lines, length-nodes, length-last, length-page}
 use Rattle.traffic.proofs.Sums.{total-small, sent-sum, received-sum}
+use Rattle.traffic.proofs.Printed.{printed, prints}
 
 -- ---- a part of a list
 
@@ -124,22 +121,6 @@ module _ (n : ℕ) (h : n ≤ maxNodes) (sent received : ℕ → ℕ) where
       let last = lastLine n sent received in
       part-of (25 * n) 25 nodes last [] (ap (λ (bs : List ℕ). nodes ++ bs) (sym (append-nil last))) (length-nodes n sent received h)
       (length-last n sent received)
-
--- ---- accepted: every check passed
-
-module _ (s m : List ℕ) (size : ℕ) where
-  pub printed : pageAnswer s m size .refusal ≡ 0 → Carriable s m × (pageSize (readSheet s .n) ≤ size)
-  unfolding pageAnswer
-  printed q =
-      let f : WrittenAnswer → ℕ = λ a. a .refusal in
-      let a₁ = handed f refused (λ k. refl) (checked s m) _ q in
-      let a₂ = passed f (ltb size (pageSize (readSheet s .n))) (refused 53) _ (λ z. omega arith) (a₁ .1) in
-      (carriable s m (a₁ .0), ltb-false size (pageSize (readSheet s .n)) (a₂ .0))
-
-  -- and conversely
-  pub prints : Carriable s m → pageSize (readSheet s .n) ≤ size → pageAnswer s m size ≡ accepted (pageSize (readSheet s .n))
-  unfolding pageAnswer
-  prints d fits = rw (carriable-checked s m d, le-ltb size (pageSize (readSheet s .n)) fits)
 
 -- ---- the page of a sheet and moves that pass the checks
 

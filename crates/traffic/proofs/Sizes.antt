@@ -1,12 +1,13 @@
 -- The size of a buffer that is long enough for every call, 1,625 bytes, and what the page has to do with *carry out*: with buffers that
 -- are long enough both are refused with the same number, or neither is. Assumes nothing.
-use mathlib.Core.Path.{_≡_, sym, _∙_}
+use mathlib.Core.Path.{_≡_, sym, ap, _∙_}
 use mathlib.Core.Logic.{_≢_}
 use mathlib.Core.List.{List}
 use Prim.Native.Nat.{ℕ, _≤_}
 use native.Mathlib.Decide.{ℕ-discrete}
 use native.Mathlib.Omega.{arith}
-use borrow.Author.Tests.{eq-eqb, ne-eqb, le-ltb}
+use borrow.Author.Tests.{ne-eqb}
+use Rattle.words.specs.declared.WrittenAnswer.{WrittenAnswer}
 use Rattle.sheet.specs.Sheet.{readSheet}
 use Rattle.sheet.proofs.Accepted.{sheet-accepted}
 use Rattle.carry.specs.Checks.{checked}
@@ -14,6 +15,7 @@ use Rattle.carry.specs.Carry.{carryAnswer}
 use Rattle.carry.proofs.Checks.{carriable, checked-most}
 use Rattle.carry.proofs.Sizes.{carry-checked}
 use Rattle.traffic.specs.Page.{pageSize, pageAnswer}
+use Rattle.traffic.proofs.Printed.{prints}
 
 module _ (s m : List ℕ) (size : ℕ) (long : 1625 ≤ size) where
   -- the checks decide
@@ -24,8 +26,9 @@ module _ (s m : List ℕ) (size : ℕ) (long : 1625 ≤ size) where
       elim (ℕ-discrete k 0) [
         | no d ↦ rw (ne-eqb k 0 d)
         | yes e ↦
-            let n-high = sheet-accepted s (carriable s m e .sheet) .n-high in
-            rw (eq-eqb k 0 e, le-ltb size (pageSize (readSheet s .n)) (omega (arith, n-high))) (sym e)
+            let d = carriable s m e in
+            let fits : pageSize (readSheet s .n) ≤ size = omega (arith, sheet-accepted s (d .sheet) .n-high) in
+            ap (λ (a : WrittenAnswer). a .refusal) (prints s m size d fits) ∙ sym e
       ]
 
   -- THEOREM. A call with a buffer of 1,625 bytes is never refused with 53, whatever the sheet and the moves.
