@@ -1,8 +1,7 @@
 -- The page and the sheet that follows: what each node holds before and after differs by what the page prints. Assumes nothing.
-use mathlib.Core.Path.{_≡_, ap, _∙_}
+use mathlib.Core.Path.{_≡_, ap}
 use mathlib.Core.List.{List}
 use Prim.Native.Nat.{ℕ, _+_, _<_}
-use native.Mathlib.Omega.{arith}
 use lib.ListN.{length, take}
 use Rattle.fold.specs.Sum.{sum}
 use Rattle.sheet.specs.declared.SheetAnswer.{SheetAnswer}

@@ -7,7 +7,7 @@ use native.Mathlib.Decide.{ℕ-discrete}
 use native.Mathlib.Omega.{arith}
 use lib.ListN.{length, take, length-append}
 use lib.Seq.{take-append-seam, drop-append-seam}
-use Rattle.fold.specs.Sum.{sum, total}
+use Rattle.fold.specs.Sum.{sum}
 use Rattle.fold.specs.Collect.{collect}
 use Rattle.limit.specs.Limit.{maxNodes}
 use Rattle.words.specs.Words.{part}
@@ -23,7 +23,7 @@ use Rattle.text.specs.Text.{decimal, ascii, blank, newline}
 use Rattle.text.specs.Columns.{rightAligned, readColumn}
 use Rattle.text.proofs.Lengths.{decimal-le}
 use Rattle.text.proofs.Columns.{length-aligned, read-aligned}
-use Rattle.traffic.specs.Page.{sentBy, receivedBy, line, nodeLines, lastLine, pageOf, pageIn, pageSize, pageAnswer, pageAfter, lineAt, nodeColumn, sentColumn, receivedColumn, PageReadBack}
+use Rattle.traffic.specs.Page.{sentBy, receivedBy, line, nodeLines, lastLine, pageOf, pageIn, pageAnswer, pageAfter, lineAt, nodeColumn, sentColumn, receivedColumn, PageReadBack}
 use Rattle.traffic.proofs.Lines.{node-short, length-line, length-lines, length-nodes, length-last, length-page}
 use Rattle.traffic.proofs.Sums.{total-small, sent-sum, received-sum}
 use Rattle.traffic.proofs.Printed.{printed, prints}

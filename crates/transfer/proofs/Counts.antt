@@ -1,6 +1,6 @@
 -- The counts of moves, added up: those that end somewhere are no more than all, over all ends they are all, and where no cell is short
 -- they are no more than the table holds. And by node: what it sends and receives in all is what its cells do. Assumes nothing.
-use mathlib.Core.Path.{_≡_, refl}
+use mathlib.Core.Path.{_≡_}
 use mathlib.Core.Bool.{true}
 use mathlib.Core.List.{List, [], _∷_}
 use Prim.Native.Nat.{ℕ, suc, _+_, _*_, _≤_, _<_}

@@ -99,7 +99,7 @@ module _ (m : ℕ) (cells : ℕ → ℕ) where
   even-kept table routes counts inside even within =
       omega (arith, cells-after table routes counts inside within, even-sums routes counts even)
 
--- ---- all cells, and the cells of one subdomain
+-- ---- all cells, the cells of one subdomain, and those of one holder
 
 eqb-same : (a b c d : ℕ) → (a ≡ b → c ≡ d) → (c ≡ d → a ≡ b) → eqb a b ≡ eqb c d
 eqb-same a b c d f g = elim (ℕ-discrete a b) [
@@ -119,29 +119,26 @@ once m cells o j count h f g =
 pub one-of : (m o count : ℕ) → o < m → over m (λ c. c) o count ≡ count
 one-of m o count h = once m (λ c. c) o o count h (λ k e. sym e) (λ k e. sym e)
 
--- the cell of holder o and subdomain d counts in its own subdomain
-column-one : (nodes o d n count : ℕ) → o < nodes → d < 64 → n < 64 → over nodes (λ k. cell k n) (cell o d) count ≡ only (eqb d n) count
-column-one nodes o d n count ho hd hn = elim (ℕ-discrete d n) [
-  | yes e ↦
-      once nodes (λ k. cell k n) (cell o d) o count ho (λ k z. omega arith) (λ k z. omega arith)
-      ∙ sym (only-is (eqb d n) count (eq-eqb d n e))
-  | no q ↦
-      sum-zeros nodes (λ k. only (eqb (cell o d) (cell k n)) count)
-      (λ k l. only-not (eqb (cell o d) (cell k n)) count (ne-eqb (cell o d) (cell k n) (λ z. q (omega (arith, z)))))
-      ∙ sym (only-not (eqb d n) count (ne-eqb d n q))
+-- cell o counts where p is q: then it is the one with index j, and otherwise it is none of them
+one-where : (m : ℕ) (cells : ℕ → ℕ) (o j count p q : ℕ) → j < m → (p ≡ q → (k : ℕ) → o ≡ cells k → k ≡ j)
+    → (p ≡ q → (k : ℕ) → k ≡ j → o ≡ cells k) → ((k : ℕ) → k < m → o ≡ cells k → p ≡ q) → over m cells o count ≡ only (eqb p q) count
+one-where m cells o j count p q h f g none = elim (ℕ-discrete p q) [
+  | yes e ↦ once m cells o j count h (f e) (g e) ∙ sym (only-is (eqb p q) count (eq-eqb p q e))
+  | no d ↦
+      sum-zeros m (λ k. only (eqb o (cells k)) count)
+      (λ k l. only-not (eqb o (cells k)) count (ne-eqb o (cells k) (λ z. d (none k l z))))
+      ∙ sym (only-not (eqb p q) count (ne-eqb p q d))
 ]
 
--- and in those of its own holder
+-- the cell of holder o and subdomain d counts in its own subdomain
+column-one : (nodes o d n count : ℕ) → o < nodes → d < 64 → n < 64 → over nodes (λ k. cell k n) (cell o d) count ≡ only (eqb d n) count
+column-one nodes o d n count ho hd hn =
+    one-where nodes (λ k. cell k n) (cell o d) o count d n ho (λ e k z. omega arith) (λ e k z. omega arith) (λ k l z. omega arith)
+
+-- and at its own holder
 pub row-one : (nodes o d k count : ℕ) → nodes ≤ 64 → d < nodes → over nodes (λ n. cell k n) (cell o d) count ≡ only (eqb o k) count
-row-one nodes o d k count h64 hd = elim (ℕ-discrete o k) [
-  | yes e ↦
-      once nodes (λ n. cell k n) (cell o d) d count hd (λ n z. omega arith) (λ n z. omega arith)
-      ∙ sym (only-is (eqb o k) count (eq-eqb o k e))
-  | no q ↦
-      sum-zeros nodes (λ n. only (eqb (cell o d) (cell k n)) count)
-      (λ n l. only-not (eqb (cell o d) (cell k n)) count (ne-eqb (cell o d) (cell k n) (λ z. q (omega (arith, z)))))
-      ∙ sym (only-not (eqb o k) count (ne-eqb o k q))
-]
+row-one nodes o d k count h64 hd =
+    one-where nodes (λ n. cell k n) (cell o d) d count o k hd (λ e n z. omega arith) (λ e n z. omega arith) (λ n l z. omega arith)
 
 -- moves that no cell is short of keep the sum of the table
 pub sum-kept : (table routes counts : List ℕ) → length table ≡ tableSize

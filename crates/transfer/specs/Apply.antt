@@ -14,7 +14,7 @@ fromCell route = cell (sender route) (subdomain route)
 abbrev pub intoCell : ℕ → ℕ
 intoCell route = cell (receiver route) (subdomain route)
 
--- the sum of the counts of all moves whose end is cell c
+-- the sum of the counts of all moves whose end is c, where an end is a cell or, on the traffic page, a node
 unfoldable pub moved : (ℕ → ℕ) → List ℕ → List ℕ → ℕ → ℕ
 moved end [] counts c = 0
 moved end (route ∷ routes) [] c = 0

@@ -5,7 +5,6 @@ use mathlib.Core.Path.{_≡_}
 use mathlib.Core.List.{List}
 use Prim.Native.Nat.{ℕ}
 use lib.ListN.{length}
-use Rattle.text.specs.Text.{decimal}
 use Rattle.text.specs.Columns.{rightAligned}
 use Rattle.text.specs.Inner.{Put}
 use Rattle.text.proofs.Columns.{aligned-exact}
