@@ -25,12 +25,20 @@ module _ (f : ℕ → ℕ) where
   length-row zero = refl
   length-row (suc nodes) = length-append (row nodes) (f nodes ∷ []) ∙ omega (arith, length-row nodes)
 
-  row-at : (nodes k : ℕ) → k < nodes → getD (row nodes) k 0 ≡ f k
+  pub row-at : (nodes k : ℕ) → k < nodes → getD (row nodes) k 0 ≡ f k
   unfolding collect
   row-at zero k l = absurd (omega arith)
   row-at (suc nodes) k l = elim (ℕ-discrete k nodes) [
     | yes e ↦ rw (e ∙ sym (length-row nodes)) (getD-append-seam (row nodes) (f nodes) [] 0) ∙ sym (ap f e)
     | no d ↦ List·getD-append (row nodes) (f nodes ∷ []) 0 k (omega (arith, length-row nodes)) ∙ row-at nodes k (omega arith)
+  ]
+
+  -- an array of any length that is filled from the front: one entry more
+  pub filled-more : (xs : List ℕ) (n v : ℕ) → n < length xs → v ≡ f n → ((k : ℕ) → k < n → at xs k ≡ f k)
+      → (k : ℕ) → k < n + 1 → at (set xs n v) k ≡ f k
+  filled-more xs n v l e p k b = elim (ℕ-discrete k n) [
+    | yes q ↦ rw q (getD-set-same xs n v 0 l ∙ e)
+    | no d ↦ getD-set-other xs n k v 0 d ∙ p k (omega arith)
   ]
 
 module _ (nodes : ℕ) (f : ℕ → ℕ) where

@@ -17,6 +17,7 @@ ghost use Rattle.planner.specs.Step.{stepAnswer, planAfter, movesAfter};
 ghost use Rattle.carry.specs.Carry.{carryAnswer, nextAfter};
 ghost use Rattle.inlet.specs.Join.{joinAnswer, joinedAfter};
 ghost use Rattle.traffic.specs.Page.{pageAnswer, pageAfter};
+ghost use Rattle.archive.specs.Archive.{writeAnswer, archiveAfter, readAnswer, sheetAfter};
 ghost use Rattle.in_force.specs.InForce.{inForce, partOf};
 ghost use Rattle.firrozka.specs.Version.{version};
 
@@ -25,7 +26,7 @@ ghost use Rattle.firrozka.specs.Version.{version};
 pub extern "C" fn firrozka_version() -> u32
     ensures { λ r. ⌜ r ≡ version ⌝ }
 {
-    104
+    105
 }
 
 // *Read sheet*.
@@ -108,6 +109,24 @@ pub extern "C" fn firrozka_traffic_page(
     ensures bytes { λ _. ⌜ now (page .exit) ≡ pageAfter (now (sheet .entry)) (now (moves .entry)) (now (page .entry)) ⌝ }
 {
     traffic::answer(traffic::traffic_page(sheet, moves, page))
+}
+
+// *Write archive*.
+#[no_mangle]
+pub extern "C" fn firrozka_write_archive(sheet: &[u8], archive: &mut [u8]) -> WrittenAnswer
+    ensures answer { λ r. ⌜ r ≡ writeAnswer (now (sheet .entry)) (length (now (archive .entry))) ⌝ }
+    ensures bytes { λ _. ⌜ now (archive .exit) ≡ archiveAfter (now (sheet .entry)) (now (archive .entry)) ⌝ }
+{
+    archive::write::answer(archive::write::write_archive(sheet, archive))
+}
+
+// *Read archive*.
+#[no_mangle]
+pub extern "C" fn firrozka_read_archive(archive: &[u8], sheet: &mut [u8]) -> WrittenAnswer
+    ensures answer { λ r. ⌜ r ≡ readAnswer (now (archive .entry)) (length (now (sheet .entry))) ⌝ }
+    ensures bytes { λ _. ⌜ now (sheet .exit) ≡ sheetAfter (now (archive .entry)) (now (sheet .entry)) ⌝ }
+{
+    archive::read::answer(archive::read::read_archive(archive, sheet))
 }
 
 // *Tree in force*: the stretch by its place, since no reference can be handed back over the boundary.

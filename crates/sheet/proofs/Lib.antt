@@ -2,6 +2,7 @@ pub mod Laws
 pub mod Answers
 pub mod Accepted
 pub mod Tables
+pub mod Left
 pub mod Totalled
 pub mod Filled
 pub mod RoundTrip

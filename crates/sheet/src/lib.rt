@@ -66,7 +66,7 @@ pub enum CountSum {
 }
 
 // Whether cell c names two nodes below n.
-fn cell_fine(n: u32, c: u32) -> bool
+pub fn cell_fine(n: u32, c: u32) -> bool
     ensures { λ r. ⌜ r ≡ cellFine n c ⌝ }
 {
     if c / 64 < n { c % 64 < n } else { false }

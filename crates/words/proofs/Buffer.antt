@@ -2,13 +2,13 @@
 use mathlib.Core.Path.{_≡_, refl, sym, ap, _∙_}
 use mathlib.Core.Bool.{Bool, true, false, cond}
 use mathlib.Core.List.{List, [], _∷_, _++_}
-use Prim.Native.Nat.{ℕ, suc, _+_, _*_, _≤_, _<_}
+use Prim.Native.Nat.{ℕ, zero, suc, _+_, _*_, _≤_, _<_}
 use native.Mathlib.Nat.{suc-add, add-suc, add-zero, zero-add}
 use native.Mathlib.Numerals.{add-one, add-two, add-three}
 use native.Mathlib.Omega.{arith}
 use borrow.Author.Tests.{lt-ltb, le-ltb, ltb-false, ltb-true, eq-eqb}
 use lib.Dec.{ltb}
-use lib.ListN.{length, take, drop, set, length-append}
+use lib.ListN.{length, take, drop, set, length-append, length-set}
 use lib.Seq.{sets, sets-eq, set-comm, take-at}
 use Rattle.words.specs.Words.{bytesOf, encode, putWord}
 use Rattle.words.specs.declared.Written.the-variants.{Bytes, Short}
@@ -19,6 +19,10 @@ use Rattle.words.proofs.Words.{length-encode, encode-append}
 pub sets-append : (l : List ℕ) (i : ℕ) (us vs : List ℕ) → sets l i (us ++ vs) ≡ sets (sets l i us) (i + length us) vs
 sets-append l i [] vs = rw (add-zero i)
 sets-append l i (u ∷ us) vs = sets-append (set l i u) (suc i) us vs ∙ rw (suc-add i (length us), add-suc i (length us))
+
+-- a word leaves the length
+pub length-put : (l : List ℕ) (i w : ℕ) → length (putWord l i w) ≡ length l
+length-put l i w = simp length-set
 
 -- a word is a run of four stores
 pub put-sets : (l : List ℕ) (i w : ℕ) → putWord l i w ≡ sets l i (bytesOf w)
@@ -51,6 +55,21 @@ put-before l i vs j w h =
 -- a run of stores from the start is the record, with the buffer's own bytes behind it
 pub sets-placed : (rec out : List ℕ) → length rec ≤ length out → sets out 0 rec ≡ placed rec out
 sets-placed rec out h = sets-eq rec out 0 (omega arith) ∙ rw zero-add
+
+-- a word of a record, and of a record that stands in front of a buffer
+put-encode : (ws rest : List ℕ) (k w : ℕ) → k < length ws → putWord (encode ws ++ rest) (4 * k) w ≡ encode (set ws k w) ++ rest
+unfolding encode
+put-encode [] rest k w h = absurd (omega arith)
+put-encode (x ∷ ws) rest zero w h = refl
+put-encode (x ∷ ws) rest (suc k) w h =
+    let e : 4 * suc k ≡ suc (suc (suc (suc (4 * k)))) = omega arith in
+    rw e (simp suc-add (ap (λ (l : List ℕ). bytesOf x ++ l) (put-encode ws rest k w (omega arith))))
+
+pub put-placed : (ws out : List ℕ) (k w : ℕ) → k < length ws
+    → putWord (placed (encode ws) out) (4 * k) w ≡ placed (encode (set ws k w)) out
+put-placed ws out k w h =
+    let e : length (encode ws) ≡ length (encode (set ws k w)) = simp (length-encode, length-set) in
+    put-encode ws (drop (length (encode ws)) out) k w h ∙ ap (λ (n : ℕ). encode (set ws k w) ++ drop n out) e
 
 -- a head and two arrays, each a run of its own, are one record
 pub record-placed : (out h xs ys : List ℕ) (a b : ℕ) → a ≡ 4 * length h → b ≡ 4 * (length h + length xs)

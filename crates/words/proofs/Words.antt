@@ -5,7 +5,7 @@ use Prim.Native.Nat.{ℕ, zero, suc, _+_, _*_, _/_, _%_, _≤_, _<_, _^_}
 use native.Mathlib.Nat.{suc-add}
 use native.Mathlib.Numerals.{add-one}
 use native.Mathlib.Omega.{arith}
-use lib.ListN.{length, getD, take, drop, length-append, length-take, length-drop, drop-of-length-le, List·getD-append}
+use lib.ListN.{length, getD, take, drop, replicate, length-append, length-take, length-drop, drop-of-length-le, List·getD-append}
 use lib.Seq.{take-suc, drop-cons, getD-take, getD-drop}
 use Rattle.words.specs.Words.{word, words, bytesOf, encode, part}
 
@@ -105,6 +105,14 @@ pub encode-append : (us vs : List ℕ) → encode (us ++ vs) ≡ encode us ++ en
 unfolding encode
 encode-append [] vs = refl
 encode-append (u ∷ us) vs = ap (λ (l : List ℕ). bytesOf u ++ l) (encode-append us vs)
+
+-- zeros
+pub encode-zeros : (n : ℕ) → encode (replicate n 0) ≡ replicate (4 * n) 0
+unfolding encode
+encode-zeros zero = refl
+encode-zeros (suc n) =
+    let e : 4 * suc n ≡ suc (suc (suc (suc (4 * n)))) = omega arith in
+    rw e (ap (λ (l : List ℕ). 0 ∷ 0 ∷ 0 ∷ 0 ∷ l) (encode-zeros n))
 
 -- one more word, at the end of the list, and of what is taken of a list
 pub encode-snoc : (ws : List ℕ) (w : ℕ) → encode (ws ++ (w ∷ [])) ≡ encode ws ++ bytesOf w

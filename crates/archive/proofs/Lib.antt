@@ -1,0 +1,9 @@
+pub mod Bits
+pub mod Ordered
+pub mod Storing
+pub mod Answers
+pub mod Checks
+pub mod Accepted
+pub mod RoundTrip
+pub mod Sizes
+pub mod Vectors

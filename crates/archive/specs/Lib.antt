@@ -1,0 +1,3 @@
+pub mod ZOrder
+pub mod Archive
+pub mod Inner
