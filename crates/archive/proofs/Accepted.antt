@@ -19,7 +19,9 @@ use Rattle.words.specs.Answer.{refused, accepted}
 use Rattle.sheet.specs.Sheet.{cellFine}
 use Rattle.sheet.proofs.RoundTrip.{Writable}
 use Rattle.archive.specs.Archive.{archiveSize, nodesIn, toleranceIn, tableFrom, totalIn, countsFine, sheetFrom, countsAnswer, readAnswer}
+use Rattle.archive.specs.Inner.{HeadRead}
 use Rattle.archive.proofs.Ordered.{length-from}
+use Rattle.archive.proofs.Checks.{head-passes}
 
 -- ---- 55's test of a table, as a sheet's writer asks it
 
@@ -77,13 +79,21 @@ module _ (a : List ℕ) (size : ℕ) where
 
   -- and conversely: with a buffer that is long enough the sheet is written
   pub accepts : Accepted a → length (sheetFrom a) ≤ size → readAnswer a size ≡ accepted (length (sheetFrom a))
-  unfolding readAnswer countsAnswer
+  unfolding countsAnswer
   accepts k fits =
       let w = k .writable in
-      rw (
-        eq-eqb (length a) archiveSize (k .size),
-        one-to-of maxNodes (nodesIn a) (w .n-low) (w .n-high),
-        one-to-of maxTolerance (toleranceIn a) (w .t-low) (w .t-high),
+      let h : HeadRead a (nodesIn a) (toleranceIn a) =
+      record {
+        size = k .size;
+        n-is = refl;
+        t-is = refl;
+        n-low = w .n-low;
+        n-high = w .n-high;
+        t-low = w .t-low;
+        t-high = w .t-high;
+      } in
+      head-passes a size h
+      ∙ rw (
         inside-fine (nodesIn a) (tableFrom a) (length-from a) (w .outside),
         le-ltb maxTotal (totalIn a) (w .within),
         le-ltb size (length (sheetFrom a)) fits,

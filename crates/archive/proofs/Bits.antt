@@ -57,8 +57,8 @@ gather-small zero x = omega arith
 gather-small (suc k) x = omega (arith, gather-small k (x / 4))
 
 -- six bits at even places
-pub spread-of-small : (x : ℕ) → spreadOf x ≤ 1365
-spread-of-small x = omega (arith, spread-is x, spread-small 6 x)
+pub spread-of-small : {r : ℕ} (x : ℕ) → r ≡ spreadOf x → r ≤ 1365
+spread-of-small x e = omega (arith, e, spread-is x, spread-small 6 x)
 
 -- ---- apart, and together again
 

@@ -51,6 +51,16 @@ module _ (s out : List ℕ) where
 
 -- ---- *read archive*
 
+-- past 54, 2 and 3 the counts decide
+pub head-passes : (a : List ℕ) (size : ℕ) {n t : ℕ} → HeadRead a n t → readAnswer a size ≡ countsAnswer a size
+unfolding readAnswer
+head-passes a size h =
+    rw (
+      eq-eqb (length a) archiveSize (h .size),
+      ap (oneTo maxNodes) (sym (h .n-is)) ∙ one-to-of maxNodes _ (h .n-low) (h .n-high),
+      ap (oneTo maxTolerance) (sym (h .t-is)) ∙ one-to-of maxTolerance _ (h .t-low) (h .t-high),
+    )
+
 module _ (a out : List ℕ) where
   -- from 55 on
   abbrev pub CountsEnd : WrittenAnswer → List ℕ → Type 0
@@ -74,16 +84,6 @@ module _ (a out : List ℕ) where
     pub ends-tolerance : oneTo maxNodes (nodesIn a) ≡ true → oneTo maxTolerance (toleranceIn a) ≡ false → ReadEnds (refused 3) out
     unfolding readAnswer
     ends-tolerance nodes bad = refuses 3 (λ z. omega arith) (rw (eq-eqb (length a) archiveSize size, nodes, bad))
-
-  -- past 54, 2 and 3 the counts decide
-  pub head-passes : {n t : ℕ} → HeadRead a n t → readAnswer a (length out) ≡ countsAnswer a (length out)
-  unfolding readAnswer
-  head-passes h =
-      rw (
-        eq-eqb (length a) archiveSize (h .size),
-        ap (oneTo maxNodes) (sym (h .n-is)) ∙ one-to-of maxNodes _ (h .n-low) (h .n-high),
-        ap (oneTo maxTolerance) (sym (h .t-is)) ∙ one-to-of maxTolerance _ (h .t-low) (h .t-high),
-      )
 
   counts-refuse : (k : ℕ) → k ≢ 0 → refused k ≡ countsAnswer a (length out) → CountsEnd (refused k) out
   counts-refuse = ends-refused (countsAnswer a (length out)) (sheetFrom a) out

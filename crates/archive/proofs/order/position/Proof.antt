@@ -1,6 +1,5 @@
 -- `archive::order::position` meets its contract: the bits of the subdomain, and between them those of the holder. Assumes nothing.
 use borrow.Author.Needs.{needs}
-use mathlib.Core.Path.{_≡_}
 use Prim.Native.Nat.{_/_, _%_, _≤_}
 use native.Mathlib.Omega.{arith}
 use Rattle.archive.proofs.Bits.{position-spreads, spread-of-small}
@@ -9,10 +8,10 @@ use Rattle.archive.proofs.order.position.Tie as tie
 
 module _ (c : tie.After-spread2) where
   low : c .before .spread .result ≤ 1365
-  low = omega (arith, c .before .spread .ensures, spread-of-small (c .before .before .args .cell % 64))
+  low = spread-of-small _ (c .before .spread .ensures)
 
   high : c .spread2 .result ≤ 1365
-  high = omega (arith, c .spread2 .ensures, spread-of-small (c .before .before .args .cell / 64))
+  high = spread-of-small _ (c .spread2 .ensures)
 
 returns : tie.Need-returns
 returns c =

@@ -87,7 +87,7 @@ returns-4 c =
     let r = c .before .before in
     let h = r .before .before in
     let w = read (h .before .before) in
-    let e = sym (head-passes (a₀ w) (out₀ w) (head-read h)) in
+    let e = sym (head-passes (a₀ w) (length (out₀ w)) (head-read h)) in
     let x = r .read-counts .ensures in
     (x .0 ∙ e, x .1 ∙ ap (λ (k : WrittenAnswer). afterCall (k .refusal) (sheetFrom (a₀ w)) (out₀ w)) e)
 
