@@ -18,18 +18,19 @@
 extern "C" {
 #endif
 
-/* The version, 100 × major + minor: 1.4 is 104. CHANGELOG.md says what each brought. firrozka_version() is the archive's own: where the
+/* The version, 100 × major + minor: 1.5 is 105. CHANGELOG.md says what each brought. firrozka_version() is the library's own: where the
  * two differ, a program was compiled with the header of another version. */
-#define FIRROZKA_VERSION 104
+#define FIRROZKA_VERSION 105
 uint32_t firrozka_version(void);
 
-/* Buffers of so many bytes are long enough for every call. */
+/* Buffers of so many bytes are long enough for every call. Every archive has just so many. */
 enum {
-    FIRROZKA_SHEET_BYTES = 32780, /* 4 × (3 + 2 × 4,096) */
-    FIRROZKA_PLAN_BYTES = 524,    /* 4 × (3 + 2 × 64) */
-    FIRROZKA_MOVES_BYTES = 32264, /* 4 × (2 + 2 × 4,032) */
-    FIRROZKA_LEAST_BYTES = 256,   /* 4 × 64 */
-    FIRROZKA_PAGE_BYTES = 1625    /* 25 × (64 + 1) */
+    FIRROZKA_SHEET_BYTES = 32780,  /* 4 × (3 + 2 × 4,096) */
+    FIRROZKA_PLAN_BYTES = 524,     /* 4 × (3 + 2 × 64) */
+    FIRROZKA_MOVES_BYTES = 32264,  /* 4 × (2 + 2 × 4,032) */
+    FIRROZKA_LEAST_BYTES = 256,    /* 4 × 64 */
+    FIRROZKA_PAGE_BYTES = 1625,    /* 25 × (64 + 1) */
+    FIRROZKA_ARCHIVE_BYTES = 16392 /* 4 × (2 + 4,096) */
 };
 
 /* The kind of a plan. */
@@ -46,7 +47,7 @@ enum firrozka_source {
 };
 
 /* Why an operation refuses. Its checks run in the order of its numbers, those of the sheet and of the other record first; only join sheets
- * has a 7 behind 51. */
+ * has a 7 behind 51, and read archive 2 and 3 behind 54. */
 enum firrozka_refusal {
     FIRROZKA_ACCEPTED = 0,
     /* sheet */
@@ -88,7 +89,12 @@ enum firrozka_refusal {
     FIRROZKA_SHEETS_DIFFER = 51, /* the N or the t of the two sheets differ */
     FIRROZKA_JOINED_BUFFER = 52, /* the buffer is too short */
     /* traffic page */
-    FIRROZKA_PAGE_BUFFER = 53 /* the buffer is under 25 × (N+1) bytes */
+    FIRROZKA_PAGE_BUFFER = 53, /* the buffer is under 25 × (N+1) bytes */
+    /* archive, which also has a sheet's 2 and 3 */
+    FIRROZKA_ARCHIVE_LENGTH = 54, /* the length is not 16,392 bytes */
+    FIRROZKA_ARCHIVE_COUNT = 55,  /* a count is above 0 at a node not below N, or the sum is above 1,000,000,000 */
+    /* write archive, read archive */
+    FIRROZKA_ARCHIVE_BUFFER = 56 /* the buffer is too short */
 };
 
 /* Read sheet: N, the tolerance t in tenths of a percent, the number of cells E, the total P and the limit L. Refused: 1 to 7. */
@@ -145,6 +151,17 @@ struct firrozka_written firrozka_join_sheets(const uint8_t *first, size_t first_
  * Refused: the sheet's; the moves'; 41, 42, 53. */
 struct firrozka_written firrozka_traffic_page(const uint8_t *sheet, size_t sheet_len, const uint8_t *moves, size_t moves_len,
                                               uint8_t *page, size_t page_len);
+
+/* Write archive: writes the archive of a sheet, and gives its length in bytes, which is FIRROZKA_ARCHIVE_BYTES for every sheet. An archive
+ * is N, t and 4,096 counts, one for each holder and subdomain below 64, with 0 where the sheet has no cell. Bit i of the subdomain is bit
+ * 2i of a count's position, and bit i of the holder is bit 2i + 1, so that neighbouring cells stand close together: docs/FORMATS.md has a
+ * picture. Refused: the sheet's; 56. */
+struct firrozka_written firrozka_write_archive(const uint8_t *sheet, size_t sheet_len, uint8_t *archive, size_t archive_len);
+
+/* Read archive: writes the sheet that an archive holds, and gives its length in bytes. It is the sheet that was written to the archive,
+ * byte for byte; and every archive that is accepted is that of the sheet that comes out of it.
+ * Refused: 54; 2 and 3, here of the archive; 55; 56 where the buffer is shorter than this sheet. */
+struct firrozka_written firrozka_read_archive(const uint8_t *archive, size_t archive_len, uint8_t *sheet, size_t sheet_len);
 
 /* Tree in force: the helpands that hold after a step, as a stretch of one of the two plans: which plan, and where in it, in bytes. It is
  * of the old plan if the new kind is 1, else of the new. A new plan of kind 0 gives its roots. Nothing is copied, nothing is refused.

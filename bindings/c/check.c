@@ -4,7 +4,7 @@
 #include <string.h>
 #include "firrozka.h"
 
-#if FIRROZKA_VERSION < 104
+#if FIRROZKA_VERSION < 105
 #error "the preprocessor can test the version"
 #endif
 
@@ -44,6 +44,12 @@ static const uint8_t too_much[] = {3, 0, 0, 0, 1, 0, 0, 0, 66, 16, 0, 0, 24, 0, 
 static uint8_t plan[FIRROZKA_PLAN_BYTES], moves[FIRROZKA_MOVES_BYTES], next[FIRROZKA_SHEET_BYTES], least[FIRROZKA_LEAST_BYTES];
 static uint8_t page[FIRROZKA_PAGE_BYTES];
 
+/* The archive of the busy sheet, and a buffer that is longer by a word. */
+static uint8_t kept[FIRROZKA_ARCHIVE_BYTES], archive[FIRROZKA_ARCHIVE_BYTES + 4];
+
+/* What the bytes of a buffer are before a call. */
+enum { PAINT = 0xa5 };
+
 static void check(int line, int good)
 {
     if (!good) {
@@ -52,6 +58,15 @@ static void check(int line, int good)
     }
 }
 #define CHECK(good) check(__LINE__, (good))
+
+/* Whether these bytes are as they were painted. */
+static int painted(const uint8_t *bytes, size_t len)
+{
+    for (size_t i = 0; i < len; i++)
+        if (bytes[i] != PAINT)
+            return 0;
+    return 1;
+}
 
 static void check_readers(void)
 {
@@ -78,18 +93,16 @@ static void check_operations(void)
 /* Whether step D's sheet and this one are refused so, with 0 bytes and the buffer as it was. */
 static int not_joined(uint32_t refusal, const uint8_t *second, size_t second_len, size_t out_len)
 {
-    uint8_t untouched[sizeof next];
-    memset(untouched, 0xa5, sizeof untouched);
-    memset(next, 0xa5, sizeof next);
+    memset(next, PAINT, sizeof next);
     struct firrozka_written j = firrozka_join_sheets(sheet, sizeof sheet, second, second_len, next, out_len);
-    return j.refusal == refusal && !j.bytes && !memcmp(next, untouched, sizeof next);
+    return j.refusal == refusal && !j.bytes && painted(next, sizeof next);
 }
 
 static void check_join(void)
 {
-    memset(next, 0xa5, sizeof next);
+    memset(next, PAINT, sizeof next);
     struct firrozka_written j = firrozka_join_sheets(sheet, sizeof sheet, inlet, sizeof inlet, next, sizeof joined);
-    CHECK(!j.refusal && j.bytes == sizeof joined && !memcmp(next, joined, sizeof joined) && next[sizeof joined] == 0xa5);
+    CHECK(!j.refusal && j.bytes == sizeof joined && !memcmp(next, joined, sizeof joined) && next[sizeof joined] == PAINT);
     CHECK(not_joined(FIRROZKA_SHEET_LENGTH, inlet, sizeof inlet - 1, sizeof next));
     CHECK(not_joined(FIRROZKA_SHEETS_DIFFER, other_nodes, sizeof other_nodes, sizeof next));
     CHECK(not_joined(FIRROZKA_SHEETS_DIFFER, other_tolerance, sizeof other_tolerance, sizeof next));
@@ -100,22 +113,18 @@ static void check_join(void)
 /* Whether these moves are refused so on that sheet, with 0 bytes and the buffer as it was. */
 static int no_page(uint32_t refusal, size_t sheet_len, const uint8_t *list, size_t list_len, size_t page_len)
 {
-    uint8_t untouched[sizeof page];
-    memset(untouched, 0xa5, sizeof untouched);
-    memset(page, 0xa5, sizeof page);
+    memset(page, PAINT, sizeof page);
     struct firrozka_written t = firrozka_traffic_page(busy, sheet_len, list, list_len, page, page_len);
-    return t.refusal == refusal && !t.bytes && !memcmp(page, untouched, sizeof page);
+    return t.refusal == refusal && !t.bytes && painted(page, sizeof page);
 }
 
 static void check_traffic(void)
 {
     const size_t length = sizeof text - 1;
-    uint8_t untouched[sizeof page];
-    memset(untouched, 0xa5, sizeof untouched);
-    memset(page, 0xa5, sizeof page);
+    memset(page, PAINT, sizeof page);
     struct firrozka_written t = firrozka_traffic_page(busy, sizeof busy, traffic, sizeof traffic, page, sizeof page);
     CHECK(!t.refusal && t.bytes == length && !memcmp(page, text, length));
-    CHECK(!memcmp(page + length, untouched, sizeof page - length));
+    CHECK(painted(page + length, sizeof page - length));
     /* A buffer of just this length. */
     CHECK(firrozka_traffic_page(busy, sizeof busy, traffic, sizeof traffic, page, length).bytes == length);
     CHECK(no_page(FIRROZKA_SHEET_LENGTH, sizeof busy - 1, traffic, sizeof traffic, sizeof page));
@@ -123,6 +132,77 @@ static void check_traffic(void)
     CHECK(no_page(FIRROZKA_MOVES_NODES_DIFFER, sizeof busy, moves_of_two, sizeof moves_of_two, sizeof page));
     CHECK(no_page(FIRROZKA_MOVES_SENDS, sizeof busy, too_much, sizeof too_much, sizeof page));
     CHECK(no_page(FIRROZKA_PAGE_BUFFER, sizeof busy, traffic, sizeof traffic, length - 1));
+}
+
+/* A word at a place: 4 bytes, low byte first. */
+static void put(uint8_t *record, size_t place, uint32_t word)
+{
+    for (size_t byte = 0; byte < 4; byte++)
+        record[4 * place + byte] = (uint8_t)(word >> (8 * byte));
+}
+
+/* Of the busy sheet cells 0, 1, 65 and 128, which are holder and subdomain 0 0, 0 1, 1 1 and 2 0, stand at positions 0, 1, 3 and 8. */
+static void make_kept(void)
+{
+    memset(kept, 0, sizeof kept);
+    put(kept, 0, 3);
+    put(kept, 1, 100);
+    put(kept, 2 + 0, 34);
+    put(kept, 2 + 1, 3);
+    put(kept, 2 + 3, 23);
+    put(kept, 2 + 8, 1200);
+}
+
+/* Whether so much of the busy sheet is refused so, with 0 bytes and the buffer as it was. */
+static int not_archived(uint32_t refusal, size_t sheet_len, size_t archive_len)
+{
+    memset(archive, PAINT, sizeof archive);
+    struct firrozka_written a = firrozka_write_archive(busy, sheet_len, archive, archive_len);
+    return a.refusal == refusal && !a.bytes && painted(archive, sizeof archive);
+}
+
+static void check_write_archive(void)
+{
+    make_kept();
+    memset(archive, PAINT, sizeof archive);
+    struct firrozka_written a = firrozka_write_archive(busy, sizeof busy, archive, sizeof archive);
+    CHECK(!a.refusal && a.bytes == sizeof kept && !memcmp(archive, kept, sizeof kept));
+    CHECK(painted(archive + sizeof kept, sizeof archive - sizeof kept));
+    /* A buffer of just this length. */
+    CHECK(firrozka_write_archive(busy, sizeof busy, archive, sizeof kept).bytes == sizeof kept);
+    CHECK(not_archived(FIRROZKA_SHEET_LENGTH, sizeof busy - 1, sizeof archive));
+    CHECK(not_archived(FIRROZKA_ARCHIVE_BUFFER, sizeof busy, sizeof kept - 1));
+}
+
+/* Whether the archive is refused so with another word at a place, with 0 bytes and the buffer as it was. */
+static int not_read(uint32_t refusal, size_t place, uint32_t word, size_t archive_len, size_t sheet_len)
+{
+    make_kept();
+    put(kept, place, word);
+    memset(next, PAINT, sizeof next);
+    struct firrozka_written r = firrozka_read_archive(kept, archive_len, next, sheet_len);
+    return r.refusal == refusal && !r.bytes && painted(next, sizeof next);
+}
+
+static void check_read_archive(void)
+{
+    make_kept();
+    memset(next, PAINT, sizeof next);
+    struct firrozka_written r = firrozka_read_archive(kept, sizeof kept, next, sizeof next);
+    CHECK(!r.refusal && r.bytes == sizeof busy && !memcmp(next, busy, sizeof busy));
+    CHECK(painted(next + sizeof busy, sizeof next - sizeof busy));
+    /* A buffer of just this length. */
+    CHECK(firrozka_read_archive(kept, sizeof kept, next, sizeof busy).bytes == sizeof busy);
+    /* 54 comes before 2. */
+    CHECK(not_read(FIRROZKA_ARCHIVE_LENGTH, 0, 65, sizeof kept - 1, sizeof next));
+    CHECK(not_read(FIRROZKA_SHEET_NODES, 0, 65, sizeof kept, sizeof next));
+    CHECK(not_read(FIRROZKA_SHEET_TOLERANCE, 1, 1000, sizeof kept, sizeof next));
+    /* Holder 0 and subdomain 3, holder 3 and subdomain 0, one particle too many, and a sum that would be 1,226 in 32 bits. */
+    CHECK(not_read(FIRROZKA_ARCHIVE_COUNT, 2 + 5, 1, sizeof kept, sizeof next));
+    CHECK(not_read(FIRROZKA_ARCHIVE_COUNT, 2 + 10, 1, sizeof kept, sizeof next));
+    CHECK(not_read(FIRROZKA_ARCHIVE_COUNT, 2, 1000000001 - 1226, sizeof kept, sizeof next));
+    CHECK(not_read(FIRROZKA_ARCHIVE_COUNT, 2 + 2, 0xffffffff - 33, sizeof kept, sizeof next));
+    CHECK(not_read(FIRROZKA_ARCHIVE_BUFFER, 0, 3, sizeof kept, sizeof busy - 1));
 }
 
 /* With length 0 a pointer may be null, a buffer's too. */
@@ -141,6 +221,11 @@ static void check_null(void)
     CHECK(firrozka_traffic_page(NULL, 0, traffic, sizeof traffic, page, sizeof page).refusal == FIRROZKA_SHEET_SHORT);
     CHECK(firrozka_traffic_page(busy, sizeof busy, NULL, 0, page, sizeof page).refusal == FIRROZKA_MOVES_SHORT);
     CHECK(firrozka_traffic_page(busy, sizeof busy, traffic, sizeof traffic, NULL, 0).refusal == FIRROZKA_PAGE_BUFFER);
+    CHECK(firrozka_write_archive(NULL, 0, archive, sizeof archive).refusal == FIRROZKA_SHEET_SHORT);
+    CHECK(firrozka_write_archive(busy, sizeof busy, NULL, 0).refusal == FIRROZKA_ARCHIVE_BUFFER);
+    make_kept();
+    CHECK(firrozka_read_archive(NULL, 0, next, sizeof next).refusal == FIRROZKA_ARCHIVE_LENGTH);
+    CHECK(firrozka_read_archive(kept, sizeof kept, NULL, 0).refusal == FIRROZKA_ARCHIVE_BUFFER);
     CHECK(firrozka_tree_in_force(NULL, 0, NULL, 0).length == 0);
 }
 
@@ -169,6 +254,8 @@ int main(void)
     check_operations();
     check_join();
     check_traffic();
+    check_write_archive();
+    check_read_archive();
     check_null();
     check_force();
     return 0;

@@ -63,6 +63,8 @@ program check
     call same([firrozka_version()], [integer :: firrozka_module_version])
     call check_join
     call check_traffic
+    call check_write_archive
+    call check_read_archive
     call check_words
 
 contains
@@ -97,9 +99,15 @@ contains
         call same([written%refusal, written%bytes, count(next /= untouched, kind=c_int32_t)], [integer :: refusal, 0, 0])
     end subroutine
 
-    ! Nodes 0, 1 and 2 hold 34 and 3, 23, and 1,200 particles. Of subdomain 0 node 2 sends 1,000 to node 0 and 7 to node 1; of
-    ! subdomain 1 node 0 sends 3 to node 1, and node 1 sends 20 to node 2. Refused are a move from node 0 to itself, moves of
-    ! 2 nodes, and 24 where node 1 has 23.
+    ! Nodes 0, 1 and 2 hold 34 and 3, 23, and 1,200 particles.
+    function busy_sheet() result(busy)
+        integer(c_int8_t) :: busy(44)
+
+        busy = words_to_bytes([3, 100, 4, 0, 1, 65, 128, 34, 3, 23, 1200])
+    end function
+
+    ! On the busy sheet node 2 sends 1,000 of subdomain 0 to node 0 and 7 to node 1; of subdomain 1 node 0 sends 3 to node 1, and
+    ! node 1 sends 20 to node 2. Refused are a move from node 0 to itself, moves of 2 nodes, and 24 where node 1 has 23.
     subroutine check_traffic
         character(len=*), parameter :: lines(4) = [' 0          3       1000', ' 1         20         10', &
                                                    ' 2       1007         20', '==       1030       1030']
@@ -107,7 +115,7 @@ contains
         integer(c_int8_t) :: busy(44), traffic(40)
         integer :: k
 
-        busy = words_to_bytes([3, 100, 4, 0, 1, 65, 128, 34, 3, 23, 1200])
+        busy = busy_sheet()
         traffic = words_to_bytes([3, 4, 128, 129, 4097, 4162, 1000, 7, 3, 20])
         page = repeat('~', len(page))
         written = firrozka_traffic_page(busy, size(busy, kind=c_size_t), traffic, size(traffic, kind=c_size_t), &
@@ -135,6 +143,79 @@ contains
         page = repeat('~', len(page))
         written = firrozka_traffic_page(busy, size(busy, kind=c_size_t), traffic, size(traffic, kind=c_size_t), page, page_len)
         call same([written%refusal, written%bytes, verify(page, '~', kind=c_int32_t)], [integer :: refusal, 0, 0])
+    end subroutine
+
+    ! The archive of the busy sheet, with another word at a place, which is counted from 0. Its cells are holder and subdomain 0 0,
+    ! 0 1, 1 1 and 2 0, and stand at positions 0, 1, 3 and 8.
+    function busy_archive(place, word) result(archive)
+        integer, intent(in) :: place, word
+        integer(c_int8_t) :: archive(firrozka_archive_bytes)
+        integer :: words(0:4097)
+
+        words = 0
+        words(0:1) = [3, 100]
+        words([2, 3, 5, 10]) = [34, 3, 23, 1200]
+        words(place) = word
+        archive = words_to_bytes(words)
+    end function
+
+    subroutine check_write_archive
+        integer(c_int8_t) :: archive(firrozka_archive_bytes + 4), expected(firrozka_archive_bytes)
+
+        expected = busy_archive(0, 3)
+        archive = untouched
+        written = firrozka_write_archive(busy_sheet(), 44_c_size_t, archive, size(archive, kind=c_size_t))
+        call same([written%refusal, written%bytes], [0, 16392])
+        call same([count(archive(:16392) /= expected, kind=c_int32_t), count(archive(16393:) /= untouched, kind=c_int32_t)], [0, 0])
+        ! A buffer of just this length.
+        written = firrozka_write_archive(busy_sheet(), 44_c_size_t, archive, firrozka_archive_bytes)
+        call same([written%refusal, written%bytes], [0, 16392])
+
+        archive = untouched
+        written = firrozka_write_archive(busy_sheet(), 43_c_size_t, archive, firrozka_archive_bytes)
+        call same([written%refusal, written%bytes], [integer :: firrozka_sheet_length, 0])
+        written = firrozka_write_archive(busy_sheet(), 44_c_size_t, archive, firrozka_archive_bytes - 1)
+        call same([written%refusal, written%bytes], [integer :: firrozka_archive_buffer, 0])
+        call same([count(archive /= untouched, kind=c_int32_t)], [0])
+    end subroutine
+
+    ! Refused are 65 nodes, 100 percent, a count of subdomain 3 and one of holder 3, a particle too many, and a sum that would be
+    ! 1,226 in 32 bits.
+    subroutine check_read_archive
+        integer(c_int8_t) :: busy(44)
+
+        busy = busy_sheet()
+        next = untouched
+        written = firrozka_read_archive(busy_archive(0, 3), firrozka_archive_bytes, next, firrozka_sheet_bytes)
+        call same([written%refusal, written%bytes], [0, 44])
+        call same([count(next(:44) /= busy, kind=c_int32_t), count(next(45:) /= untouched, kind=c_int32_t)], [0, 0])
+        ! A buffer of just this length.
+        written = firrozka_read_archive(busy_archive(0, 3), firrozka_archive_bytes, next, 44_c_size_t)
+        call same([written%refusal, written%bytes], [0, 44])
+
+        ! 54 comes before 2.
+        next = untouched
+        written = firrozka_read_archive(busy_archive(0, 65), firrozka_archive_bytes - 1, next, firrozka_sheet_bytes)
+        call same([written%refusal, written%bytes], [integer :: firrozka_archive_length, 0])
+        written = firrozka_read_archive(busy_archive(0, 3), firrozka_archive_bytes, next, 43_c_size_t)
+        call same([written%refusal, written%bytes], [integer :: firrozka_archive_buffer, 0])
+        call same([count(next /= untouched, kind=c_int32_t)], [0])
+        call check_not_read(firrozka_sheet_nodes, 0, 65)
+        call check_not_read(firrozka_sheet_tolerance, 1, 1000)
+        call check_not_read(firrozka_archive_count, 2 + 5, 1)
+        call check_not_read(firrozka_archive_count, 2 + 10, 1)
+        call check_not_read(firrozka_archive_count, 2, 1000000001 - 1226)
+        call check_not_read(firrozka_archive_count, 2 + 2, -34)
+    end subroutine
+
+    ! The archive with another word at a place is refused, and the buffer is left alone.
+    subroutine check_not_read(refusal, place, word)
+        integer(c_int32_t), intent(in) :: refusal
+        integer, intent(in) :: place, word
+
+        next = untouched
+        written = firrozka_read_archive(busy_archive(place, word), firrozka_archive_bytes, next, firrozka_sheet_bytes)
+        call same([written%refusal, written%bytes, count(next /= untouched, kind=c_int32_t)], [integer :: refusal, 0, 0])
     end subroutine
 
     ! Words of all four bytes, both ways, from integers of either size.

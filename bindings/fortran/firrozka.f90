@@ -13,16 +13,16 @@ module firrozka
     public :: firrozka_version
     public :: firrozka_read_sheet, firrozka_read_plan, firrozka_read_moves
     public :: firrozka_weigh, firrozka_plan_step, firrozka_carry_out, firrozka_join_sheets
-    public :: firrozka_traffic_page, firrozka_tree_in_force
+    public :: firrozka_traffic_page, firrozka_write_archive, firrozka_read_archive, firrozka_tree_in_force
     public :: words_to_bytes, word_at
 
-    ! The version that this module was written for, 100 × major + minor: 1.4 is 104. firrozka_version() is the archive's own.
-    integer(c_int32_t), parameter, public :: firrozka_module_version = 104
+    ! The version that this module was written for, 100 × major + minor: 1.5 is 105. firrozka_version() is the library's own.
+    integer(c_int32_t), parameter, public :: firrozka_module_version = 105
 
-    ! Buffers of so many bytes are long enough for every call.
+    ! Buffers of so many bytes are long enough for every call. Every archive has just so many.
     integer(c_size_t), parameter, public :: &
         firrozka_sheet_bytes = 32780, firrozka_plan_bytes = 524, firrozka_moves_bytes = 32264, firrozka_least_bytes = 256, &
-        firrozka_page_bytes = 1625
+        firrozka_page_bytes = 1625, firrozka_archive_bytes = 16392
 
     ! The kind of a plan.
     integer(c_int32_t), parameter, public :: firrozka_primary = 0, firrozka_kept = 1, firrozka_rebuilt = 2
@@ -31,7 +31,7 @@ module firrozka
     integer(c_int32_t), parameter, public :: firrozka_old_plan = 1, firrozka_new_plan = 2
 
     ! Why an operation refuses. Its checks run in the order of its numbers, those of the sheet and of the other record first; only
-    ! join sheets has a 7 behind 51.
+    ! join sheets has a 7 behind 51, and read archive 2 and 3 behind 54.
     integer(c_int32_t), parameter, public :: &
         firrozka_accepted = 0, &
         ! sheet
@@ -73,7 +73,12 @@ module firrozka
         firrozka_sheets_differ = 51, & ! the N or the t of the two sheets differ
         firrozka_joined_buffer = 52, & ! the buffer is too short
         ! traffic page
-        firrozka_page_buffer = 53 ! the buffer is under 25 × (N+1) bytes
+        firrozka_page_buffer = 53, & ! the buffer is under 25 × (N+1) bytes
+        ! archive, which also has a sheet's 2 and 3
+        firrozka_archive_length = 54, & ! the length is not 16,392 bytes
+        firrozka_archive_count = 55, &  ! a count is above 0 at a node not below N, or the sum is above 1,000,000,000
+        ! write archive, read archive
+        firrozka_archive_buffer = 56 ! the buffer is too short
 
     ! The answers: 0 or a refusal number, and the values named, all 0 in a refusal. The tolerance t is in tenths of a percent.
     type, bind(c), public :: firrozka_sheet
@@ -183,6 +188,24 @@ module firrozka
             integer(c_int8_t), intent(in) :: sheet(*), moves(*)
             character(kind=c_char), intent(inout) :: page(*)
             integer(c_size_t), value :: sheet_len, moves_len, page_len
+            type(firrozka_written) :: answer
+        end function
+
+        ! Every archive has firrozka_archive_bytes.
+        function firrozka_write_archive(sheet, sheet_len, archive, archive_len) bind(c) result(answer)
+            import :: c_int8_t, c_size_t, firrozka_written
+            integer(c_int8_t), intent(in) :: sheet(*)
+            integer(c_int8_t), intent(inout) :: archive(*)
+            integer(c_size_t), value :: sheet_len, archive_len
+            type(firrozka_written) :: answer
+        end function
+
+        ! 2 and 3 are here of the archive.
+        function firrozka_read_archive(archive, archive_len, sheet, sheet_len) bind(c) result(answer)
+            import :: c_int8_t, c_size_t, firrozka_written
+            integer(c_int8_t), intent(in) :: archive(*)
+            integer(c_int8_t), intent(inout) :: sheet(*)
+            integer(c_size_t), value :: archive_len, sheet_len
             type(firrozka_written) :: answer
         end function
 
