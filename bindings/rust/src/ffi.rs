@@ -1,4 +1,4 @@
-//! The archive as it is: its C declarations, their answers, and a safe function
+//! The library as it is: its C declarations, their answers, and a safe function
 //! for each that takes slices. Elsewhere in this crate nothing is unsafe.
 //!
 //! "An answer carries 0 or a refusal number, and the values named." The answers
@@ -56,8 +56,8 @@ pub struct StepAnswer {
     pub moves_bytes: u32,
 }
 
-/// *Carry out*, *join sheets* and *traffic page* give the length in bytes of what
-/// they wrote.
+/// *Carry out*, *join sheets*, *traffic page*, *write archive* and *read archive*
+/// give the length in bytes of what they wrote.
 #[repr(C)]
 #[derive(Clone, Copy, Debug, Default, PartialEq, Eq)]
 pub struct WrittenAnswer {
@@ -130,6 +130,18 @@ extern "C" {
         page: *mut u8,
         page_len: usize,
     ) -> WrittenAnswer;
+    fn firrozka_write_archive(
+        sheet: *const u8,
+        sheet_len: usize,
+        archive: *mut u8,
+        archive_len: usize,
+    ) -> WrittenAnswer;
+    fn firrozka_read_archive(
+        archive: *const u8,
+        archive_len: usize,
+        sheet: *mut u8,
+        sheet_len: usize,
+    ) -> WrittenAnswer;
     fn firrozka_tree_in_force(
         old: *const u8,
         old_len: usize,
@@ -156,36 +168,45 @@ fn write<A>(function: Write<A>, first: &[u8], second: &[u8], out: &mut [u8]) -> 
     }
 }
 
-/// The archive's version, 100 × major + minor.
+/// A function that reads one record and writes to one buffer.
+type Convert = unsafe extern "C" fn(*const u8, usize, *mut u8, usize) -> WrittenAnswer;
+
+fn convert(function: Convert, record: &[u8], out: &mut [u8]) -> WrittenAnswer {
+    // SAFETY: pointers and lengths are those of slices that outlive the call,
+    // and nobody else has the one that is written.
+    unsafe { function(record.as_ptr(), record.len(), out.as_mut_ptr(), out.len()) }
+}
+
+/// The library's version, 100 × major + minor.
 pub fn version() -> u32 {
     // SAFETY: nothing is passed.
     unsafe { firrozka_version() }
 }
 
-/// *Read sheet*, as the archive does it.
+/// *Read sheet*, as the library does it.
 pub fn read_sheet(sheet: &[u8]) -> SheetAnswer {
     // SAFETY: pointer and length are those of a slice that outlives the call.
     unsafe { firrozka_read_sheet(sheet.as_ptr(), sheet.len()) }
 }
 
-/// *Read plan*, as the archive does it.
+/// *Read plan*, as the library does it.
 pub fn read_plan(plan: &[u8]) -> PlanAnswer {
     // SAFETY: pointer and length are those of a slice that outlives the call.
     unsafe { firrozka_read_plan(plan.as_ptr(), plan.len()) }
 }
 
-/// *Read moves*, as the archive does it.
+/// *Read moves*, as the library does it.
 pub fn read_moves(moves: &[u8]) -> MovesAnswer {
     // SAFETY: pointer and length are those of a slice that outlives the call.
     unsafe { firrozka_read_moves(moves.as_ptr(), moves.len()) }
 }
 
-/// *Weigh*, as the archive does it.
+/// *Weigh*, as the library does it.
 pub fn weigh(sheet: &[u8], plan: &[u8], least: &mut [u8]) -> WeighedAnswer {
     write(firrozka_weigh, sheet, plan, least)
 }
 
-/// *Plan a step*, as the archive does it.
+/// *Plan a step*, as the library does it.
 pub fn plan_step(sheet: &[u8], old: &[u8], plan: &mut [u8], moves: &mut [u8]) -> StepAnswer {
     // SAFETY: pointers and lengths are those of slices that outlive the call,
     // and nobody else has the two that are written.
@@ -203,22 +224,32 @@ pub fn plan_step(sheet: &[u8], old: &[u8], plan: &mut [u8], moves: &mut [u8]) ->
     }
 }
 
-/// *Carry out*, as the archive does it.
+/// *Carry out*, as the library does it.
 pub fn carry_out(sheet: &[u8], moves: &[u8], next: &mut [u8]) -> WrittenAnswer {
     write(firrozka_carry_out, sheet, moves, next)
 }
 
-/// *Join sheets*, as the archive does it.
+/// *Join sheets*, as the library does it.
 pub fn join_sheets(first: &[u8], second: &[u8], out: &mut [u8]) -> WrittenAnswer {
     write(firrozka_join_sheets, first, second, out)
 }
 
-/// *Traffic page*, as the archive does it.
+/// *Traffic page*, as the library does it.
 pub fn traffic_page(sheet: &[u8], moves: &[u8], page: &mut [u8]) -> WrittenAnswer {
     write(firrozka_traffic_page, sheet, moves, page)
 }
 
-/// *Tree in force*, as the archive does it.
+/// *Write archive*, as the library does it.
+pub fn write_archive(sheet: &[u8], archive: &mut [u8]) -> WrittenAnswer {
+    convert(firrozka_write_archive, sheet, archive)
+}
+
+/// *Read archive*, as the library does it.
+pub fn read_archive(archive: &[u8], sheet: &mut [u8]) -> WrittenAnswer {
+    convert(firrozka_read_archive, archive, sheet)
+}
+
+/// *Tree in force*, as the library does it.
 pub fn tree_in_force(old: &[u8], new: &[u8]) -> PartAnswer {
     // SAFETY: pointers and lengths are those of slices that outlive the call.
     unsafe { firrozka_tree_in_force(old.as_ptr(), old.len(), new.as_ptr(), new.len()) }

@@ -18,7 +18,7 @@
 //! }
 //! # Ok::<(), firrozka::Refusal>(())
 //! ```
-#![deny(unsafe_code)] // only ffi.rs, which calls the archive, lifts this
+#![deny(unsafe_code)] // only ffi.rs, which calls the library, lifts this
 #![warn(missing_docs)]
 
 pub mod ffi;
@@ -29,9 +29,9 @@ mod words;
 
 pub use ffi::version;
 pub use operations::{
-    carry_out, join_sheets, plan_step, read_moves, read_plan, read_sheet, traffic_page,
-    traffic_text, tree_in_force, weigh, Step, Weighed, LEAST_BYTES, MOVES_BYTES, NO_PLAN,
-    PAGE_BYTES, PLAN_BYTES, SHEET_BYTES, VERSION,
+    carry_out, join_sheets, plan_step, read_archive, read_moves, read_plan, read_sheet,
+    traffic_page, traffic_text, tree_in_force, weigh, write_archive, Step, Weighed, ARCHIVE_BYTES,
+    LEAST_BYTES, MOVES_BYTES, NO_PLAN, PAGE_BYTES, PLAN_BYTES, SHEET_BYTES, VERSION,
 };
 pub use records::{Cell, Kind, Move, Moves, NoKind, Node, Plan, Sheet};
 pub use refusal::Refusal;

@@ -8,7 +8,7 @@ use crate::words::Words;
 use std::str;
 
 /// The version that this crate was written for: 100 × major + minor.
-pub const VERSION: u32 = 104;
+pub const VERSION: u32 = 105;
 
 /// Enough for every sheet.
 pub const SHEET_BYTES: usize = 4 * (3 + 2 * 64 * 64);
@@ -24,6 +24,9 @@ pub const LEAST_BYTES: usize = 4 * 64;
 
 /// Enough for every traffic page.
 pub const PAGE_BYTES: usize = 25 * (64 + 1);
+
+/// The length of every archive.
+pub const ARCHIVE_BYTES: usize = 4 * (2 + 64 * 64);
 
 /// No old plan.
 pub const NO_PLAN: &[u8] = &[];
@@ -159,6 +162,23 @@ pub fn traffic_page<'a>(
 /// no refusal of this function.
 pub fn traffic_text(sheet: &[u8], moves: &[u8]) -> Result<String, Refusal> {
     traffic_page(sheet, moves, &mut [0; PAGE_BYTES]).map(String::from)
+}
+
+/// *Write archive*: writes the archive of a sheet to the front of the buffer:
+/// `ARCHIVE_BYTES`, whatever the sheet.
+///
+/// An archive is N, t and 4,096 counts. Bit i of the subdomain is bit 2i of a
+/// count's position, and bit i of the holder is bit 2i + 1.
+pub fn write_archive<'a>(sheet: &[u8], archive: &'a mut [u8]) -> Result<&'a [u8], Refusal> {
+    written(ffi::write_archive(sheet, archive), archive)
+}
+
+/// *Read archive*: writes the sheet that an archive holds to the front of the
+/// buffer. It is the sheet that was written to the archive, byte for byte.
+///
+/// Refusals 2 and 3 are of the archive: `ArchiveNodes` and `ArchiveTolerance`.
+pub fn read_archive<'a>(archive: &[u8], sheet: &'a mut [u8]) -> Result<&'a [u8], Refusal> {
+    written(ffi::read_archive(archive, sheet), sheet).map_err(Refusal::of_archive)
 }
 
 /// *Tree in force*: the helpands, a part of one of the two plans, or an empty

@@ -12,7 +12,8 @@ macro_rules! refusals {
         }
 
         impl Refusal {
-            /// All of them, by rising number.
+            /// All of them: by rising number, and then those that have the number of
+            /// another.
             pub const ALL: &'static [Refusal] = &[$(Refusal::$name),*];
 
             /// Its name in this enum.
@@ -75,10 +76,20 @@ refusals! {
     SheetsDiffer = 51, "join sheets", "the N or the t of the two sheets differ";
     JoinedBuffer = 52, "join sheets", "the buffer is too short";
     PageBuffer = 53, "traffic page", "the buffer is under 25 × (N+1) bytes";
+    ArchiveLength = 54, "archive", "the length is not 16,392 bytes";
+    ArchiveCount = 55, "archive", "a count is above 0 at a node not below N, \
+        or the sum is above 1,000,000,000";
+    ArchiveBuffer = 56, "write archive, read archive", "the buffer is too short";
+    // Numbers 2 and 3 once more.
+    ArchiveNodes = 1002, "archive", "N is not 1 to 64";
+    ArchiveTolerance = 1003, "archive", "t is not 1 to 999";
 }
 
+/// Where two refusals share a number, this is added to the value of the second.
+const AGAIN: u32 = 1000;
+
 impl Refusal {
-    /// The refusal with this number.
+    /// The refusal with this number. 2 and 3 are those of a sheet.
     pub fn from_number(number: u32) -> Option<Refusal> {
         let all = Refusal::ALL.iter().copied();
         all.into_iter().find(|refusal| refusal.number() == number)
@@ -86,7 +97,16 @@ impl Refusal {
 
     /// Its number in documents 01 and 02.
     pub fn number(self) -> u32 {
-        self as u32
+        self as u32 % AGAIN
+    }
+
+    /// The refusal where an archive was read: it has 2 and 3, too.
+    pub(crate) fn of_archive(self) -> Refusal {
+        match self {
+            Refusal::SheetNodes => Refusal::ArchiveNodes,
+            Refusal::SheetTolerance => Refusal::ArchiveTolerance,
+            other => other,
+        }
     }
 }
 

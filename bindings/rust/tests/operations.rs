@@ -1,10 +1,11 @@
-//! The wrapper over the archive: document 01's steps, refusals and parts, and
-//! document 02's joined sheets and traffic pages.
+//! The wrapper over the library: document 01's steps, refusals and parts, and
+//! document 02's joined sheets, traffic pages and archives.
 
 use firrozka::{
-    carry_out, join_sheets, plan_step, read_moves, read_plan, read_sheet, to_bytes, traffic_page,
-    traffic_text, tree_in_force, weigh, Cell, Kind, Move, Refusal, Step, Words, LEAST_BYTES,
-    MOVES_BYTES, NO_PLAN, PAGE_BYTES, PLAN_BYTES, SHEET_BYTES,
+    carry_out, join_sheets, plan_step, read_archive, read_moves, read_plan, read_sheet, to_bytes,
+    traffic_page, traffic_text, tree_in_force, weigh, write_archive, Cell, Kind, Move, Refusal,
+    Step, Words, ARCHIVE_BYTES, LEAST_BYTES, MOVES_BYTES, NO_PLAN, PAGE_BYTES, PLAN_BYTES,
+    SHEET_BYTES,
 };
 use std::thread;
 
@@ -32,6 +33,22 @@ const PAGE: &str = concat!(
     " 2       1007         20\n",
     "==       1030       1030\n",
 );
+
+/// An archive by positions, which are written in base 4: each digit is twice a bit
+/// of the holder and a bit of the subdomain.
+fn archive(n: u32, t: u32, counts: &[(&str, u32)]) -> Vec<u8> {
+    let mut words = [0; 2 + 4096];
+    words[..2].copy_from_slice(&[n, t]);
+    for (position, count) in counts {
+        words[2 + usize::from_str_radix(position, 4).expect("it is in base 4")] = *count;
+    }
+    to_bytes(&words)
+}
+
+/// The archive of the busy sheet: holder and subdomain are 0 0, 0 1, 1 1 and 2 0.
+fn busy_archive() -> Vec<u8> {
+    archive(3, 100, &[("0", 34), ("1", 3), ("3", 23), ("20", 1200)])
+}
 
 struct Buffers {
     plan: [u8; PLAN_BYTES],
@@ -332,6 +349,126 @@ fn where_there_is_no_page_the_buffer_is_untouched() {
     }
     assert_eq!(traffic_text(&[], &[]), Err(Refusal::SheetShort));
     assert_eq!(traffic_text(&sheet, &[]), Err(Refusal::MovesShort));
+}
+
+#[test]
+fn a_sheet_goes_to_the_archive_and_back() -> Result<(), Refusal> {
+    let (sheet, expected) = (to_bytes(&BUSY), busy_archive());
+    let mut archive = [0xa5; ARCHIVE_BYTES + 4];
+    assert_eq!(write_archive(&sheet, &mut archive)?, expected);
+    assert_eq!(archive[ARCHIVE_BYTES..], [0xa5; 4]);
+    let mut restored = [0xa5; 48];
+    assert_eq!(read_archive(&expected, &mut restored)?, sheet);
+    assert_eq!(restored[44..], [0xa5; 4]);
+    // Buffers of just these lengths.
+    let mut archive = [0xa5; ARCHIVE_BYTES];
+    assert_eq!(write_archive(&sheet, &mut archive)?, expected);
+    assert_eq!(read_archive(&archive, &mut [0xa5; 44])?, sheet);
+    Ok(())
+}
+
+#[test]
+fn an_archive_is_in_z_order() -> Result<(), Refusal> {
+    // Holder 37 is 100101 in binary and subdomain 22 is 010110; 63 is all ones.
+    let cells = [0, 63, 37 * 64 + 22, 63 * 64, 63 * 64 + 63];
+    let counts = [7, 8, 9, 10, 999_999_966];
+    let sheet = to_bytes(&[&[64, 1, 5][..], &cells, &counts].concat());
+    let positions = ["0", "111111", "210312", "222222", "333333"];
+    let counts: Vec<(&str, u32)> = positions.into_iter().zip(counts).collect();
+    let expected = archive(64, 1, &counts);
+    assert_eq!(write_archive(&sheet, &mut [0; ARCHIVE_BYTES])?, expected);
+    assert_eq!(read_archive(&expected, &mut [0; SHEET_BYTES])?, sheet);
+    Ok(())
+}
+
+#[test]
+fn the_longest_and_the_shortest_sheet_are_archived() -> Result<(), Refusal> {
+    let (longest, _) = long_chain();
+    assert_eq!(longest.len(), SHEET_BYTES);
+    for sheet in [longest, to_bytes(&[1, 999, 0])] {
+        let mut archive = [0xa5; ARCHIVE_BYTES];
+        assert_eq!(write_archive(&sheet, &mut archive)?.len(), ARCHIVE_BYTES);
+        assert_eq!(read_archive(&archive, &mut [0; SHEET_BYTES])?, sheet);
+    }
+    Ok(())
+}
+
+#[test]
+fn where_there_is_no_archive_the_buffer_is_untouched() {
+    // In the order of the checks; the buffer is a byte too short throughout.
+    let sheets: [(&[u32], Refusal); 8] = [
+        (&[3, 100], Refusal::SheetShort),
+        (&[65, 100, 0], Refusal::SheetNodes),
+        (&[3, 1000, 0], Refusal::SheetTolerance),
+        (&[3, 100, 10], Refusal::SheetEntries),
+        (&[3, 100, 1, 0], Refusal::SheetLength),
+        (&[3, 100, 1, 3, 1], Refusal::SheetCell),
+        (&[3, 100, 1, 0, 0], Refusal::SheetCount),
+        (&BUSY, Refusal::ArchiveBuffer),
+    ];
+    for (words, refusal) in sheets {
+        let mut archive = [0xa5; ARCHIVE_BYTES - 1];
+        let written = write_archive(&to_bytes(words), &mut archive);
+        assert_eq!(written, Err(refusal));
+        assert_eq!(archive, [0xa5; ARCHIVE_BYTES - 1]);
+    }
+}
+
+/// This archive is not read, and a buffer that is a byte too short is left alone.
+fn assert_not_read(archive: &[u8], refusal: Refusal) {
+    let mut sheet = [0xa5; 43];
+    assert_eq!(read_archive(archive, &mut sheet), Err(refusal));
+    assert_eq!(sheet, [0xa5; 43]);
+}
+
+#[test]
+fn archives_that_are_not_read_leave_the_buffer_untouched() {
+    // In the order of the checks. Up to 3 a count is wrong, too.
+    let much = [("3", u32::MAX)];
+    let short = &archive(0, 0, &much)[..ARCHIVE_BYTES - 1];
+    assert_not_read(short, Refusal::ArchiveLength);
+    let long = [&archive(0, 0, &much)[..], &[0]].concat();
+    assert_not_read(&long, Refusal::ArchiveLength);
+    for n in [0, 65] {
+        assert_not_read(&archive(n, 0, &much), Refusal::ArchiveNodes);
+    }
+    for t in [0, 1000] {
+        assert_not_read(&archive(3, t, &much), Refusal::ArchiveTolerance);
+    }
+    let counts: [&[(&str, u32)]; 4] = [
+        // Subdomain 3, and holder 3.
+        &[("0", 34), ("11", 1)],
+        &[("0", 34), ("22", 1)],
+        // A particle too many, and a sum that would be 1 in 32 bits.
+        &[("0", 1), ("1", 1_000_000_000)],
+        &[("0", 2), ("1", u32::MAX)],
+    ];
+    for counts in counts {
+        assert_not_read(&archive(3, 100, counts), Refusal::ArchiveCount);
+    }
+    assert_not_read(&busy_archive(), Refusal::ArchiveBuffer);
+}
+
+#[test]
+fn an_archive_is_refused_as_one() {
+    let said = |archive: &[u8]| {
+        let read = read_archive(archive, &mut [0; SHEET_BYTES]).map(<[u8]>::to_vec);
+        read.expect_err("it is refused").to_string()
+    };
+    let nodes = said(&archive(65, 100, &[]));
+    assert_eq!(nodes, "refused 2: archive: N is not 1 to 64");
+    let tolerance = said(&archive(3, 1000, &[]));
+    assert_eq!(tolerance, "refused 3: archive: t is not 1 to 999");
+    let length = said(&to_bytes(&BUSY));
+    assert_eq!(
+        length,
+        "refused 54: archive: the length is not 16,392 bytes"
+    );
+    // What is refused of a sheet is the sheet's.
+    let sheet = to_bytes(&[65, 100, 0]);
+    let written = write_archive(&sheet, &mut []).map(<[u8]>::to_vec);
+    let said = written.expect_err("it is refused").to_string();
+    assert_eq!(said, "refused 2: sheet: N is not 1 to 64");
 }
 
 /// The stack that docs/USING.md asks for.

@@ -2,7 +2,8 @@
 
 use firrozka::ffi::PartAnswer;
 use firrozka::{
-    version, Refusal, LEAST_BYTES, MOVES_BYTES, PAGE_BYTES, PLAN_BYTES, SHEET_BYTES, VERSION,
+    to_bytes, version, write_archive, Refusal, Words, ARCHIVE_BYTES, LEAST_BYTES, MOVES_BYTES,
+    PAGE_BYTES, PLAN_BYTES, SHEET_BYTES, VERSION,
 };
 use std::collections::BTreeSet;
 use std::fs;
@@ -25,21 +26,47 @@ fn part(name: &str, opening: &str, end: &str) -> String {
     one_line(rest.split_once(end).map_or(rest, |(part, _)| part))
 }
 
-/// The text has these lines, one for each refusal, and no other that has the mark.
-fn has_all(text: &str, mark: &str, line: fn(Refusal) -> String) {
-    for line in Refusal::ALL.iter().copied().map(line) {
+/// The text has a line for each of these refusals, and no other that has the mark.
+fn has_all(text: &str, mark: &str, all: &[Refusal], line: fn(Refusal) -> String) {
+    for line in all.iter().copied().map(line) {
         assert!(text.contains(&line), "missing: {line}");
     }
-    assert_eq!(text.matches(mark).count(), Refusal::ALL.len());
+    assert_eq!(text.matches(mark).count(), all.len());
+}
+
+/// The refusals that C and Fortran have names for: one for each number.
+fn named() -> Vec<Refusal> {
+    let all = Refusal::ALL.iter().copied();
+    all.filter(|refusal| Refusal::from_number(refusal.number()) == Some(*refusal))
+        .collect()
 }
 
 #[test]
 fn the_formats_page_has_the_refusals() {
     let text = part("docs/FORMATS.md", "| number | of | reason |", "\n\n");
-    has_all(&text, "| |", |refusal| {
+    has_all(&text, "| |", Refusal::ALL, |refusal| {
         let (number, of, reason) = (refusal.number(), refusal.subject(), refusal.reason());
         format!("| {number} | {of} | {reason} |")
     });
+}
+
+/// Its picture has a line for each holder, and a position for each subdomain.
+#[test]
+fn the_formats_page_has_the_order_of_an_archive() {
+    let text = file("docs/FORMATS.md");
+    let (_, picture) = text.split_once(" 7   subdomain\n").expect("it is there");
+    for (holder, line) in (0..8).zip(picture.lines()) {
+        let numbers = line.split_whitespace().map(str::parse);
+        let numbers: Vec<u32> = numbers.collect::<Result<_, _>>().expect("all are numbers");
+        assert_eq!((numbers[0], numbers.len()), (holder, 9));
+        for (subdomain, position) in (0..).zip(&numbers[1..]) {
+            let sheet = to_bytes(&[8, 1, 1, holder * 64 + subdomain, 7]);
+            let mut archive = [0; ARCHIVE_BYTES];
+            let archive = write_archive(&sheet, &mut archive).expect("it is written");
+            let count = Words::of(archive).get(2 + *position as usize);
+            assert_eq!(count, Some(7), "{holder} {subdomain}");
+        }
+    }
 }
 
 /// `SheetShort` as C writes it: `SHEET_SHORT`.
@@ -56,7 +83,7 @@ fn c_name(refusal: Refusal) -> String {
 fn the_header_has_the_refusals() {
     let text = part("include/firrozka.h", "FIRROZKA_ACCEPTED = 0,", "};");
     // The last has no comma.
-    has_all(&text.replace(", /*", " /*"), " = ", |refusal| {
+    has_all(&text.replace(", /*", " /*"), " = ", &named(), |refusal| {
         let (number, reason) = (refusal.number(), refusal.reason());
         format!("FIRROZKA{} = {number} /* {reason} */", c_name(refusal))
     });
@@ -67,7 +94,7 @@ fn the_fortran_module_has_the_refusals() {
     let text = part("bindings/fortran/firrozka.f90", "_accepted = 0, &", "\n\n");
     // The last has no comma, and one reason goes on in a second line.
     let text = text.replace(", &", "").replace(" !", "");
-    has_all(&text, " = ", |refusal| {
+    has_all(&text, " = ", &named(), |refusal| {
         let name = c_name(refusal).to_lowercase();
         format!("firrozka{name} = {} {}", refusal.number(), refusal.reason())
     });
@@ -75,8 +102,8 @@ fn the_fortran_module_has_the_refusals() {
 
 #[test]
 fn the_python_module_has_the_refusals() {
-    let text = part("bindings/python/firrozka.py", "REFUSALS = {", "}");
-    has_all(&text, ": (", |refusal| {
+    let text = part("bindings/python/firrozka.py", "REFUSALS = {", "class");
+    has_all(&text, ": (", Refusal::ALL, |refusal| {
         let (number, of, reason) = (refusal.number(), refusal.subject(), refusal.reason());
         format!("{number}: (\"{of}\", \"{reason}\"),")
     });
@@ -114,6 +141,7 @@ fn all_have_the_sizes_of_buffers() {
         ("moves", MOVES_BYTES),
         ("least", LEAST_BYTES),
         ("page", PAGE_BYTES),
+        ("archive", ARCHIVE_BYTES),
     ];
     let c = part("include/firrozka.h", "enum {", "};");
     let fortran = part("bindings/fortran/firrozka.f90", "parameter", "interface");
@@ -127,7 +155,7 @@ fn all_have_the_sizes_of_buffers() {
     }
 }
 
-/// The archive, the definition that it is proved against, the header, the
+/// The library, the definition that it is proved against, the header, the
 /// wrappers, what cargo locked, and the newest heading of the change log.
 #[test]
 fn all_have_the_version() {
@@ -191,10 +219,18 @@ fn all_say_what_the_tree_in_force_is_without_an_old_plan_and_in_kind_0() {
 
 #[test]
 fn numbers_lead_to_refusals_and_back() {
-    for &refusal in Refusal::ALL {
-        assert_eq!(Refusal::from_number(refusal.number()), Some(refusal));
+    // Those of an archive share their numbers with a sheet's.
+    let shared = [
+        (Refusal::ArchiveNodes, Refusal::SheetNodes),
+        (Refusal::ArchiveTolerance, Refusal::SheetTolerance),
+    ];
+    for (of_archive, of_sheet) in shared {
+        assert_eq!(Refusal::from_number(of_archive.number()), Some(of_sheet));
     }
-    assert!(Refusal::ALL.windows(2).all(|pair| pair[0] < pair[1]));
+    assert_eq!(named().len() + shared.len(), Refusal::ALL.len());
+    let numbers: Vec<u32> = named().into_iter().map(Refusal::number).collect();
+    assert!(numbers.windows(2).all(|pair| pair[0] < pair[1]));
+    assert_eq!(numbers.last(), Some(&56));
     assert_eq!(Refusal::from_number(0), None);
     assert_eq!(Refusal::from_number(8), None);
     let text = Refusal::SheetLength.to_string();
