@@ -1,10 +1,10 @@
 """Firrozka for Python: the operations, and records taken apart for looking at.
 
-A record is any bytes-like object: bytes, bytearray, memoryview, array and so on; docs/FORMATS.md describes the three. Records that are
-made are bytes, and the traffic page is a str. Names are document 01's and 02's.
+A record is any bytes-like object: bytes, bytearray, memoryview, array and so on; docs/FORMATS.md describes them. Records that are made
+are bytes, and the traffic page is a str. Names are document 01's and 02's.
 
-ctypes needs a shared object: bindings/python/build makes target/libfirrozka.so from the archive. It is looked for there, or in the file
-that FIRROZKA_SO names. The proof covers the archive, not this module.
+ctypes needs a shared object: bindings/python/build makes target/libfirrozka.so from the library. It is looked for there, or in the file
+that FIRROZKA_SO names. The proof covers the library, not this module.
 """
 
 import ctypes
@@ -13,15 +13,16 @@ import struct
 from pathlib import Path
 from typing import NamedTuple
 
-# The version that this module was written for, 100 × major + minor: 1.4 is 104. version() is the archive's own.
-VERSION = 104
+# The version that this module was written for, 100 × major + minor: 1.5 is 105. version() is the library's own.
+VERSION = 105
 
-# Buffers of so many bytes are long enough for every call.
+# Buffers of so many bytes are long enough for every call. Every archive has just so many.
 SHEET_BYTES = 32780
 PLAN_BYTES = 524
 MOVES_BYTES = 32264
 LEAST_BYTES = 256
 PAGE_BYTES = 1625
+ARCHIVE_BYTES = 16392
 
 # The kind of a plan, by its number.
 KINDS = ("primary", "kept", "rebuilt")
@@ -64,20 +65,37 @@ REFUSALS = {
     51: ("join sheets", "the N or the t of the two sheets differ"),
     52: ("join sheets", "the buffer is too short"),
     53: ("traffic page", "the buffer is under 25 × (N+1) bytes"),
+    54: ("archive", "the length is not 16,392 bytes"),
+    55: ("archive", "a count is above 0 at a node not below N, or the sum is above 1,000,000,000"),
+    56: ("write archive, read archive", "the buffer is too short"),
+}
+
+# The numbers of a sheet that read archive has, too.
+ARCHIVE_REFUSALS = {
+    2: ("archive", "N is not 1 to 64"),
+    3: ("archive", "t is not 1 to 999"),
 }
 
 
 class Refused(Exception):
     """An operation refuses: its number, what it belongs to, and the reason in words."""
 
+    refusals = REFUSALS
+
     def __init__(self, number):
         # The arguments are what copying and pickling make the exception from again.
         super().__init__(number)
         self.number = number
-        self.subject, self.reason = REFUSALS[number]
+        self.subject, self.reason = self.refusals[number]
 
     def __str__(self):
         return f"refused {self.number}: {self.subject}: {self.reason}"
+
+
+class ArchiveRefused(Refused):
+    """Read archive refuses: 2 and 3 belong to the archive."""
+
+    refusals = {**REFUSALS, **ARCHIVE_REFUSALS}
 
 
 class Cell(NamedTuple):
@@ -172,6 +190,8 @@ _FUNCTIONS = {
     "carry_out": (3, _WRITTEN),
     "join_sheets": (3, _WRITTEN),
     "traffic_page": (3, _WRITTEN),
+    "write_archive": (2, _WRITTEN),
+    "read_archive": (2, _WRITTEN),
     "tree_in_force": (2, _answer("source", "start", "length")),
 }
 
@@ -196,7 +216,7 @@ _LIBRARY = _load()
 
 
 def version():
-    """The archive's version, 100 × major + minor."""
+    """The library's version, 100 × major + minor."""
     return _LIBRARY.firrozka_version()
 
 
@@ -205,7 +225,8 @@ def _call(name, *slices):
     arguments = [part for record in slices for part in (record, len(record))]
     answer = getattr(_LIBRARY, "firrozka_" + name)(*arguments)
     if getattr(answer, "refusal", 0):
-        raise Refused(answer.refusal)
+        refused = ArchiveRefused if name == "read_archive" else Refused
+        raise refused(answer.refusal)
     return answer
 
 
@@ -282,6 +303,19 @@ def traffic_page(sheet, moves):
     A line has node, sent and received, in 2, 10 and 10 columns with a blank between; the last has == and the two totals.
     """
     return _written("traffic_page", PAGE_BYTES, _bytes("sheet", sheet), _bytes("moves", moves)).decode("ascii")
+
+
+def write_archive(sheet):
+    """Write archive: the archive of a sheet, ARCHIVE_BYTES long whatever the sheet.
+
+    An archive is N, t and 4,096 counts. Bit i of the subdomain is bit 2i of a count's position, and bit i of the holder is bit 2i + 1.
+    """
+    return _written("write_archive", ARCHIVE_BYTES, _bytes("sheet", sheet))
+
+
+def read_archive(archive):
+    """Read archive: the sheet that was written to it, as bytes. A refusal raises ArchiveRefused, which is a Refused."""
+    return _written("read_archive", SHEET_BYTES, _bytes("archive", archive))
 
 
 def tree_in_force(old_plan, new_plan):

@@ -1,4 +1,4 @@
-"""The module over the archive: document 01's steps, refusals and parts, and document 02's joined sheets and traffic pages."""
+"""The module over the library: document 01's steps, refusals and parts, and document 02's joined sheets, traffic pages and archives."""
 
 import array
 import copy
@@ -31,6 +31,18 @@ PAGE = """\
 ==       1030       1030
 """
 
+
+def archive(n, t, counts):
+    """An archive by positions, which are written in base 4: each digit is twice a bit of the holder and a bit of the subdomain."""
+    words = [n, t] + [0] * 4096
+    for position, count in counts.items():
+        words[2 + int(position, 4)] = count
+    return firrozka.to_bytes(words)
+
+
+# Of the busy sheet holder and subdomain are 0 0, 0 1, 1 1 and 2 0.
+ARCHIVE = archive(3, 100, {"0": 34, "1": 3, "3": 23, "20": 1200})
+
 # Steps H and I: the old plan by its helpands, and the sheets.
 CHAIN = firrozka.to_bytes([3, 2, 36, 0, 0, 1, 0, 0, 0])
 SHEET_H = firrozka.to_bytes([3, 100, 2, 0, 65, 28, 72])
@@ -53,15 +65,15 @@ class Operations(unittest.TestCase):
         self.assertEqual(firrozka.join_sheets(INLET, SHEET), JOINED)
         self.assertEqual(firrozka.join_sheets(SHEET, firrozka.to_bytes([3, 100, 0])), SHEET)
 
-    def assert_unwritten(self, number, name, first, second, length):
+    def assert_unwritten(self, number, name, *records, length):
         buffer = ctypes.create_string_buffer(b"\xa5" * length, length)
         with self.assertRaises(firrozka.Refused) as caught:
-            firrozka._call(name, first, second, buffer)
+            firrozka._call(name, *records, buffer)
         self.assertEqual(caught.exception.number, number)
         self.assertEqual(buffer.raw, b"\xa5" * length)
 
     def assert_not_joined(self, number, second, length):
-        self.assert_unwritten(number, "join_sheets", SHEET, second, length)
+        self.assert_unwritten(number, "join_sheets", SHEET, second, length=length)
 
     def test_sheets_that_are_not_joined(self):
         other_nodes, other_tolerance = firrozka.to_bytes([2, 100, 0]), firrozka.to_bytes([3, 35, 0])
@@ -102,8 +114,90 @@ class Operations(unittest.TestCase):
             (53, BUSY, TRAFFIC),
         )
         for number, sheet, moves in cases:
-            self.assert_unwritten(number, "traffic_page", sheet, moves, len(PAGE) - 1)
+            self.assert_unwritten(number, "traffic_page", sheet, moves, length=len(PAGE) - 1)
         self.assertEqual(str(firrozka.Refused(53)), "refused 53: traffic page: the buffer is under 25 × (N+1) bytes")
+
+    def test_archives(self):
+        self.assertEqual(len(ARCHIVE), firrozka.ARCHIVE_BYTES)
+        self.assertEqual(firrozka.write_archive(BUSY), ARCHIVE)
+        self.assertEqual(firrozka.read_archive(ARCHIVE), BUSY)
+        # The bytes behind what is written stay as they were.
+        buffer = ctypes.create_string_buffer(b"\xa5" * 16400, 16400)
+        self.assertEqual(firrozka._call("write_archive", BUSY, buffer).bytes, 16392)
+        self.assertEqual(buffer.raw, ARCHIVE + b"\xa5" * 8)
+        buffer = ctypes.create_string_buffer(b"\xa5" * 50, 50)
+        self.assertEqual(firrozka._call("read_archive", ARCHIVE, buffer).bytes, 44)
+        self.assertEqual(buffer.raw, BUSY + b"\xa5" * 6)
+
+    def test_the_order_of_an_archive(self):
+        # Holder 37 is 100101 in binary and subdomain 22 is 010110, so the digits of the position are 2 1 0 3 1 2; 63 is all ones.
+        cells = [0, 63, 37 * 64 + 22, 63 * 64, 63 * 64 + 63]
+        sheet = firrozka.to_bytes([64, 1, 5, *cells, 7, 8, 9, 10, 999_999_966])
+        counts = {"0": 7, "111111": 8, "210312": 9, "222222": 10, "333333": 999_999_966}
+        self.assertEqual(firrozka.write_archive(sheet), archive(64, 1, counts))
+        self.assertEqual(firrozka.read_archive(archive(64, 1, counts)), sheet)
+
+    def test_the_longest_sheet_goes_to_the_archive_and_back(self):
+        sheet = firrozka.to_bytes([64, 999, 4096, *range(4096), *range(1, 4097)])
+        self.assertEqual(len(sheet), firrozka.SHEET_BYTES)
+        written = firrozka.write_archive(sheet)
+        # Cell 64 * holder + subdomain has the count 1 above it.
+        self.assertEqual(firrozka.to_words(written)[:10], [64, 999, 1, 2, 65, 66, 3, 4, 67, 68])
+        self.assertEqual(firrozka.read_archive(written), sheet)
+
+    def test_no_archive(self):
+        # In the order of the checks; the buffer is a byte too short throughout.
+        cases = (
+            (1, BUSY[:11]),
+            (2, firrozka.to_bytes([65, 100, 0])),
+            (3, firrozka.to_bytes([3, 1000, 0])),
+            (4, firrozka.to_bytes([3, 100, 10])),
+            (5, BUSY[:-1]),
+            (6, firrozka.to_bytes([3, 100, 1, 3, 1])),
+            (7, firrozka.to_bytes([3, 100, 1, 0, 0])),
+            (56, BUSY),
+        )
+        for number, sheet in cases:
+            self.assert_unwritten(number, "write_archive", sheet, length=firrozka.ARCHIVE_BYTES - 1)
+
+    def test_archives_that_are_not_read(self):
+        # In the order of the checks; the buffer is a byte too short throughout, and a count is wrong up to 3.
+        cases = (
+            (54, archive(0, 0, {"3": 2**32 - 1})[:-1]),
+            (54, archive(0, 0, {"3": 2**32 - 1}) + b"\0"),
+            (2, archive(0, 0, {"3": 2**32 - 1})),
+            (2, archive(65, 0, {"3": 2**32 - 1})),
+            (3, archive(3, 0, {"3": 2**32 - 1})),
+            (3, archive(3, 1000, {"3": 2**32 - 1})),
+            # Subdomain 3, and holder 3.
+            (55, archive(3, 100, {"0": 34, "11": 1})),
+            (55, archive(3, 100, {"0": 34, "22": 1})),
+            # A particle too many, and a sum that would be 1 in 32 bits.
+            (55, archive(3, 100, {"0": 1, "1": 1_000_000_000})),
+            (55, archive(3, 100, {"0": 2, "1": 2**32 - 1})),
+            (56, ARCHIVE),
+        )
+        for number, record in cases:
+            self.assert_unwritten(number, "read_archive", record, length=len(BUSY) - 1)
+
+    def assert_refused_archive(self, said, record):
+        with self.assertRaises(firrozka.Refused) as caught:
+            firrozka.read_archive(record)
+        for refused in (caught.exception, copy.copy(caught.exception), pickle.loads(pickle.dumps(caught.exception))):
+            self.assertEqual((str(refused), refused.subject), (said, "archive"))
+
+    def test_an_archive_is_refused_as_one(self):
+        self.assert_refused_archive("refused 54: archive: the length is not 16,392 bytes", BUSY)
+        self.assert_refused_archive("refused 2: archive: N is not 1 to 64", archive(65, 100, {}))
+        self.assert_refused_archive("refused 3: archive: t is not 1 to 999", archive(3, 1000, {}))
+        count = "refused 55: archive: a count is above 0 at a node not below N, or the sum is above 1,000,000,000"
+        self.assert_refused_archive(count, archive(3, 100, {"11": 1}))
+        buffer = "refused 56: write archive, read archive: the buffer is too short"
+        self.assertEqual([str(firrozka.Refused(56)), str(firrozka.ArchiveRefused(56))], [buffer, buffer])
+        # What is refused of a sheet is the sheet's.
+        with self.assertRaises(firrozka.Refused) as caught:
+            firrozka.write_archive(firrozka.to_bytes([65, 100, 0]))
+        self.assertEqual(str(caught.exception), "refused 2: sheet: N is not 1 to 64")
 
     def test_weigh(self):
         self.assertEqual(firrozka.weigh(SHEET_H, CHAIN), (True, [28, 36, 0]))
@@ -185,6 +279,8 @@ class Arguments(unittest.TestCase):
             self.assertEqual(firrozka.carry_out(form(SHEET), form(MOVES)), firrozka.carry_out(SHEET, MOVES))
             self.assertEqual(firrozka.join_sheets(form(SHEET), form(INLET)), JOINED)
             self.assertEqual(firrozka.traffic_page(form(BUSY), form(TRAFFIC)), PAGE)
+            self.assertEqual(firrozka.write_archive(form(BUSY)), ARCHIVE)
+            self.assertEqual(firrozka.read_archive(form(ARCHIVE)), BUSY)
             self.assertEqual(firrozka.tree_in_force(form(CHAIN), form(kept)), [0, 0, 1])
 
     def test_no_old_plan_is_none_or_empty(self):
@@ -209,6 +305,8 @@ class Arguments(unittest.TestCase):
         self.assert_named("second", "NoneType", firrozka.join_sheets, SHEET, None)
         self.assert_named("sheet", "Sheet", firrozka.traffic_page, firrozka.read_sheet(BUSY), TRAFFIC)
         self.assert_named("moves", "str", firrozka.traffic_page, BUSY, PAGE)
+        self.assert_named("sheet", "Sheet", firrozka.write_archive, firrozka.read_sheet(BUSY))
+        self.assert_named("archive", "NoneType", firrozka.read_archive, None)
         self.assert_named("old_plan", "NoneType", firrozka.tree_in_force, None, PLAN)
         self.assert_named("new_plan", "NoneType", firrozka.tree_in_force, PLAN, None)
 
