@@ -1,7 +1,7 @@
 //! The tool `firrozka`: steps planned, weighed and carried out from files, sheets
-//! joined, traffic pages printed, and text to records and back. It is tested, not
-//! proved; what is decided, and what a record may be, is asked of the proved
-//! library.
+//! joined and archived, traffic pages printed, and text to records and back. It is
+//! tested, not proved; what is decided, and what a record may be, is asked of the
+//! proved library.
 //!
 //! | module | what it holds |
 //! |---|---|
@@ -9,6 +9,7 @@
 //! | `words` | words as text, both ways |
 //! | `tolerance` | the tolerance in percent, both ways |
 //! | `record` | the three records, and why some bytes are none |
+//! | `archive` | sheets to archives and back |
 //! | `table` | tables to the words of records |
 //! | `show` | records as tables |
 //! | `step` | a step planned, weighed and carried out, its traffic, and sheets joined before it |
@@ -18,6 +19,7 @@
 //! | `files` | files, the standard input and the standard output |
 #![forbid(unsafe_code)]
 
+pub mod archive;
 pub mod arguments;
 pub mod files;
 pub mod record;

@@ -1,7 +1,7 @@
 //! The three records: whether the library accepts some bytes as one, or in words
-//! why not.
+//! why not. An archive is recognised, too.
 
-use firrozka::{read_moves, read_plan, read_sheet, to_bytes, Refusal};
+use firrozka::{read_archive, read_moves, read_plan, read_sheet, to_bytes, Refusal, SHEET_BYTES};
 use std::fmt;
 
 /// "Three records".
@@ -51,17 +51,23 @@ impl Record {
     }
 }
 
+/// *Read archive*: the sheet that an archive holds, or why the library refuses it.
+pub fn sheet_in(archive: &[u8]) -> Result<Vec<u8>, Refusal> {
+    read_archive(archive, &mut [0; SHEET_BYTES]).map(<[u8]>::to_vec)
+}
+
 /// Why these bytes are refused, and what they seem to be instead.
 pub fn explained(refusal: Refusal, bytes: &[u8]) -> String {
     let instead = if bytes.is_empty() {
         String::from("; it is empty")
     } else if is_text(bytes) {
-        let verbs = match refusal.subject() {
-            "sheet" => "'firrozka table' or 'firrozka write sheet'",
-            "plan" => "'firrozka write plan'",
-            _ => "'firrozka write moves'",
+        let makes = match refusal.subject() {
+            "sheet" => "'firrozka table' or 'firrozka write sheet' makes a record",
+            "plan" => "'firrozka write plan' makes a record",
+            "archive" => "'firrozka write sheet' makes a sheet for 'firrozka archive'",
+            _ => "'firrozka write moves' makes a record",
         };
-        format!("; this is text, of which {verbs} makes a record")
+        format!("; this is text, of which {makes}")
     } else {
         reading(bytes)
     };
@@ -75,6 +81,7 @@ pub fn reading(bytes: &[u8]) -> String {
         Some(Record::Sheet) => String::from("; this reads as a sheet"),
         Some(Record::Plan) => String::from("; this reads as a plan"),
         Some(Record::Moves) => String::from("; this reads as moves"),
+        None if sheet_in(bytes).is_ok() => String::from("; this reads as an archive"),
         None => String::new(),
     }
 }

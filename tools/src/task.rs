@@ -7,7 +7,7 @@ use crate::record::{reading, Record};
 use crate::step::{self, Source};
 use crate::table::Sizes;
 use crate::text::{self, Piece};
-use crate::{show, table, words};
+use crate::{archive, show, table, words};
 use firrozka::{to_bytes, Words, SHEET_BYTES};
 
 /// What is asked for.
@@ -23,12 +23,18 @@ pub enum Task {
     Join,
     /// The traffic page of a sheet and moves.
     Traffic,
+    /// A sheet to its archive.
+    Archive,
+    /// An archive to its sheet.
+    Restore,
     /// A table of counts to a sheet.
     Table(Sizes),
     /// Text to a record that the library accepts, or words to any bytes.
     Write(Option<Record>),
     /// A record to text.
     Show(Record),
+    /// An archive to the text of its sheet.
+    ShowArchive,
     /// Any bytes to words.
     Words,
 }
@@ -62,9 +68,15 @@ impl Task {
     /// more than one byte of what is too long is left out.
     pub fn most(self) -> u64 {
         match self {
-            Task::Plan | Task::Weigh | Task::Carry | Task::Join | Task::Traffic | Task::Show(_) => {
-                SHEET_BYTES as u64 + 1
-            }
+            Task::Plan
+            | Task::Weigh
+            | Task::Carry
+            | Task::Join
+            | Task::Traffic
+            | Task::Archive
+            | Task::Restore
+            | Task::Show(_)
+            | Task::ShowArchive => SHEET_BYTES as u64 + 1,
             Task::Table(_) | Task::Write(_) | Task::Words => u64::MAX,
         }
     }
@@ -81,7 +93,10 @@ impl Task {
                 let words = of_text(input, |text| written(record, text))?;
                 record.of_words(&words)
             }
+            Task::Archive => archive::archived(input),
+            Task::Restore => archive::restored(input),
             Task::Show(record) => show::show(record, input).map(String::into_bytes),
+            Task::ShowArchive => show::show_archive(input).map(String::into_bytes),
             _ => to_text(input).map(String::into_bytes),
         }
     }

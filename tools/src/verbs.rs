@@ -28,7 +28,7 @@ pub struct Verb {
 pub const FLAGS: [&str; 1] = ["--empty"];
 
 /// All verbs.
-pub static VERBS: [Verb; 9] = [
+pub static VERBS: [Verb; 11] = [
     Verb {
         name: "plan",
         form: "SHEET [OLD_PLAN] [-o PLAN] [-m MOVES]",
@@ -96,6 +96,31 @@ to and from all nodes. The last line, ==, has the totals.
         task: |_| Ok(Task::Traffic),
     },
     Verb {
+        name: "archive",
+        form: "SHEET -o ARCHIVE",
+        does: "writes a sheet to an archive, which has 16,392 bytes whatever the sheet",
+        more: "\
+'firrozka restore' makes the same sheet of it again, and 'firrozka show archive'
+shows it.
+  -o ARCHIVE  the file for the archive
+",
+        options: &["-o"],
+        files: &["SHEET"],
+        task: |given| saved(Task::Archive, given, "ARCHIVE"),
+    },
+    Verb {
+        name: "restore",
+        form: "ARCHIVE -o SHEET",
+        does: "saves the sheet that an archive holds",
+        more: "\
+The sheet is the one that was written to the archive, byte for byte.
+  -o SHEET   the file for the sheet
+",
+        options: &["-o"],
+        files: &["ARCHIVE"],
+        task: |given| saved(Task::Restore, given, "SHEET"),
+    },
+    Verb {
         name: "table",
         form: "-n N -t PERCENT [--empty] [-o SHEET] [TABLE]",
         does: "makes a sheet from a table of counts",
@@ -124,7 +149,7 @@ columns, which may be left away, and a line for each entry:
 Or it is the record's words: numbers with blanks or new lines between them, in
 which a sheet's tolerance counts tenths of a percent: 35 is 3.5 percent. A
 record that the library refuses is not written. 'any' takes words and writes their
-bytes, whatever they are.
+bytes, whatever they are. An archive is made of a sheet: 'firrozka archive'.
   -o RECORD  the file for the record
 ",
         options: &["-o"],
@@ -138,16 +163,17 @@ bytes, whatever they are.
     },
     Verb {
         name: "show",
-        form: "sheet|plan|moves [-o TEXT] [RECORD]",
+        form: "sheet|plan|moves|archive [-o TEXT] [RECORD]",
         does: "shows a record as a table that 'write' takes",
         more: "\
+An archive is shown as the table of its sheet, which 'firrozka write sheet' takes.
   -o TEXT    the file for the text
 ",
         options: &["-o"],
         files: &["[RECORD]"],
-        task: |given| {
-            let name = given.word("sheet, plan or moves")?;
-            named(&name, "sheet, plan or moves").map(Task::Show)
+        task: |given| match given.word("sheet, plan, moves or archive")?.as_str() {
+            "archive" => Ok(Task::ShowArchive),
+            name => named(name, "sheet, plan, moves or archive").map(Task::Show),
         },
     },
     Verb {

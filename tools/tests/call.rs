@@ -12,8 +12,9 @@ use std::os::unix::ffi::OsStrExt;
 use std::os::unix::fs::{symlink, PermissionsExt};
 use std::process::{Command, Stdio};
 
-const VERBS: [&str; 9] = [
-    "plan", "weigh", "carry", "join", "traffic", "table", "write", "show", "words",
+const VERBS: [&str; 11] = [
+    "plan", "weigh", "carry", "join", "traffic", "archive", "restore", "table", "write", "show",
+    "words",
 ];
 
 #[test]
@@ -34,7 +35,7 @@ fn help_and_version_are_printed() {
 
 #[test]
 fn a_wrong_call_is_told_what_is_wrong_and_then_the_usage() {
-    let cases: [(&[&str], &str); 38] = [
+    let cases: [(&[&str], &str); 47] = [
         (&[], "a verb is missing"),
         (&["pland"], "there is no verb 'pland'"),
         (&["plan"], "plan: SHEET is missing"),
@@ -90,6 +91,23 @@ fn a_wrong_call_is_told_what_is_wrong_and_then_the_usage() {
             &["traffic", "a", "b", "-o", "c"],
             "traffic: it has no option -o; a file of this name is written ./-o",
         ),
+        (&["archive", "a"], "archive: -o ARCHIVE is missing"),
+        (&["archive", "-o", "a"], "archive: SHEET is missing"),
+        (
+            &["archive", "a", "b", "-o", "c"],
+            "archive: 'b' is one file too many",
+        ),
+        (
+            &["archive", "a", "-n", "3", "-o", "b"],
+            "archive: it has no option -n; a file of this name is written ./-n",
+        ),
+        (&["restore", "a"], "restore: -o SHEET is missing"),
+        (&["restore", "-o", "a"], "restore: ARCHIVE is missing"),
+        (
+            &["restore", "a", "b", "-o", "c"],
+            "restore: 'b' is one file too many",
+        ),
+        (&["restore", "a", "-o"], "restore: nothing stands behind -o"),
         (&["table", "-t", "10"], "table: -n N is missing"),
         (&["table", "-n", "3"], "table: -t PERCENT is missing"),
         (
@@ -121,10 +139,15 @@ fn a_wrong_call_is_told_what_is_wrong_and_then_the_usage() {
             &["write", "trees"],
             "write: 'trees' is none of sheet, plan, moves or any",
         ),
-        (&["show"], "show: sheet, plan or moves is missing"),
+        // It is made of a sheet.
+        (
+            &["write", "archive"],
+            "write: 'archive' is none of sheet, plan, moves or any",
+        ),
+        (&["show"], "show: sheet, plan, moves or archive is missing"),
         (
             &["show", "any"],
-            "show: 'any' is none of sheet, plan or moves",
+            "show: 'any' is none of sheet, plan, moves or archive",
         ),
         (&["words", "a", "b"], "words: 'b' is one file too many"),
     ];
@@ -170,6 +193,12 @@ fn a_file_has_one_use() {
         let what = format!("firrozka: join: -o names '{read}', which is read\n");
         assert!(said.starts_with(&what), "{said}");
     }
+    // Nor is a sheet by its archive.
+    for verb in ["archive", "restore"] {
+        let said = failed(firrozka(&[verb, &sheet, "-o", &link], b""), 2);
+        let what = format!("firrozka: {verb}: -o names '{sheet}', which is read\n");
+        assert!(said.starts_with(&what), "{said}");
+    }
     assert_eq!(bytes(&sheet), bytes(&example("step-d/sheet")));
     assert!(fs::metadata(&plan).is_err());
 }
@@ -201,6 +230,12 @@ fn a_dash_is_the_standard_input_or_output() {
     let page = printed(&["traffic", &sheet, &moves]).into_bytes();
     assert_eq!(written(&["traffic", "-", &moves], &bytes(&sheet)), page);
     assert_eq!(written(&["traffic", &sheet, "-"], &bytes(&moves)), page);
+    let archive = written(&["archive", "-", "-o", "-"], &bytes(&sheet));
+    assert_eq!(archive.len(), 16_392);
+    let restored = written(&["restore", "-", "-o", "-"], &archive);
+    assert_eq!(restored, bytes(&sheet));
+    let shown = written(&["show", "archive", "-", "-o", "-"], &archive);
+    assert_eq!(written(&["show", "archive"], &archive), shown);
     let words = written(&["words", "-", "-o", "-"], &bytes(&plan));
     assert_eq!(words, b"3 2 36 0 0 0 0 27 29\n");
 }
@@ -231,10 +266,11 @@ fn a_full_disk_is_noticed() {
     let (sheet, plan) = (example("step-d/sheet"), fresh("full-plan"));
     let what = "cannot be written: No space left on device (os error 28)";
     let full = || File::create("/dev/full").expect("Linux has it");
-    let calls: [&[&str]; 6] = [
+    let calls: [&[&str]; 7] = [
         &["plan", &sheet],
         &["weigh", &sheet, &example("step-d/plan")],
         &["traffic", &sheet, &example("step-d/moves")],
+        &["archive", &sheet, "-o", "-"],
         &["words", &sheet],
         &["--help"],
         &["--version"],
@@ -288,6 +324,11 @@ fn an_endless_file_is_no_record() {
     let what = "refused 32: moves: N is not 1 to 64";
     let of_moves = said_under(limit, &["traffic", &sheet, "/dev/zero"]);
     assert_eq!(of_moves, format!("/dev/zero: {what}\n"));
+    let what = "refused 54: archive: the length is not 16,392 bytes";
+    let of_archive = said_under(limit, &["restore", "/dev/zero", "-o", "-"]);
+    assert_eq!(of_archive, format!("/dev/zero: {what}\n"));
+    let of_input = said_under(limit, &["show", "archive"]);
+    assert_eq!(of_input, format!("standard input: {what}\n"));
 }
 
 #[test]
