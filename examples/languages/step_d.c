@@ -1,9 +1,11 @@
-/* Plans step D and prints it as the bench program does, and then its traffic page. */
+/* Plans step D and prints it as the bench program does, and then its traffic page; writes its sheet to an archive and reads it back. */
 #include <inttypes.h>
 #include <stdio.h>
+#include <string.h>
 #include "firrozka.h"
 
 static uint8_t plan[FIRROZKA_PLAN_BYTES], moves[FIRROZKA_MOVES_BYTES], page[FIRROZKA_PAGE_BYTES];
+static uint8_t archive[FIRROZKA_ARCHIVE_BYTES], restored[FIRROZKA_SHEET_BYTES];
 
 /* The word at a place: 4 bytes, low byte first. */
 static uint32_t word(const uint8_t *record, size_t place)
@@ -45,6 +47,20 @@ static int refused(uint32_t refusal)
     return 1;
 }
 
+/* Writes a sheet to an archive, reads it back, and says whether it is the same. */
+static int print_archive(const uint8_t *sheet, size_t sheet_len)
+{
+    struct firrozka_written written = firrozka_write_archive(sheet, sheet_len, archive, sizeof archive);
+    if (written.refusal)
+        return refused(written.refusal);
+    struct firrozka_written read = firrozka_read_archive(archive, written.bytes, restored, sizeof restored);
+    if (read.refusal)
+        return refused(read.refusal);
+    int same = read.bytes == sheet_len && !memcmp(restored, sheet, sheet_len);
+    printf("archive %" PRIu32 " bytes, read back %s\n", written.bytes, same ? "the same" : "another");
+    return 0;
+}
+
 int main(void)
 {
     /* The words 3 100 3 0 65 130 90 6 4: 3 nodes, a tolerance of 100 tenths of a percent, 3 cells. */
@@ -61,5 +77,5 @@ int main(void)
         return refused(written.refusal);
     /* No null byte ends the page. */
     fwrite(page, 1, written.bytes, stdout);
-    return 0;
+    return print_archive(sheet, sizeof sheet);
 }

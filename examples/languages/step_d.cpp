@@ -1,4 +1,4 @@
-// Plans step D and prints it as the bench program does, and then its traffic page.
+// Plans step D and prints it as the bench program does, and then its traffic page; writes its sheet to an archive and reads it back.
 #include <array>
 #include <cstdint>
 #include <initializer_list>
@@ -52,6 +52,21 @@ Page traffic_page(const Bytes &sheet, const Bytes &moves) {
     return {answer, std::string(page.begin(), page.begin() + answer.bytes)};
 }
 
+// What write archive or read archive answers and writes.
+struct Converted {
+    firrozka_written answer;
+    Bytes bytes;
+};
+
+using Convert = firrozka_written (*)(const std::uint8_t *, std::size_t, std::uint8_t *, std::size_t);
+
+Converted converted(Convert convert, const Bytes &record, std::size_t longest) {
+    Bytes bytes(longest);
+    const auto answer = convert(record.data(), record.size(), bytes.data(), bytes.size());
+    bytes.resize(answer.bytes);
+    return {answer, bytes};
+}
+
 // Each node's amount of its own subdomain: Pn less the shares of its helpers. A root's share is 0.
 std::array<std::uint32_t, 64> own_amounts(const std::vector<std::uint32_t> &sheet, const std::vector<std::uint32_t> &plan) {
     std::array<std::uint32_t, 64> own{};
@@ -86,4 +101,11 @@ int main() {
     const Page page = traffic_page(sheet, step.moves);
     if (page.answer.refusal != FIRROZKA_ACCEPTED) return refused(page.answer.refusal);
     std::cout << page.text;
+
+    const Converted archive = converted(firrozka_write_archive, sheet, FIRROZKA_ARCHIVE_BYTES);
+    if (archive.answer.refusal != FIRROZKA_ACCEPTED) return refused(archive.answer.refusal);
+    const Converted restored = converted(firrozka_read_archive, archive.bytes, FIRROZKA_SHEET_BYTES);
+    if (restored.answer.refusal != FIRROZKA_ACCEPTED) return refused(restored.answer.refusal);
+    std::cout << "archive " << archive.bytes.size() << " bytes, read back "
+              << (restored.bytes == sheet ? "the same" : "another") << '\n';
 }

@@ -1,4 +1,4 @@
-! Plans step D and prints it as the bench program does, and then its traffic page.
+! Plans step D and prints it as the bench program does, and then its traffic page; writes its sheet to an archive and reads it back.
 program step_d
     use, intrinsic :: iso_c_binding, only: c_int8_t, c_int32_t, c_size_t
     use firrozka
@@ -7,9 +7,10 @@ program step_d
     ! 3 nodes, a tolerance of 100 tenths of a percent, 3 cells.
     integer, parameter :: words(9) = [3, 100, 3, 0, 65, 130, 90, 6, 4]
     integer(c_int8_t) :: sheet(4 * size(words)), no_plan(1), plan(firrozka_plan_bytes), moves(firrozka_moves_bytes)
+    integer(c_int8_t) :: archive(firrozka_archive_bytes), restored(firrozka_sheet_bytes)
     character(len=firrozka_page_bytes) :: page
     type(firrozka_step) :: step
-    type(firrozka_written) :: written
+    type(firrozka_written) :: written, read_back
     integer :: n, k
 
     sheet = words_to_bytes(words)
@@ -35,6 +36,12 @@ program step_d
         print '(a)', page(k:k + 23)
     end do
 
+    written = firrozka_write_archive(sheet, size(sheet, kind=c_size_t), archive, size(archive, kind=c_size_t))
+    call accept(written%refusal)
+    read_back = firrozka_read_archive(archive, int(written%bytes, c_size_t), restored, size(restored, kind=c_size_t))
+    call accept(read_back%refusal)
+    print '("archive ", i0, " bytes, read back ", a)', written%bytes, trim(merge('the same', 'another ', same(read_back%bytes)))
+
 contains
 
     subroutine accept(refusal)
@@ -44,6 +51,14 @@ contains
         print '("refused ", i0)', refusal
         stop 1
     end subroutine
+
+    ! Whether so many bytes of what was read back are the sheet.
+    logical function same(bytes)
+        integer(c_int32_t), intent(in) :: bytes
+
+        same = bytes == size(sheet)
+        if (same) same = all(restored(:bytes) == sheet)
+    end function
 
     integer function helpand(node)
         integer, intent(in) :: node

@@ -1,4 +1,4 @@
-"""Plans step D and prints it as the bench program does, and then its traffic page."""
+"""Plans step D and prints it as the bench program does, and then its traffic page; writes its sheet to an archive and reads it back."""
 
 import firrozka
 
@@ -20,3 +20,7 @@ for node in range(plan.n):
 for move in firrozka.read_moves(step.moves).moves:
     print(f"move {move.subdomain} from {move.sender} to {move.receiver} count {move.count}")
 print(firrozka.traffic_page(sheet, step.moves), end="")
+
+archive = firrozka.write_archive(sheet)
+same = firrozka.read_archive(archive) == sheet
+print(f"archive {len(archive)} bytes, read back {'the same' if same else 'another'}")

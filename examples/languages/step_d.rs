@@ -1,8 +1,10 @@
-//! Plans step D and prints it as the bench program does, and then its traffic page.
+//! Plans step D and prints it as the bench program does, and then its traffic page;
+//! writes its sheet to an archive and reads it back.
 
 use firrozka::{
-    plan_step, read_moves, read_plan, read_sheet, to_bytes, traffic_page, Refusal, MOVES_BYTES,
-    NO_PLAN, PAGE_BYTES, PLAN_BYTES,
+    plan_step, read_archive, read_moves, read_plan, read_sheet, to_bytes, traffic_page,
+    write_archive, Refusal, ARCHIVE_BYTES, MOVES_BYTES, NO_PLAN, PAGE_BYTES, PLAN_BYTES,
+    SHEET_BYTES,
 };
 
 /// Each node's amount of its own subdomain: Pn less the shares of its helpers.
@@ -35,5 +37,11 @@ fn main() -> Result<(), Refusal> {
     }
     let mut page = [0; PAGE_BYTES];
     print!("{}", traffic_page(&sheet, step.moves, &mut page)?);
+
+    let (mut archive, mut restored) = ([0; ARCHIVE_BYTES], [0; SHEET_BYTES]);
+    let archive = write_archive(&sheet, &mut archive)?;
+    let same = read_archive(archive, &mut restored)? == sheet;
+    let read = if same { "the same" } else { "another" };
+    println!("archive {} bytes, read back {read}", archive.len());
     Ok(())
 }
