@@ -23,7 +23,7 @@ extern "C" {
 #define FIRROZKA_VERSION 105
 uint32_t firrozka_version(void);
 
-/* Buffers of so many bytes are long enough for every call. Every archive has just so many. */
+/* Buffers of so many bytes are long enough for every call. The last is the length of every archive. */
 enum {
     FIRROZKA_SHEET_BYTES = 32780,  /* 4 × (3 + 2 × 4,096) */
     FIRROZKA_PLAN_BYTES = 524,     /* 4 × (3 + 2 × 64) */

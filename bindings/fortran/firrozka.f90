@@ -19,7 +19,7 @@ module firrozka
     ! The version that this module was written for, 100 × major + minor: 1.5 is 105. firrozka_version() is the library's own.
     integer(c_int32_t), parameter, public :: firrozka_module_version = 105
 
-    ! Buffers of so many bytes are long enough for every call. Every archive has just so many.
+    ! Buffers of so many bytes are long enough for every call. The last is the length of every archive.
     integer(c_size_t), parameter, public :: &
         firrozka_sheet_bytes = 32780, firrozka_plan_bytes = 524, firrozka_moves_bytes = 32264, firrozka_least_bytes = 256, &
         firrozka_page_bytes = 1625, firrozka_archive_bytes = 16392

@@ -16,7 +16,7 @@ from typing import NamedTuple
 # The version that this module was written for, 100 × major + minor: 1.5 is 105. version() is the library's own.
 VERSION = 105
 
-# Buffers of so many bytes are long enough for every call. Every archive has just so many.
+# Buffers of so many bytes are long enough for every call. The last is the length of every archive.
 SHEET_BYTES = 32780
 PLAN_BYTES = 524
 MOVES_BYTES = 32264
