@@ -1,11 +1,21 @@
 -- The order of 8 × 8 cells, as docs/FORMATS.md draws it, and step D's sheet in an archive. Assumes nothing.
 use mathlib.Core.Path.{_≡_, refl, sym, ap, _∙_}
 use mathlib.Core.List.{List, [], _∷_}
-use Prim.Native.Nat.{ℕ}
+use Prim.Native.Nat.{ℕ, _≤_}
 use native.Mathlib.Omega.{arith}
+use lib.ListN.{length, take}
 use Rattle.fold.specs.Sum.{sum}
 use Rattle.fold.specs.Collect.{collect}
+use Rattle.fold.specs.Rising.{rising}
+use Rattle.limit.specs.Limit.{limitOf}
+use Rattle.words.specs.Words.{words, encode}
+use Rattle.words.specs.declared.WrittenAnswer.{WrittenAnswer}
+use Rattle.words.specs.Answer.{accepted}
+use Rattle.sheet.specs.Sheet.{runningSum, readHeader, readSheet}
+use Rattle.sheet.specs.Table.{countAt as countBeside, countsFrom, tableOf, tableIn, held}
 use Rattle.archive.specs.ZOrder.{position}
+use Rattle.archive.specs.Archive.{archiveSize, writeAnswer, archiveAfter, countAt}
+use Rattle.archive.proofs.RoundTrip.{writes, archive-read-back}
 
 -- the positions of the first eight subdomains' cells with this holder
 abbrev row : ℕ → List ℕ
@@ -28,3 +38,40 @@ picture = refl
 pub last-position : position 63 63 ≡ 4095
 unfolding position sum
 last-position = refl
+
+-- ---- step D: nodes 0, 1 and 2 hold 90, 6 and 4 particles of their own subdomains
+
+abbrev sheet : List ℕ
+sheet = encode (3 ∷ 100 ∷ 3 ∷ 0 ∷ 65 ∷ 130 ∷ 90 ∷ 6 ∷ 4 ∷ [])
+
+sheet-fine : readSheet sheet .refusal ≡ 0
+unfolding readSheet readHeader words encode rising runningSum limitOf
+sheet-fine = refl
+
+-- what a cell of it has
+cell-count : (held (tableIn sheet) 0 0 ≡ 90) × (held (tableIn sheet) 1 1 ≡ 6) × (held (tableIn sheet) 2 2 ≡ 4) × (held (tableIn sheet) 1 2 ≡ 0)
+unfolding tableOf countsFrom countBeside readSheet readHeader words encode rising runningSum limitOf
+cell-count = (refl, refl, refl, refl)
+
+diagonal : (position 0 0 ≡ 0) × (position 1 1 ≡ 3) × (position 2 2 ≡ 12) × (position 1 2 ≡ 6)
+unfolding position sum
+diagonal = (refl, refl, refl, refl)
+
+-- its archive, in a buffer that is long enough: 90, 6 and 4 particles at positions 0, 3 and 12, and none at 6
+pub archive-D : (out : List ℕ) → archiveSize ≤ length out
+    → let a = take (writeAnswer sheet (length out) .bytes) (archiveAfter sheet out) in
+    (writeAnswer sheet (length out) ≡ accepted 16392)
+    × (countAt a 0 ≡ 90)
+    × (countAt a 3 ≡ 6)
+    × (countAt a 12 ≡ 4)
+    × (countAt a 6 ≡ 0)
+archive-D out fits =
+    let w = writes sheet (length out) sheet-fine fits in
+    let k = archive-read-back sheet out (ap (λ (x : WrittenAnswer). x .refusal) w) .counts in
+    let a = take (writeAnswer sheet (length out) .bytes) (archiveAfter sheet out) in (
+      w,
+      ap (countAt a) (sym (diagonal .0)) ∙ k 0 0 (omega arith) (omega arith) ∙ cell-count .0,
+      ap (countAt a) (sym (diagonal .1)) ∙ k 1 1 (omega arith) (omega arith) ∙ cell-count .1,
+      ap (countAt a) (sym (diagonal .2)) ∙ k 2 2 (omega arith) (omega arith) ∙ cell-count .2,
+      ap (countAt a) (sym (diagonal .3)) ∙ k 1 2 (omega arith) (omega arith) ∙ cell-count .3,
+    )
