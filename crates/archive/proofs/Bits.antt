@@ -36,9 +36,16 @@ spread-is x =
     nested (x / 1 % 2) (x / 2 % 2) (x / 4 % 2) (x / 8 % 2) (x / 16 % 2) (x / 32 % 2) ∙ rw (div-one x, e₂, e₃, e₄, e₅)
 
 -- the bits of the subdomain, and between them those of the holder
-pub position-spreads : (holder subdomain : ℕ) → position holder subdomain ≡ spreadOf subdomain + 2 * spreadOf holder
+position-spreads : (holder subdomain : ℕ) → position holder subdomain ≡ spreadOf subdomain + 2 * spreadOf holder
 unfolding position spreadOf sum
 position-spreads holder subdomain = omega arith
+
+-- the cells of a holder one after the other
+pub row-position : (holder n : ℕ) → n < 64 → positionOf (64 * holder + n) ≡ spreadOf n + 2 * spreadOf holder
+row-position holder n h =
+    let e : (64 * holder + n) / 64 ≡ holder = omega arith in
+    let m : (64 * holder + n) % 64 ≡ n = omega arith in
+    ap₂ position e m ∙ position-spreads holder n
 
 position-is : (holder subdomain : ℕ) → position holder subdomain ≡ spread 6 subdomain + 2 * spread 6 holder
 position-is holder subdomain =

@@ -1,32 +1,33 @@
--- `archive::order::positions` meets its contract: the cells passed have their positions. Assumes nothing.
+-- `archive::order::positions` meets its contract: the cells of the holders passed have their positions. Assumes nothing.
 use borrow.Author.Needs.{needs}
-use mathlib.Core.Path.{_≡_}
-use Prim.Native.Nat.{ℕ, _-_, _≤_, _<_}
+use Prim.Native.Nat.{ℕ, _*_, _-_, _≤_}
 use native.Mathlib.Omega.{arith}
-use lib.ListN.{length, length-set, length-replicate}
-use Rattle.limit.specs.Limit.{tableSize}
-use Rattle.arrays.specs.Arrays.{at}
-use Rattle.arrays.proofs.Tabulate.{filled-more}
-use Rattle.archive.specs.ZOrder.{positionOf}
+use lib.ListN.{length-replicate}
+use Rattle.archive.specs.Inner.{Spreads, PositionsBelow}
 use Rattle.archive.proofs.order.positions.Statement.{statement}
 use Rattle.archive.proofs.order.positions.Tie as tie
 
 abbrev Inv-loop : tie.InvT-loop
-Inv-loop out₀ c₀ out c = (c ≤ tableSize) × (length out ≡ tableSize) × ((k : ℕ) → k < c → at out k ≡ positionOf k)
+Inv-loop spreads out₀ holder₀ out holder = (holder ≤ 64) × Spreads spreads × PositionsBelow out (64 * holder)
 
 abbrev μ-loop : tie.MeasureT-loop
-μ-loop out₀ c₀ out c = tableSize - c
+μ-loop spreads out₀ holder₀ out holder = 64 - holder
 
 loop-holds : tie.Need-loop-holds Inv-loop μ-loop
-loop-holds c = (omega arith, length-replicate {A = ℕ} 4096 0, λ k h. absurd (omega arith))
+loop-holds c =
+    (omega arith, c .spreads .ensures, record { size = length-replicate {A = ℕ} 4096 0; each = λ k h. absurd (omega arith) })
+
+put-row-requires : tie.Need-put-row-requires Inv-loop μ-loop
+put-row-requires c κs =
+    let t = c .before .before in
+    let v = t .before .loop .inv in
+    (t .loop-test .taken, v .1, v .2)
 
 loop-again : tie.Need-loop-again Inv-loop μ-loop
-loop-again c =
-    let l = c .before .before in
-    (omega arith, simp length-set (l .loop .inv .1), filled-more positionOf (l .loop .out) (l .loop .c) _ (omega arith) (c .position .ensures) (l .loop .inv .2))
+loop-again c = (omega arith, c .before .before .before .before .loop .inv .1, c .put-row .ensures)
 
 returns : tie.Need-returns Inv-loop μ-loop
-returns c k h = c .before .loop .inv .2 k (omega arith)
+returns c k h = c .before .loop .inv .2 .each k (omega arith)
 
 pub positions-spec : {M : Type 1} → statement M
 positions-spec =
@@ -34,12 +35,10 @@ positions-spec =
     (tie.spec
     Inv-loop
     μ-loop
+    (λ c κs. search needs)  -- spreads-requires
     loop-holds
-    (λ c. search needs)  -- cast-position
-    (λ c κs. search needs)  -- position-requires
-    (λ c. search needs)  -- mul-out
-    (λ c. search needs)  -- array-write-out
-    (λ c. search needs)  -- add-c
+    put-row-requires
+    (λ c. search needs)  -- add-holder
     (λ c. search needs)  -- loop-less
     loop-again
     returns)
