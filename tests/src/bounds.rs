@@ -10,7 +10,7 @@ pub const NODES: RangeInclusive<u32> = 1..=64;
 pub const TOLERANCE: RangeInclusive<u32> = 1..=999;
 
 /// "the total P is at most 1,000,000,000"; also the most that one move carries,
-/// and "the maximum" of a joint total.
+/// and "the maximum" of a joint total and of an archive's sum.
 pub const MOST_PARTICLES: u32 = 1_000_000_000;
 
 /// "14 allows up to 1,999,000,000".

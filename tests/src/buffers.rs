@@ -2,7 +2,7 @@
 //! and what that is, for the operations that write one record or a page.
 
 use crate::answers::WrittenAnswer;
-use crate::implementations::{Implementation, Write, IMPLEMENTATIONS};
+use crate::implementations::{Implementation, IMPLEMENTATIONS};
 
 /// What untouched bytes look like.
 const FILL: u8 = 0xa5;
@@ -15,15 +15,16 @@ pub fn untouched(buffer: &[u8]) -> bool {
     buffer.iter().all(|&byte| byte == FILL)
 }
 
-/// Which of someone's operations.
-pub type Which = fn(&Implementation) -> Write;
-
-/// All refuse these records, and leave buffers of any length untouched.
-pub fn all_refuse(which: Which, records: [&[u8]; 2], lengths: &[usize], refusal: u32) {
+/// All refuse what they are handed, and leave buffers of any length untouched.
+pub fn all_refuse(
+    call: impl Fn(&Implementation, &mut [u8]) -> WrittenAnswer,
+    lengths: &[usize],
+    refusal: u32,
+) {
     for implementation in IMPLEMENTATIONS {
         for &length in lengths {
             let mut out = buffer(length);
-            let answer = which(implementation)(records[0], records[1], &mut out);
+            let answer = call(implementation, &mut out);
             let expected = WrittenAnswer { refusal, bytes: 0 };
             assert_eq!(answer, expected, "{}", implementation.name);
             assert!(untouched(&out));
@@ -33,13 +34,17 @@ pub fn all_refuse(which: Which, records: [&[u8]; 2], lengths: &[usize], refusal:
 
 /// All write this, to buffers that are just long enough and to longer ones, of
 /// which the end stays untouched; and refuse shorter ones.
-pub fn all_write(which: Which, records: [&[u8]; 2], written: &[u8], too_short: u32) {
+pub fn all_write(
+    call: impl Fn(&Implementation, &mut [u8]) -> WrittenAnswer,
+    written: &[u8],
+    too_short: u32,
+) {
     let length = written.len();
-    all_refuse(which, records, &[0, 11, length - 1], too_short);
+    all_refuse(&call, &[0, 11, length - 1], too_short);
     for implementation in IMPLEMENTATIONS {
         for more in [0, 1, 50] {
             let mut out = buffer(length + more);
-            let answer = which(implementation)(records[0], records[1], &mut out);
+            let answer = call(implementation, &mut out);
             let (refusal, bytes) = (0, length as u32);
             let expected = WrittenAnswer { refusal, bytes };
             assert_eq!(answer, expected, "{}", implementation.name);

@@ -1,9 +1,9 @@
-//! Every check of document 01 looked at on its own: which refusal numbers have
+//! Every check of a record looked at on its own: which refusal numbers have
 //! their condition met in a record, whatever the other checks say. A check
 //! sees the words that are there and is silent about those that are not; sizes
-//! are taken as they stand, even out of range. The refusal that document 01
-//! asks for is the smallest number found, 0 if there is none: a second look at
-//! the paper beside the reference, and the measure of which faults came together.
+//! are taken as they stand, even out of range. The refusal that the papers
+//! ask for is the smallest number found, 0 if there is none: a second look at
+//! the papers beside the reference, and the measure of which faults came together.
 
 use crate::bounds::{MOST_LIMIT, MOST_PARTICLES, NODES, TOLERANCE};
 use crate::records::to_words;
@@ -16,6 +16,10 @@ pub const OF_PLAN: [u32; 8] = [11, 12, 13, 14, 15, 16, 17, 18];
 
 /// The refusal numbers of *read moves*.
 pub const OF_MOVES: [u32; 6] = [31, 32, 33, 34, 35, 36];
+
+/// The refusal numbers of *read archive*, buffer aside: 54, 2, 3 and 55. They have
+/// hundreds here, so that they rise in the order of the checks.
+pub const OF_Z_ORDER: [u32; 4] = [54, 302, 303, 355];
 
 /// The pairs of faults that cannot come together, with the reason. All other
 /// pairs of one operation can, and a run has to meet them.
@@ -119,6 +123,38 @@ pub fn moves(bytes: &[u8]) -> Vec<u32> {
         (35, not_rising(routes) || any(routes, bad_route)),
         (36, any(counts, |count| count == 0 || count > most)),
     ])
+}
+
+/// The faults of a sheet in Z order, rising.
+pub fn z_order(bytes: &[u8]) -> Vec<u32> {
+    let words = to_words(bytes);
+    let (n, t) = (word_at(&words, 0), word_at(&words, 1));
+    let counts = stretch(&words, 2, 4_096);
+    let no_node = |position: u64| {
+        let [holder, subdomain] = quadrants(position);
+        there_and(n, |n| holder >= n || subdomain >= n)
+    };
+    let mut above_0 = (0..).zip(counts).filter(|(_, &count)| count > 0);
+    let elsewhere = above_0.any(|(position, _)| no_node(position));
+    holding(&[
+        (54, bytes.len() != 16_392),
+        (302, there_and(n, |n| outside(n, NODES))),
+        (303, there_and(t, |t| outside(t, TOLERANCE))),
+        (355, elsewhere || sum(counts) > u64::from(MOST_PARTICLES)),
+    ])
+}
+
+/// The holder and the subdomain of a position, looked at from the largest square
+/// down, unlike the reference: a square has four quadrants one behind the other, the
+/// second and the fourth with higher subdomains, the last two with higher holders.
+fn quadrants(position: u64) -> [u64; 2] {
+    let mut node = [0, 0];
+    for side in [32, 16, 8, 4, 2, 1] {
+        let quadrant = position / (side * side) % 4;
+        node[0] += side * (quadrant / 2);
+        node[1] += side * (quadrant % 2);
+    }
+    node
 }
 
 /// The numbers whose condition holds.

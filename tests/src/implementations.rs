@@ -24,12 +24,18 @@ pub const MOVES_BYTES: usize = 4 * (2 + 2 * MOST_NODES * (MOST_NODES - 1));
 /// The longest page: 25 × (N+1).
 pub const PAGE_BYTES: usize = 25 * (MOST_NODES + 1);
 
+/// A sheet in Z order: N, t and a count for each cell that there can be.
+pub const Z_ORDER_BYTES: usize = 4 * (2 + MOST_NODES * MOST_NODES);
+
 pub type PlanStep = fn(sheet: &[u8], old: &[u8], plan: &mut [u8], moves: &mut [u8]) -> StepAnswer;
 
 /// An operation that reads two records and writes one, or a page.
 pub type Write = fn(first: &[u8], second: &[u8], out: &mut [u8]) -> WrittenAnswer;
 
-/// Someone who does all nine.
+/// An operation that reads one record and writes another.
+pub type Rewrite = fn(record: &[u8], out: &mut [u8]) -> WrittenAnswer;
+
+/// Someone who does all eleven.
 pub struct Implementation {
     pub name: &'static str,
     pub read_sheet: fn(sheet: &[u8]) -> SheetAnswer,
@@ -40,6 +46,8 @@ pub struct Implementation {
     pub carry_out: fn(sheet: &[u8], moves: &[u8], next: &mut [u8]) -> WrittenAnswer,
     pub join_sheets: fn(first: &[u8], second: &[u8], out: &mut [u8]) -> WrittenAnswer,
     pub traffic_page: fn(sheet: &[u8], moves: &[u8], page: &mut [u8]) -> WrittenAnswer,
+    pub write_archive: fn(sheet: &[u8], archive: &mut [u8]) -> WrittenAnswer,
+    pub read_archive: fn(archive: &[u8], sheet: &mut [u8]) -> WrittenAnswer,
     pub tree_in_force: fn(old: &[u8], new: &[u8]) -> PartAnswer,
 }
 
@@ -54,6 +62,8 @@ pub const REFERENCE: Implementation = Implementation {
     carry_out: reference::carry_out,
     join_sheets: reference::join_sheets,
     traffic_page: reference::traffic_page,
+    write_archive: reference::write_archive,
+    read_archive: reference::read_archive,
     tree_in_force: reference::tree_in_force,
 };
 
@@ -68,6 +78,8 @@ pub const ARCHIVE: Implementation = Implementation {
     carry_out: boundary::carry_out,
     join_sheets: boundary::join_sheets,
     traffic_page: boundary::traffic_page,
+    write_archive: boundary::write_archive,
+    read_archive: boundary::read_archive,
     tree_in_force: boundary::tree_in_force,
 };
 
@@ -79,6 +91,8 @@ pub const PLAIN: Implementation = Implementation {
     carry_out: plain::carry_out,
     join_sheets: plain::join_sheets,
     traffic_page: plain::traffic_page,
+    write_archive: plain::write_archive,
+    read_archive: plain::read_archive,
     ..REFERENCE
 };
 
@@ -144,17 +158,27 @@ impl Implementation {
 
     /// *Carry out* with a buffer that is long enough: the sheet, or the refusal.
     pub fn carried_out(&self, sheet: &[u8], moves: &[u8]) -> Result<Vec<u8>, u32> {
-        written(self.carry_out, sheet, moves, SHEET_BYTES)
+        written(SHEET_BYTES, |next| (self.carry_out)(sheet, moves, next))
     }
 
     /// *Join sheets* with a buffer that is long enough: the sheet, or the refusal.
     pub fn joined(&self, first: &[u8], second: &[u8]) -> Result<Vec<u8>, u32> {
-        written(self.join_sheets, first, second, SHEET_BYTES)
+        written(SHEET_BYTES, |out| (self.join_sheets)(first, second, out))
     }
 
     /// *Traffic page* with a buffer that is long enough: the page, or the refusal.
     pub fn page(&self, sheet: &[u8], moves: &[u8]) -> Result<Vec<u8>, u32> {
-        written(self.traffic_page, sheet, moves, PAGE_BYTES)
+        written(PAGE_BYTES, |page| (self.traffic_page)(sheet, moves, page))
+    }
+
+    /// *Write archive* with a buffer that is long enough: the record, or the refusal.
+    pub fn archived(&self, sheet: &[u8]) -> Result<Vec<u8>, u32> {
+        written(Z_ORDER_BYTES, |out| (self.write_archive)(sheet, out))
+    }
+
+    /// *Read archive* with a buffer that is long enough: the sheet, or the refusal.
+    pub fn brought_back(&self, archive: &[u8]) -> Result<Vec<u8>, u32> {
+        written(SHEET_BYTES, |sheet| (self.read_archive)(archive, sheet))
     }
 
     /// *Weigh* with a buffer that is long enough: the leasts and whether the
@@ -170,11 +194,13 @@ impl Implementation {
     }
 }
 
-/// What an operation writes to a buffer of this length, which is enough, or its
-/// refusal.
-fn written(write: Write, first: &[u8], second: &[u8], length: usize) -> Result<Vec<u8>, u32> {
+/// What is written to a buffer of this length, which is enough, or the refusal.
+fn written(
+    length: usize,
+    write: impl FnOnce(&mut [u8]) -> WrittenAnswer,
+) -> Result<Vec<u8>, u32> {
     let mut out = vec![0; length];
-    let answer = write(first, second, &mut out);
+    let answer = write(&mut out);
     out.truncate(answer.bytes as usize);
     match answer.refusal {
         0 => Ok(out),

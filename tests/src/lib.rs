@@ -7,7 +7,7 @@
 //! | `answers` | what the operations answer |
 //! | `reference` | the second implementation |
 //! | `exhaustive` | all small rows and trees |
-//! | `faults` | every check of document 01 looked at on its own |
+//! | `faults` | every check of a record looked at on its own |
 //! | `boundary` | the archive under test, as the Rust wrapper declares it |
 //! | `random` | the seeded generator |
 //! | `settings` | numbers from the environment |
@@ -25,7 +25,7 @@
 //! | `bench_text` | what the bench program prints |
 //! | `plain` | the benchmark's baseline |
 //! | `speed` | the benchmark |
-//! | `refused` | a small step for each refusal of *plan a step*, moves for each of *read moves* |
+//! | `refused` | a small step for each refusal of *plan a step*, and records for each of *read moves* and *read archive* |
 //! | `damaged` | damaged inputs of the bench program |
 //! | `cases`, `stretches` | the inputs and outputs of programs that the gate runs |
 #![forbid(unsafe_code)]

@@ -29,3 +29,13 @@ pub fn join_sheets(first: &[u8], second: &[u8], out: &mut [u8]) -> WrittenAnswer
 pub fn traffic_page(sheet: &[u8], moves: &[u8], page: &mut [u8]) -> WrittenAnswer {
     firrozka_plain::traffic_page(sheet, moves, page).map_or_else(Answer::refused, answers::written)
 }
+
+/// *Write archive*, as the baseline does it.
+pub fn write_archive(sheet: &[u8], archive: &mut [u8]) -> WrittenAnswer {
+    firrozka_plain::write_archive(sheet, archive).map_or_else(Answer::refused, answers::written)
+}
+
+/// *Read archive*, as the baseline does it.
+pub fn read_archive(archive: &[u8], sheet: &mut [u8]) -> WrittenAnswer {
+    firrozka_plain::read_archive(archive, sheet).map_or_else(Answer::refused, answers::written)
+}

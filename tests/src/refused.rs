@@ -1,7 +1,8 @@
 //! A small step for each refusal that *plan a step* can give whatever the
-//! buffers, 1 to 7, 11 to 18 and 21; and small moves for each of *read moves*.
+//! buffers, 1 to 7, 11 to 18 and 21; small moves for each of *read moves*; and sheets
+//! in Z order for each of *read archive*.
 
-use crate::records::{moves, plans, sheets, Record};
+use crate::records::{moves, plans, sheets, z_order, Record};
 use crate::steps::Step;
 use crate::worked::{self, TEN_PERCENT};
 
@@ -69,6 +70,22 @@ pub fn moves() -> Vec<(u32, Vec<u8>)> {
         (34, [moves(3, &[], &[]), vec![0]].concat()),
         (35, moves(3, &[route(0, 1, 1)], &[1])),
         (36, moves(3, &[route(0, 0, 1)], &[0])),
+    ]
+}
+
+/// The sheet of step D in Z order, 54, 2, 3 and 55.
+pub fn archives() -> Vec<(u32, Vec<u8>)> {
+    let with = |word: usize, value: u32| {
+        let mut record = z_order::of(&worked::d().sheet);
+        record.words[word] = value;
+        record
+    };
+    vec![
+        (54, cut(with(0, 3), 16_391)),
+        (2, with(0, 65).bytes()),
+        (3, with(1, 1_000).bytes()),
+        // The position of holder 0 and subdomain 3.
+        (55, with(2 + 5, 1).bytes()),
     ]
 }
 

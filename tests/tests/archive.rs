@@ -1,13 +1,14 @@
-//! The differential run over the C boundary, for the operations on two records:
-//! many seeded calls, answers and buffers compared, every refusal, every order
-//! of two faults and every corner met.
+//! The differential run over the C boundary, for the operations on more than one
+//! record: many seeded calls, answers and buffers compared, every refusal, every
+//! order of two faults and every corner met.
 //!
 //! FIRROZKA_SEED gives another run, FIRROZKA_ROUNDS another number of mixed
 //! inputs for each operation. The tally is printed with `-- --nocapture`.
 #![forbid(unsafe_code)]
 
 use firrozka_tests::calls::{
-    CARRY_OUT, JOIN_SHEETS, PLAN_STEP, TRAFFIC_PAGE, TREE_IN_FORCE, WEIGH,
+    CARRY_OUT, JOIN_SHEETS, PLAN_STEP, READ_ARCHIVE, TRAFFIC_PAGE, TREE_IN_FORCE, WEIGH,
+    WRITE_ARCHIVE,
 };
 
 const ROUNDS: usize = 8_000;
@@ -35,6 +36,16 @@ fn join_sheets() {
 #[test]
 fn traffic_page() {
     TRAFFIC_PAGE.test(ROUNDS);
+}
+
+#[test]
+fn write_archive() {
+    WRITE_ARCHIVE.test(ROUNDS);
+}
+
+#[test]
+fn read_archive() {
+    READ_ARCHIVE.test(ROUNDS);
 }
 
 #[test]

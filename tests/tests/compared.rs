@@ -2,7 +2,7 @@
 //! twice. Nothing is said of their times.
 #![forbid(unsafe_code)]
 
-use firrozka_tests::calls::{CARRY_OUT, JOIN_SHEETS, PLAN_STEP, TRAFFIC_PAGE, WEIGH};
+use firrozka_tests::calls::MEASURED_CALLS;
 use firrozka_tests::implementations::{IN_PERCENT, OWNER_FIRST, REFERENCE};
 use firrozka_tests::records::plans::Form;
 use firrozka_tests::settings::SEED;
@@ -26,11 +26,21 @@ fn archive() -> PathBuf {
     wrapper.join(folder).join("libfirrozka.a")
 }
 
-/// What an archive lacks that is from before request 2026-04, and from before
-/// 2026-02.
-const LACKED: [&[Measured]; 2] = [
-    &[Measured::TrafficPage],
-    &[Measured::TrafficPage, Measured::JoinSheets],
+/// What an archive lacks that is from before request 2026-05, from before 2026-04,
+/// and from before 2026-02.
+const LACKED: [&[Measured]; 3] = [
+    &[Measured::ReadArchive, Measured::WriteArchive],
+    &[
+        Measured::ReadArchive,
+        Measured::WriteArchive,
+        Measured::TrafficPage,
+    ],
+    &[
+        Measured::ReadArchive,
+        Measured::WriteArchive,
+        Measured::TrafficPage,
+        Measured::JoinSheets,
+    ],
 ];
 
 /// The same without some operations.
@@ -49,7 +59,7 @@ fn without(lacked: &[Measured]) -> PathBuf {
 }
 
 /// A row for each operation.
-fn some_rows() -> [Row; 5] {
+fn some_rows() -> [Row; 7] {
     MEASURED.map(|measured| Row {
         measured,
         filling: Filling::Sparse,
@@ -71,7 +81,7 @@ fn both_answer_like_the_second_implementation() {
     assert_eq!(times.len(), rows.len());
     assert!(rows.iter().all(agree));
     for by in [&EARLIER, &LATER] {
-        for operation in [&WEIGH, &PLAN_STEP, &CARRY_OUT, &JOIN_SHEETS, &TRAFFIC_PAGE] {
+        for operation in MEASURED_CALLS {
             let met = operation.run(by, SEED, 100);
             met.unwrap_or_else(|wrong| panic!("{wrong}"));
         }
@@ -96,10 +106,10 @@ fn an_archive_without_some_operations() {
 }
 
 /// An archive of version 1.0 is handed the same steps, with t in percents. It
-/// joins no sheets and writes no pages.
+/// joins no sheets, and writes neither pages nor sheets in Z order.
 #[test]
 fn sheets_of_another_unit_mean_the_same() {
-    let [_, lacked] = LACKED;
+    let [.., lacked] = LACKED;
     let there = |row: &Row| !lacked.contains(&row.measured);
     for row in some_rows().into_iter().filter(there) {
         let job = row.job(64);

@@ -1,5 +1,6 @@
 //! Calls at the edges, gone through one by one: every word of a record off,
-//! every length, 2^32 − 1 everywhere, and the largest records.
+//! every length, 2^32 − 1 everywhere, and the largest records. Of a sheet in Z order,
+//! which is never small, it is the words and the lengths at either end.
 #![forbid(unsafe_code)]
 
 use firrozka_tests::calls::check::check;
@@ -54,11 +55,17 @@ fn changed(change: impl Fn(&Operation, [Record; 2], usize)) {
     }
 }
 
+/// All places below this. If they are many, so many at the beginning, which are all
+/// of a small record's, and so many at the end.
+fn ends(length: usize, [first, last]: [usize; 2]) -> impl Iterator<Item = usize> {
+    (0..length).filter(move |&at| at < first || at + last >= length)
+}
+
 #[test]
 fn every_word() {
     changed(|operation, records, which| {
         let mut draft = Draft::new(records);
-        for at in 0..draft.records[which].words.len() {
+        for at in ends(draft.records[which].words.len(), [24, 4]) {
             let word = draft.records[which].words[at];
             let (less, more) = (word.wrapping_sub(1), word.wrapping_add(1));
             let edges = [0, 1, 2, 3, 4, 63, 64, 65, 999, 1_000, 4_095, 4_096, 36, 37];
@@ -85,7 +92,7 @@ fn every_length() {
         let mut draft = Draft::new(records);
         draft.records[which].tail = vec![1; 9];
         let longest = 4 * draft.records[which].words.len() + 9;
-        for length in 0..=longest {
+        for length in ends(longest + 1, [80, 20]) {
             draft.records[which].cut = Some(length);
             expect(operation, &draft);
         }

@@ -18,8 +18,8 @@ const MOST: u32 = 1_000_000_000;
 
 /// All write this sheet, whichever of the two comes first.
 fn join_to(first: &[u8], second: &[u8], joint: &[u8]) {
-    for records in [[first, second], [second, first]] {
-        all_write(|by| by.join_sheets, records, joint, 52);
+    for [a, b] in [[first, second], [second, first]] {
+        all_write(|by, out| (by.join_sheets)(a, b, out), joint, 52);
     }
     for implementation in IMPLEMENTATIONS {
         assert_eq!(joined(implementation, first, second), joint);
@@ -28,7 +28,11 @@ fn join_to(first: &[u8], second: &[u8], joint: &[u8]) {
 
 /// All refuse the two, in this order.
 fn refuse(first: &[u8], second: &[u8], lengths: &[usize], refusal: u32) {
-    all_refuse(|by| by.join_sheets, [first, second], lengths, refusal);
+    all_refuse(
+        |by, out| (by.join_sheets)(first, second, out),
+        lengths,
+        refusal,
+    );
 }
 
 /// All refuse the two, in either order.

@@ -189,7 +189,11 @@ fn plan_step_buffers() {
 // Carry out.
 
 fn carry_out_refuses(sheet: &[u8], moves: &[u8], lengths: &[usize], refusal: u32) {
-    all_refuse(|by| by.carry_out, [sheet, moves], lengths, refusal);
+    all_refuse(
+        |by, next| (by.carry_out)(sheet, moves, next),
+        lengths,
+        refusal,
+    );
 }
 
 /// "Refused: the sheet's; the moves'; 41, N differ; 42, some cell sends in all
@@ -270,8 +274,11 @@ fn carry_out_writes() {
             let planned = implementation.plan(&step);
             let next = implementation.carried_out(&step.sheet, &planned.moves);
             let next = next.expect("accepted");
-            let records = [&step.sheet[..], &planned.moves];
-            all_write(|by| by.carry_out, records, &next, 43);
+            all_write(
+                |by, out| (by.carry_out)(&step.sheet, &planned.moves, out),
+                &next,
+                43,
+            );
             // With no moves the sheet stays as it is.
             let n = to_words(&step.sheet)[0];
             let rest = moves(n, &[], &[]).bytes();

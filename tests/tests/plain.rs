@@ -3,13 +3,13 @@
 //! order of two faults among them.
 #![forbid(unsafe_code)]
 
-use firrozka_tests::calls::{CARRY_OUT, JOIN_SHEETS, PLAN_STEP, TRAFFIC_PAGE, WEIGH};
+use firrozka_tests::calls::MEASURED_CALLS;
 use firrozka_tests::implementations::PLAIN;
 use firrozka_tests::settings::SEED;
 
 #[test]
 fn answers_like_the_second_implementation() {
-    for operation in [&WEIGH, &PLAN_STEP, &CARRY_OUT, &JOIN_SHEETS, &TRAFFIC_PAGE] {
+    for operation in MEASURED_CALLS {
         let met = operation.run(&PLAIN, SEED, 300);
         met.unwrap_or_else(|wrong| panic!("{wrong}"));
     }

@@ -26,12 +26,20 @@ const STEP_D: &str = concat!(
 
 /// All write this page.
 fn write(sheet: &[u8], moves: &[u8], page: &str) {
-    all_write(|by| by.traffic_page, [sheet, moves], page.as_bytes(), 53);
+    all_write(
+        |by, out| (by.traffic_page)(sheet, moves, out),
+        page.as_bytes(),
+        53,
+    );
 }
 
 /// All refuse the two.
 fn refuse(sheet: &[u8], moves: &[u8], lengths: &[usize], refusal: u32) {
-    all_refuse(|by| by.traffic_page, [sheet, moves], lengths, refusal);
+    all_refuse(
+        |by, out| (by.traffic_page)(sheet, moves, out),
+        lengths,
+        refusal,
+    );
 }
 
 /// A sheet of these cells, given as holder, subdomain and count.

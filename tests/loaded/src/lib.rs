@@ -30,6 +30,9 @@ struct Archive {
     join_sheets: AtomicPtr<c_void>,
     /// Nowhere in one from before request 2026-04.
     traffic_page: AtomicPtr<c_void>,
+    /// Nowhere in one from before request 2026-05, like the next.
+    write_archive: AtomicPtr<c_void>,
+    read_archive: AtomicPtr<c_void>,
 }
 
 impl Archive {
@@ -42,6 +45,8 @@ impl Archive {
             carry_out: AtomicPtr::new(ptr::null_mut()),
             join_sheets: AtomicPtr::new(ptr::null_mut()),
             traffic_page: AtomicPtr::new(ptr::null_mut()),
+            write_archive: AtomicPtr::new(ptr::null_mut()),
+            read_archive: AtomicPtr::new(ptr::null_mut()),
         }
     }
 }
@@ -51,6 +56,7 @@ static PLACES: [Archive; 2] = [Archive::none(), Archive::none()];
 type Version = extern "C" fn() -> u32;
 type Weigh = extern "C" fn(*const u8, usize, *const u8, usize, *mut u8, usize) -> WeighedAnswer;
 type Write = extern "C" fn(*const u8, usize, *const u8, usize, *mut u8, usize) -> WrittenAnswer;
+type Rewrite = extern "C" fn(*const u8, usize, *mut u8, usize) -> WrittenAnswer;
 type PlanStep =
     extern "C" fn(*const u8, usize, *const u8, usize, *mut u8, usize, *mut u8, usize) -> StepAnswer;
 
@@ -83,6 +89,8 @@ pub fn load(file: &Path, place: usize) -> Result<(), String> {
     for (function, name) in [
         (&archive.join_sheets, "firrozka_join_sheets"),
         (&archive.traffic_page, "firrozka_traffic_page"),
+        (&archive.write_archive, "firrozka_write_archive"),
+        (&archive.read_archive, "firrozka_read_archive"),
     ] {
         function.store(find(name), Ordering::Relaxed);
     }
@@ -110,12 +118,26 @@ fn loaded(function: &AtomicPtr<c_void>) -> *mut c_void {
 
 /// Whether the archive at this place has *join sheets*.
 pub fn has_join_sheets(place: usize) -> bool {
-    !PLACES[place].join_sheets.load(Ordering::Relaxed).is_null()
+    is_there(&PLACES[place].join_sheets)
 }
 
 /// Whether the archive at this place has *traffic page*.
 pub fn has_traffic_page(place: usize) -> bool {
-    !PLACES[place].traffic_page.load(Ordering::Relaxed).is_null()
+    is_there(&PLACES[place].traffic_page)
+}
+
+/// Whether the archive at this place has *write archive*.
+pub fn has_write_archive(place: usize) -> bool {
+    is_there(&PLACES[place].write_archive)
+}
+
+/// Whether the archive at this place has *read archive*.
+pub fn has_read_archive(place: usize) -> bool {
+    is_there(&PLACES[place].read_archive)
+}
+
+fn is_there(function: &AtomicPtr<c_void>) -> bool {
+    !function.load(Ordering::Relaxed).is_null()
 }
 
 /// The version of the archive at this place.
@@ -181,6 +203,23 @@ pub fn traffic_page<const PLACE: usize>(
     page: &mut [u8],
 ) -> WrittenAnswer {
     write(&PLACES[PLACE].traffic_page, sheet, moves, page)
+}
+
+/// *Write archive*, as the archive at this place does it.
+pub fn write_archive<const PLACE: usize>(sheet: &[u8], archive: &mut [u8]) -> WrittenAnswer {
+    rewrite(&PLACES[PLACE].write_archive, sheet, archive)
+}
+
+/// *Read archive*, as the archive at this place does it.
+pub fn read_archive<const PLACE: usize>(archive: &[u8], sheet: &mut [u8]) -> WrittenAnswer {
+    rewrite(&PLACES[PLACE].read_archive, archive, sheet)
+}
+
+/// Calls a function that reads one record and writes another.
+fn rewrite(function: &AtomicPtr<c_void>, record: &[u8], out: &mut [u8]) -> WrittenAnswer {
+    // SAFETY: all functions that stand here have this type in an archive.
+    let rewrite: Rewrite = unsafe { mem::transmute(loaded(function)) };
+    rewrite(record.as_ptr(), record.len(), out.as_mut_ptr(), out.len())
 }
 
 /// Calls a function that reads two records and writes one, or a page.

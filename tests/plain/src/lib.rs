@@ -10,6 +10,7 @@ mod page;
 mod records;
 mod transfer;
 mod tree;
+mod z_order;
 
 use records::{
     put_record, put_words, read_moves, read_plan, read_sheet, Moves, Nodes, Sheet, Table,
@@ -90,7 +91,7 @@ pub fn carry_out(sheet_bytes: &[u8], moves_bytes: &[u8], next: &mut [u8]) -> Res
     let (sheet, moves) = read_sheet_and_moves(sheet_bytes, moves_bytes)?;
     let mut table: Table = records::unpack(sheet_bytes, sheet.e as usize);
     transfer::apply(&mut table, moves_bytes, moves.e as usize)?;
-    write_sheet(&table, &sheet, next).ok_or(43)
+    write_sheet(&table, [sheet.n, sheet.t], next).ok_or(43)
 }
 
 /// *Traffic page*: its length in bytes.
@@ -126,15 +127,29 @@ pub fn join_sheets(first_bytes: &[u8], second_bytes: &[u8], out: &mut [u8]) -> R
     }
     let mut table: Table = records::unpack(first_bytes, first.e as usize);
     records::add(&mut table, second_bytes, second.e as usize);
-    write_sheet(&table, &first, out).ok_or(52)
+    write_sheet(&table, [first.n, first.t], out).ok_or(52)
 }
 
-/// Writes a table as a sheet with N and t of another, and gives its length in
-/// bytes; nothing if the buffer is too short.
-fn write_sheet(table: &Table, like: &Sheet, out: &mut [u8]) -> Option<u32> {
-    let cells = &table[..64 * like.n as usize];
+/// *Write archive*: its length in bytes.
+pub fn write_archive(sheet_bytes: &[u8], out: &mut [u8]) -> Result<u32, u32> {
+    let sheet = read_sheet(sheet_bytes)?;
+    let bytes = z_order::BYTES;
+    z_order::put(out.get_mut(..bytes).ok_or(56u32)?, &sheet, sheet_bytes);
+    Ok(bytes as u32)
+}
+
+/// *Read archive*: the length in bytes of the sheet.
+pub fn read_archive(archive: &[u8], out: &mut [u8]) -> Result<u32, u32> {
+    let (sizes, table) = z_order::read(archive)?;
+    write_sheet(&table, sizes, out).ok_or(56)
+}
+
+/// Writes a table as a sheet with this N and t, and gives its length in bytes;
+/// nothing if the buffer is too short.
+fn write_sheet(table: &Table, [n, t]: [u32; 2], out: &mut [u8]) -> Option<u32> {
+    let cells = &table[..64 * n as usize];
     let e = cells.iter().filter(|&&count| count != 0).count();
     let bytes = 4 * (3 + 2 * e);
-    records::put_sheet(out.get_mut(..bytes)?, &[like.n, like.t, e as u32], cells);
+    records::put_sheet(out.get_mut(..bytes)?, &[n, t, e as u32], cells);
     Some(bytes as u32)
 }

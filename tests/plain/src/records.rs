@@ -25,7 +25,7 @@ pub struct Moves {
     pub e: u32,
 }
 
-fn word(bytes: &[u8], index: usize) -> u32 {
+pub fn word(bytes: &[u8], index: usize) -> u32 {
     let at = 4 * index;
     u32::from_le_bytes([bytes[at], bytes[at + 1], bytes[at + 2], bytes[at + 3]])
 }
@@ -48,12 +48,7 @@ pub fn read_sheet(bytes: &[u8]) -> Result<Sheet, u32> {
         return Err(1);
     }
     let (n, t, e) = (word(bytes, 0), word(bytes, 1), word(bytes, 2));
-    if !(1..=64).contains(&n) {
-        return Err(2);
-    }
-    if !(1..=999).contains(&t) {
-        return Err(3);
-    }
+    check_ranges(n, t)?;
     if e > n * n {
         return Err(4);
     }
@@ -76,6 +71,17 @@ pub fn read_sheet(bytes: &[u8]) -> Result<Sheet, u32> {
     }
     let limit = limit(p, n, t);
     Ok(Sheet { n, t, e, p, limit })
+}
+
+/// Refuses N and t outside their ranges.
+pub fn check_ranges(n: u32, t: u32) -> Result<(), u32> {
+    if !(1..=64).contains(&n) {
+        return Err(2);
+    }
+    if !(1..=999).contains(&t) {
+        return Err(3);
+    }
+    Ok(())
 }
 
 fn limit(p: u32, n: u32, t: u32) -> u32 {

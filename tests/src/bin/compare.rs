@@ -45,10 +45,10 @@ fn main() {
 /// A line for each row, and the largest median.
 fn print(rows: &[Row], times: &[Vec<[f64; 2]>]) {
     println!(
-        "operation    sheet   outcome                  inputs    | earlier  later | ratio   from     to"
+        "operation     sheet   outcome                  inputs    | earlier  later | ratio   from     to"
     );
     println!(
-        "--------------------------------------------------------+----------------+--------------------"
+        "---------------------------------------------------------+----------------+--------------------"
     );
     let mut worst: f64 = 0.0;
     for (row, times) in rows.iter().zip(times) {

@@ -6,7 +6,7 @@ use crate::bounds::{MOST_PARTICLES, NODES, TOLERANCE};
 use crate::implementations::REFERENCE;
 use crate::random::Random;
 use crate::records::mutation::{mutate, mutate_once};
-use crate::records::{moves, plans, sheets, Record};
+use crate::records::{moves, plans, sheets, z_order, Record};
 use crate::steps::{self, Size, Step};
 use std::collections::BTreeMap;
 
@@ -121,7 +121,9 @@ impl Draft {
             31..=36 => moves::inject(beside_sheet(first, second), fault, random),
             111..=118 => plans::inject(second, fault - 100, random),
             21 | 121 => *second = plans::build(random),
-            22 | 25 | 43 | 53 | 252 => self.rooms[0] = short,
+            54 => z_order::inject(first, fault, random),
+            302 | 303 | 355 => z_order::inject(first, fault - 300, random),
+            22 | 25 | 43 | 53 | 56 | 252 | 356 => self.rooms[0] = short,
             23 => self.rooms[1] = short,
             24 => *second = roots(second.words[0], random),
             122 => {
@@ -216,6 +218,17 @@ pub fn traffic_page(random: &mut Random) -> Draft {
     }
 }
 
+/// A sheet: a step's, or any.
+pub fn write_archive(random: &mut Random) -> Draft {
+    Draft::new([some_sheet(random), Record::none()])
+}
+
+/// The same in Z order.
+pub fn read_archive(random: &mut Random) -> Draft {
+    let archive = z_order::of(&some_sheet(random).bytes());
+    Draft::new([archive, Record::none()])
+}
+
 /// Old and new plan: those of a step, or two with the same helpands, or with
 /// others.
 pub fn tree_in_force(random: &mut Random) -> Draft {
@@ -251,6 +264,13 @@ pub fn sheet_and_moves(step: &Step) -> [Record; 2] {
 pub fn old_and_new(step: &Step) -> [Record; 2] {
     let planned = REFERENCE.plan(step);
     [plan_or_none(&step.old), plans::of(&planned.plan)]
+}
+
+fn some_sheet(random: &mut Random) -> Record {
+    match random.below(2) {
+        0 => sheets::of(&some_step(random).sheet),
+        _ => sheets::build(random),
+    }
 }
 
 /// Mostly a small step, and now and then the largest.

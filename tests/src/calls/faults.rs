@@ -4,7 +4,7 @@
 
 use super::Call;
 use crate::bounds::MOST_PARTICLES;
-use crate::faults::{holding, moves, plan, sheet, stretch, word_at};
+use crate::faults::{holding, moves, plan, sheet, stretch, word_at, z_order};
 use crate::records::to_words;
 use std::collections::{BTreeMap, BTreeSet};
 
@@ -84,6 +84,19 @@ pub fn join_sheets(call: &Call) -> Vec<u32> {
     [sheet(first), of_second(sheet(second)), rest].concat()
 }
 
+/// Request 2026-05: "writing has the sheet's, then 56 for a short buffer".
+pub fn write_archive(call: &Call) -> Vec<u32> {
+    let rest = holding(&[(56, is_short(call, 0))]);
+    [sheet(&call.records[0]), rest].concat()
+}
+
+/// Request 2026-05: "reading has 54 for another length, 2, 3, 55 for a count above 0
+/// at a node not below N or a sum above the maximum, then 56."
+pub fn read_archive(call: &Call) -> Vec<u32> {
+    let rest = holding(&[(356, is_short(call, 0))]);
+    [z_order(&call.records[0]), rest].concat()
+}
+
 /// The faults of a second record that is of the same sort as the first.
 fn of_second(faults: Vec<u32>) -> Vec<u32> {
     faults.into_iter().map(|number| 100 + number).collect()
@@ -132,6 +145,17 @@ pub fn all_moved(call: &Call) -> u64 {
         .iter()
         .map(|(_, count)| count)
         .sum()
+}
+
+/// The counts of a sheet in Z order, as far as they are there.
+pub fn counts_in_z_order(archive: &[u8]) -> Vec<u32> {
+    stretch(&to_words(archive), 2, 4_096).to_vec()
+}
+
+/// The length of the sheet with the counts of one in Z order.
+pub fn length_back(archive: &[u8]) -> usize {
+    let counts = counts_in_z_order(archive);
+    4 * (3 + 2 * counts.iter().filter(|&&count| count > 0).count())
 }
 
 /// The length of a sheet with each cell that one of two sheets has, as far as

@@ -1,4 +1,4 @@
-//! The nine operations, seen alike: one record or two are read, up to two
+//! The eleven operations, seen alike: one record or two are read, up to two
 //! buffers are lent, and the answer is some words. Then one run serves all.
 //!
 //! | file | what it holds |
@@ -15,10 +15,12 @@ pub mod run;
 
 use crate::answers::{MovesAnswer, PlanAnswer, SheetAnswer};
 use crate::bounds::{MOST_PARTICLES, NODES};
-use crate::faults::{self as of_records, word_at, OF_MOVES, OF_PLAN, OF_SHEET};
-use crate::implementations::{Implementation, MOVES_BYTES, PLAN_BYTES, REFERENCE, SHEET_BYTES};
+use crate::faults::{self as of_records, word_at, OF_MOVES, OF_PLAN, OF_SHEET, OF_Z_ORDER};
+use crate::implementations::{
+    Implementation, MOVES_BYTES, PLAN_BYTES, REFERENCE, SHEET_BYTES, Z_ORDER_BYTES,
+};
 use crate::random::Random;
-use crate::records::{moves, plans, sheets, to_words, Record};
+use crate::records::{moves, plans, sheets, to_words, z_order, Record};
 use crate::steps::Step;
 use drafts::Draft;
 
@@ -294,6 +296,57 @@ pub const TRAFFIC_PAGE: Operation = Operation {
     ..CARRY_OUT
 };
 
+pub const WRITE_ARCHIVE: Operation = Operation {
+    name: "write archive",
+    checks: &[&OF_SHEET, &[56]],
+    answer: |implementation, [sheet, _], [archive, _]| {
+        let answer = (implementation.write_archive)(sheet, archive);
+        vec![answer.refusal, answer.bytes]
+    },
+    needed: |_, _| [Z_ORDER_BYTES, 0],
+    faults: faults::write_archive,
+    records: |step| [sheets::of(&step.sheet), Record::none()],
+    build: drafts::write_archive,
+    corners: &[
+        ("N 1", |call, _| first_word(call) == 1),
+        ("4,096 cells", has_all_cells),
+        ("no cells", |call, _| call.records[0].len() == 12),
+        ("the largest total", |call, _| {
+            (REFERENCE.read_sheet)(&call.records[0]).p == MOST_PARTICLES
+        }),
+    ],
+    ..CARRY_OUT
+};
+
+/// Refusals 2 and 3 come behind 54. Here all but that have 300 more, so that they
+/// rise in the order of the checks.
+pub const READ_ARCHIVE: Operation = Operation {
+    name: "read archive",
+    checks: &[&OF_Z_ORDER, &[356]],
+    answer: |implementation, [archive, _], [sheet, _]| {
+        let answer = (implementation.read_archive)(archive, sheet);
+        vec![answer.refusal, answer.bytes]
+    },
+    needed: |archive, _| [faults::length_back(archive), 0],
+    faults: faults::read_archive,
+    records: |step| [z_order::of(&step.sheet), Record::none()],
+    build: drafts::read_archive,
+    corners: &[
+        ("N 1", |call, _| first_word(call) == 1),
+        ("4,096 cells written", |_, answer| {
+            answer[1] as usize == SHEET_BYTES
+        }),
+        ("no cells written", |_, answer| answer[1] == 12),
+        ("the largest total", |call, _| {
+            faults::counts_in_z_order(&call.records[0])
+                .iter()
+                .sum::<u32>()
+                == MOST_PARTICLES
+        }),
+    ],
+    ..CARRY_OUT
+};
+
 /// It has no refusals; what leads to the empty stretch has numbers here. Those
 /// of the old plan are *read plan*'s, those of the new plan 100 more, and the
 /// rest is 121, N differ, 122, kind 1 after kind 0, 123, kind 1 with other
@@ -323,8 +376,8 @@ pub const TREE_IN_FORCE: Operation = Operation {
     ],
 };
 
-/// All nine.
-pub const OPERATIONS: [&Operation; 9] = [
+/// All eleven.
+pub const OPERATIONS: [&Operation; 11] = [
     &READ_SHEET,
     &READ_PLAN,
     &READ_MOVES,
@@ -333,7 +386,20 @@ pub const OPERATIONS: [&Operation; 9] = [
     &CARRY_OUT,
     &JOIN_SHEETS,
     &TRAFFIC_PAGE,
+    &WRITE_ARCHIVE,
+    &READ_ARCHIVE,
     &TREE_IN_FORCE,
+];
+
+/// Those that the benchmark measures.
+pub const MEASURED_CALLS: [&Operation; 7] = [
+    &WEIGH,
+    &PLAN_STEP,
+    &CARRY_OUT,
+    &JOIN_SHEETS,
+    &TRAFFIC_PAGE,
+    &WRITE_ARCHIVE,
+    &READ_ARCHIVE,
 ];
 
 impl Operation {

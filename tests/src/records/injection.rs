@@ -2,6 +2,7 @@
 
 use super::mutation::some_bytes;
 use super::Record;
+use crate::bounds::MOST_PARTICLES;
 use crate::random::Random;
 use std::ops::RangeInclusive;
 
@@ -60,5 +61,29 @@ pub fn stop_rising(entries: &mut [u32], random: &mut Random) {
         0 => entries.swap(at, at + 1),
         1 => entries[at + 1] = entries[at],
         _ => entries[at] = entries[at + 1],
+    }
+}
+
+/// Changes a count, or some from it on, so that the sum is one too high or wraps in
+/// 32 bits, in one of six ways from 1 on.
+pub fn sum_too_large(counts: &mut [u32], at: usize, way: u32, random: &mut Random) {
+    let sum = |counts: &[u32]| counts.iter().map(|&count| u64::from(count)).sum::<u64>();
+    let before = sum(&counts[..at]);
+    let others = before + sum(&counts[at + 1..]);
+    match way {
+        1 => counts[at] = MOST_PARTICLES + 1,
+        2 => counts[at] = u64::from(MOST_PARTICLES + 1).saturating_sub(others) as u32,
+        // The running sum comes back to something small in 32 bits.
+        3 => counts[at] = 0u32.wrapping_sub(random.between(0, before as u32)),
+        4 => set(counts, at, 2, 1 << 31),
+        5 => counts[at] = random.one_of(&[1 << 30, 1 << 31, u32::MAX]),
+        _ => set(counts, at, 4, 1 << 30),
+    }
+}
+
+/// Sets so many entries from a place on, and goes on at the first behind the last.
+fn set(entries: &mut [u32], from: usize, number: usize, value: u32) {
+    for at in from..from + number {
+        entries[at % entries.len()] = value;
     }
 }

@@ -7,6 +7,7 @@ pub mod moves;
 pub mod mutation;
 pub mod plans;
 pub mod sheets;
+pub mod z_order;
 
 use crate::bounds::NODES;
 use crate::random::Random;

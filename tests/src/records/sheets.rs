@@ -181,20 +181,8 @@ fn bad_count(record: &mut Record, random: &mut Random) {
     }
     let counts = record.second();
     let at = random.place(counts.len());
-    let sum = |counts: &[u32]| counts.iter().map(|&count| u64::from(count)).sum::<u64>();
-    let before = sum(&counts[..at]);
-    let others = before + sum(&counts[at + 1..]);
     match random.below(6) {
         0 => counts[at] = 0,
-        1 => counts[at] = MOST_PARTICLES + 1,
-        2 => counts[at] = u64::from(MOST_PARTICLES + 1).saturating_sub(others) as u32,
-        // The running sum comes back to something small in 32 bits.
-        3 => counts[at] = 0u32.wrapping_sub(random.between(0, before as u32)),
-        4 => {
-            let other = (at + 1) % counts.len();
-            counts[at] = 1 << 31;
-            counts[other] = 1 << 31;
-        }
-        _ => counts[at] = random.one_of(&[1 << 30, 1 << 31, u32::MAX]),
+        way => injection::sum_too_large(counts, at, way, random),
     }
 }

@@ -16,7 +16,8 @@
 //! | `rebuilding` | Rebuilding |
 //! | `transfer` | Moves, and the sheet that follows |
 //! | `page` | Request 2026-04, the lines |
-//! | `operations` | Operations on more than one record; requests 2026-02 and 2026-04 |
+//! | `z_order` | Request 2026-05, the record |
+//! | `operations` | Operations on more than one record; requests 2026-02, 2026-04 and 2026-05 |
 
 pub mod deciding;
 pub mod keeping;
@@ -31,10 +32,12 @@ pub mod transfer;
 pub mod tree;
 pub mod weighing;
 mod words;
+pub mod z_order;
 
 pub use moves::read_moves;
 pub use operations::{
-    carry_out, join_sheets, plan_step, plan_step_with, traffic_page, tree_in_force, weigh,
+    carry_out, join_sheets, plan_step, plan_step_with, read_archive, traffic_page, tree_in_force,
+    weigh, write_archive,
 };
 pub use plan::read_plan;
 pub use sheet::read_sheet;

@@ -10,7 +10,7 @@ use super::table::Table;
 use super::tree::old_tree;
 use super::weighing::Weighing;
 use super::words::{to_bytes, to_word};
-use super::{deciding, moves, plan, sheet, transfer};
+use super::{deciding, moves, plan, sheet, transfer, z_order};
 use crate::answers::{self, Answer, PartAnswer, StepAnswer, WeighedAnswer, WrittenAnswer};
 use crate::bounds::MOST_PARTICLES;
 
@@ -184,6 +184,32 @@ fn try_join_sheets(first: &[u8], second: &[u8], out: &mut [u8]) -> Result<u32, u
     let record = joint.sheet(first.t).bytes();
     // "52 for a short buffer"
     written(&record, out).ok_or(52)
+}
+
+/// *Write archive*, request 2026-05: "Write N, t and then 4,096 counts (16,392
+/// bytes)." It gives the length in bytes, as *carry out* does.
+pub fn write_archive(sheet: &[u8], archive: &mut [u8]) -> WrittenAnswer {
+    try_write_archive(sheet, archive).map_or_else(Answer::refused, answers::written)
+}
+
+fn try_write_archive(sheet: &[u8], archive: &mut [u8]) -> Result<u32, u32> {
+    // "writing has the sheet's"
+    let sheet = sheet::read(sheet)?;
+    // "then 56 for a short buffer"
+    written(&z_order::bytes(&sheet), archive).ok_or(56)
+}
+
+/// *Read archive*, request 2026-05: "Going to the archive and back must give the
+/// same sheet". It gives the length in bytes, too.
+pub fn read_archive(archive: &[u8], sheet: &mut [u8]) -> WrittenAnswer {
+    try_read_archive(archive, sheet).map_or_else(Answer::refused, answers::written)
+}
+
+fn try_read_archive(archive: &[u8], sheet: &mut [u8]) -> Result<u32, u32> {
+    // "54 for another length, 2, 3, 55"
+    let record = z_order::read(archive)?.bytes();
+    // "then 56"
+    written(&record, sheet).ok_or(56)
 }
 
 /// *Tree in force* "takes an old and a new plan. If the new kind is 1, it hands

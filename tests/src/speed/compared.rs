@@ -27,6 +27,8 @@ pub const EARLIER: Implementation = Implementation {
     carry_out: loaded::carry_out::<0>,
     join_sheets: loaded::join_sheets::<0>,
     traffic_page: loaded::traffic_page::<0>,
+    write_archive: loaded::write_archive::<0>,
+    read_archive: loaded::read_archive::<0>,
     ..REFERENCE
 };
 
@@ -38,11 +40,14 @@ pub const LATER: Implementation = Implementation {
     carry_out: loaded::carry_out::<1>,
     join_sheets: loaded::join_sheets::<1>,
     traffic_page: loaded::traffic_page::<1>,
+    write_archive: loaded::write_archive::<1>,
+    read_archive: loaded::read_archive::<1>,
     ..REFERENCE
 };
 
 /// The rows of operations that both archives have. Before request 2026-02 there
-/// was no *join sheets*, and before 2026-04 no *traffic page*.
+/// was no *join sheets*, before 2026-04 no *traffic page*, and before 2026-05 neither
+/// *write archive* nor *read archive*.
 pub fn in_both(archives: [&Path; 2], rows: &[Row]) -> Result<Vec<Row>, String> {
     let folder = Folder::new();
     load(archives, 0, &folder.0)?;
@@ -50,6 +55,8 @@ pub fn in_both(archives: [&Path; 2], rows: &[Row]) -> Result<Vec<Row>, String> {
     let there = |row: &&Row| match row.measured {
         Measured::JoinSheets => both(loaded::has_join_sheets),
         Measured::TrafficPage => both(loaded::has_traffic_page),
+        Measured::WriteArchive => both(loaded::has_write_archive),
+        Measured::ReadArchive => both(loaded::has_read_archive),
         _ => true,
     };
     Ok(rows.iter().filter(there).copied().collect())

@@ -7,7 +7,7 @@ use crate::answers::WrittenAnswer;
 use crate::implementations::{Implementation, MOVES_BYTES, PLAN_BYTES, REFERENCE, SHEET_BYTES};
 use crate::random::Random;
 use crate::records::plans::Form;
-use crate::records::{to_bytes, to_words};
+use crate::records::{to_bytes, to_words, z_order};
 use std::ops::Range;
 use std::sync::atomic::{compiler_fence, Ordering};
 
@@ -19,14 +19,18 @@ pub enum Measured {
     Weigh,
     JoinSheets,
     TrafficPage,
+    WriteArchive,
+    ReadArchive,
 }
 
-pub const MEASURED: [Measured; 5] = [
+pub const MEASURED: [Measured; 7] = [
     Measured::PlanStep,
     Measured::CarryOut,
     Measured::Weigh,
     Measured::JoinSheets,
     Measured::TrafficPage,
+    Measured::WriteArchive,
+    Measured::ReadArchive,
 ];
 
 impl Measured {
@@ -37,11 +41,14 @@ impl Measured {
             Measured::Weigh => "weigh",
             Measured::JoinSheets => "join sheets",
             Measured::TrafficPage => "traffic page",
+            Measured::WriteArchive => "write archive",
+            Measured::ReadArchive => "read archive",
         }
     }
 
     /// *Weigh* takes a tree, whoever holds the particles, and *join sheets* a
     /// second sheet. To *traffic page* all moves are alike: one outcome of each kind.
+    /// To the archive's two all sheets of one filling are.
     pub fn takes(self, outcome: Outcome) -> bool {
         let joined = matches!(outcome, Outcome::Joined(_));
         let again = matches!(outcome, Outcome::Kept(_, Rest::Large));
@@ -55,12 +62,13 @@ impl Measured {
                     | Outcome::Kept(Form::Random, Rest::Small)
                     | Outcome::Rebuilt(None)
             ),
+            Measured::WriteArchive | Measured::ReadArchive => outcome == Outcome::Primary,
         }
     }
 }
 
-/// One call: two records to read, the sheet first, and the lengths of what is
-/// written.
+/// One call: two records to read, the sheet first, in Z order where that is read,
+/// and the lengths of what is written.
 #[derive(Clone)]
 struct Call {
     records: [Vec<u8>; 2],
@@ -92,13 +100,21 @@ impl Job {
             let index = if changing { index } else { 0 };
             let mut random = Random::at(n as u64, index as u64);
             let step = inputs::step(n, filling, outcome, &mut random);
-            let second = match (measured, outcome) {
-                (Measured::CarryOut | Measured::TrafficPage, _) => REFERENCE.plan(&step).moves,
-                (_, Outcome::Joined(other)) => inputs::step(n, other, outcome, &mut random).sheet,
-                _ => step.old,
+            let records = match (measured, outcome) {
+                (Measured::CarryOut | Measured::TrafficPage, _) => {
+                    let moves = REFERENCE.plan(&step).moves;
+                    [step.sheet, moves]
+                }
+                (_, Outcome::Joined(other)) => {
+                    let second = inputs::step(n, other, outcome, &mut random).sheet;
+                    [step.sheet, second]
+                }
+                (Measured::WriteArchive, _) => [step.sheet, Vec::new()],
+                (Measured::ReadArchive, _) => [z_order::of(&step.sheet).bytes(), Vec::new()],
+                _ => [step.sheet, step.old],
             };
             Call {
-                records: [step.sheet, second],
+                records,
                 written: [0, 0],
             }
         };
@@ -195,6 +211,8 @@ fn one(measured: Measured, by: &Implementation, call: &Call, [a, b]: &mut Buffer
         Measured::CarryOut => written((by.carry_out)(sheet, second, a)),
         Measured::JoinSheets => written((by.join_sheets)(sheet, second, a)),
         Measured::TrafficPage => written((by.traffic_page)(sheet, second, a)),
+        Measured::WriteArchive => written((by.write_archive)(sheet, a)),
+        Measured::ReadArchive => written((by.read_archive)(sheet, a)),
         Measured::Weigh => {
             let answer = (by.weigh)(sheet, second, a);
             assert_eq!(answer.refusal, 0);

@@ -21,8 +21,8 @@ pub struct Row {
 }
 
 pub const HEAD: &str = "\
-operation    sheet   outcome                  inputs    |     8     16     32     64 | plain   copy | /plain  /copy  noise | 64/32
--------------------------------------------------------+----------------------------+--------------+----------------------+------";
+operation     sheet   outcome                  inputs    |     8     16     32     64 | plain   copy | /plain  /copy  noise | 64/32
+---------------------------------------------------------+----------------------------+--------------+----------------------+------";
 
 /// All rows, in the order in which they are printed.
 pub fn rows() -> Vec<Row> {
@@ -62,7 +62,7 @@ impl Row {
             "repeated"
         };
         format!(
-            "{:12} {:7} {:24} {:9}",
+            "{:13} {:7} {:24} {:9}",
             self.measured.name(),
             format!("{:?}", self.filling).to_lowercase(),
             self.outcome.name(),
