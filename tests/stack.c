@@ -14,6 +14,7 @@ enum { NODES = 64, STACK = 1 << 20, PAINT = 0xa5 };
 
 static uint8_t sheet[FIRROZKA_SHEET_BYTES], next[FIRROZKA_SHEET_BYTES], old[FIRROZKA_PLAN_BYTES], plan[FIRROZKA_PLAN_BYTES];
 static uint8_t moves[FIRROZKA_MOVES_BYTES], least[FIRROZKA_LEAST_BYTES], page[FIRROZKA_PAGE_BYTES];
+static uint8_t archive[FIRROZKA_ARCHIVE_BYTES];
 static size_t moves_len;
 static uint32_t kind;
 static uint8_t *stack, *frame;
@@ -57,6 +58,8 @@ static void weigh(void) { firrozka_weigh(sheet, sizeof sheet, old, sizeof old, l
 static void carry_out(void) { firrozka_carry_out(sheet, sizeof sheet, moves, moves_len, next, sizeof next); }
 static void join_sheets(void) { firrozka_join_sheets(sheet, sizeof sheet, sheet, sizeof sheet, next, sizeof next); }
 static void traffic_page(void) { firrozka_traffic_page(sheet, sizeof sheet, moves, moves_len, page, sizeof page); }
+static void write_archive(void) { firrozka_write_archive(sheet, sizeof sheet, archive, sizeof archive); }
+static void read_archive(void) { firrozka_read_archive(archive, sizeof archive, next, sizeof next); }
 static void tree_in_force(void) { firrozka_tree_in_force(old, sizeof old, plan, sizeof plan); }
 
 static void plan_with(size_t old_len)
@@ -110,6 +113,8 @@ int main(void)
     measure("carry out", carry_out);
     measure("join sheets", join_sheets);
     measure("traffic page", traffic_page);
+    measure("write archive", write_archive);
+    measure("read archive", read_archive);
     measure("read sheet", read_sheet);
     measure("read plan", read_plan);
     measure("read moves", read_moves);

@@ -33,7 +33,7 @@ pub type PlanStep = fn(sheet: &[u8], old: &[u8], plan: &mut [u8], moves: &mut [u
 pub type Write = fn(first: &[u8], second: &[u8], out: &mut [u8]) -> WrittenAnswer;
 
 /// An operation that reads one record and writes another.
-pub type Rewrite = fn(record: &[u8], out: &mut [u8]) -> WrittenAnswer;
+pub type Convert = fn(record: &[u8], out: &mut [u8]) -> WrittenAnswer;
 
 /// Someone who does all eleven.
 pub struct Implementation {
@@ -195,10 +195,7 @@ impl Implementation {
 }
 
 /// What is written to a buffer of this length, which is enough, or the refusal.
-fn written(
-    length: usize,
-    write: impl FnOnce(&mut [u8]) -> WrittenAnswer,
-) -> Result<Vec<u8>, u32> {
+fn written(length: usize, write: impl FnOnce(&mut [u8]) -> WrittenAnswer) -> Result<Vec<u8>, u32> {
     let mut out = vec![0; length];
     let answer = write(&mut out);
     out.truncate(answer.bytes as usize);

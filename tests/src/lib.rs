@@ -25,7 +25,7 @@
 //! | `bench_text` | what the bench program prints |
 //! | `plain` | the benchmark's baseline |
 //! | `speed` | the benchmark |
-//! | `refused` | a small step for each refusal of *plan a step*, and records for each of *read moves* and *read archive* |
+//! | `refused` | a small step for each refusal of *plan a step*, and other records that are refused |
 //! | `damaged` | damaged inputs of the bench program |
 //! | `cases`, `stretches` | the inputs and outputs of programs that the gate runs |
 #![forbid(unsafe_code)]

@@ -6,7 +6,7 @@ use firrozka_tests::answers::SheetAnswer;
 use firrozka_tests::buffers::{all_refuse, all_write};
 use firrozka_tests::implementations::{Implementation, Planned, IMPLEMENTATIONS, REFERENCE};
 use firrozka_tests::random::Random;
-use firrozka_tests::records::sheets::{all_cells, pair, parted, sheet};
+use firrozka_tests::records::sheets::{all_cells, by_cell, pair, parted, sheet};
 use firrozka_tests::records::{to_bytes, to_words};
 use firrozka_tests::settings::SEED;
 use firrozka_tests::steps::{self, Size};
@@ -53,7 +53,7 @@ fn joined(implementation: &Implementation, first: &[u8], second: &[u8]) -> Vec<u
     assert_eq!([both.refusal, both.n, both.t], [0, n, t]);
     assert_eq!([both.p, both.limit], [p, limit]);
     // "every cell the sum of both", and so every subdomain.
-    let [a, b, both] = [first, second, &joint].map(counts);
+    let [a, b, both] = [first, second, &joint].map(by_cell);
     for cell in all_cells(n) {
         assert_eq!(count(&both, cell), count(&a, cell) + count(&b, cell));
     }
@@ -72,13 +72,6 @@ fn limit(p: u32, n: u32, t: u32) -> u32 {
     let [p, n, t] = [p, n, t].map(u64::from);
     let (up, down) = ((p + n - 1) / n, p * (1000 + t) / (1000 * n));
     up.max(down) as u32
-}
-
-/// The cells of a sheet and their counts.
-fn counts(sheet: &[u8]) -> BTreeMap<u32, u32> {
-    let words = to_words(sheet);
-    let (cells, counts) = words[3..].split_at(words[2] as usize);
-    cells.iter().copied().zip(counts.iter().copied()).collect()
 }
 
 /// "Cells absent from the sheet count as 0."
@@ -135,7 +128,7 @@ fn the_example() {
     let SheetAnswer { e, p, limit, .. } = (REFERENCE.read_sheet)(&joint);
     let mut text = format!("# sheet: cells {e}, particles {p}, limit {limit}\n");
     text += "nodes 3 tolerance 10 percent\nholder,subdomain,count\n";
-    for (cell, count) in counts(&joint) {
+    for (cell, count) in by_cell(&joint) {
         text += &format!("{},{},{count}\n", cell / 64, cell % 64);
     }
     text += &bench_text::text(&joint, &plan);

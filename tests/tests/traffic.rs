@@ -7,7 +7,7 @@ use firrozka_tests::calls::{drafts, TRAFFIC_PAGE};
 use firrozka_tests::implementations::{Implementation, Planned, IMPLEMENTATIONS};
 use firrozka_tests::random::Random;
 use firrozka_tests::records::moves::{moves, route};
-use firrozka_tests::records::sheets::{all_cells, cell, sheet};
+use firrozka_tests::records::sheets::{self, all_cells, cell, sheet};
 use firrozka_tests::records::to_words;
 use firrozka_tests::settings::SEED;
 use firrozka_tests::steps::{self, Size};
@@ -44,8 +44,7 @@ fn refuse(sheet: &[u8], moves: &[u8], lengths: &[usize], refusal: u32) {
 
 /// A sheet of these cells, given as holder, subdomain and count.
 fn held<const E: usize>(n: u32, cells: [(u32, u32, u32); E]) -> Vec<u8> {
-    let places = cells.map(|(holder, subdomain, _)| cell(holder, subdomain));
-    sheet(n, 1, &places, &cells.map(|(_, _, count)| count)).bytes()
+    sheets::held(n, 1, &cells).bytes()
 }
 
 /// These moves, given as subdomain, sender, receiver and count.

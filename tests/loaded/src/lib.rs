@@ -56,7 +56,7 @@ static PLACES: [Archive; 2] = [Archive::none(), Archive::none()];
 type Version = extern "C" fn() -> u32;
 type Weigh = extern "C" fn(*const u8, usize, *const u8, usize, *mut u8, usize) -> WeighedAnswer;
 type Write = extern "C" fn(*const u8, usize, *const u8, usize, *mut u8, usize) -> WrittenAnswer;
-type Rewrite = extern "C" fn(*const u8, usize, *mut u8, usize) -> WrittenAnswer;
+type Convert = extern "C" fn(*const u8, usize, *mut u8, usize) -> WrittenAnswer;
 type PlanStep =
     extern "C" fn(*const u8, usize, *const u8, usize, *mut u8, usize, *mut u8, usize) -> StepAnswer;
 
@@ -207,19 +207,19 @@ pub fn traffic_page<const PLACE: usize>(
 
 /// *Write archive*, as the archive at this place does it.
 pub fn write_archive<const PLACE: usize>(sheet: &[u8], archive: &mut [u8]) -> WrittenAnswer {
-    rewrite(&PLACES[PLACE].write_archive, sheet, archive)
+    convert(&PLACES[PLACE].write_archive, sheet, archive)
 }
 
 /// *Read archive*, as the archive at this place does it.
 pub fn read_archive<const PLACE: usize>(archive: &[u8], sheet: &mut [u8]) -> WrittenAnswer {
-    rewrite(&PLACES[PLACE].read_archive, archive, sheet)
+    convert(&PLACES[PLACE].read_archive, archive, sheet)
 }
 
 /// Calls a function that reads one record and writes another.
-fn rewrite(function: &AtomicPtr<c_void>, record: &[u8], out: &mut [u8]) -> WrittenAnswer {
+fn convert(function: &AtomicPtr<c_void>, record: &[u8], out: &mut [u8]) -> WrittenAnswer {
     // SAFETY: all functions that stand here have this type in an archive.
-    let rewrite: Rewrite = unsafe { mem::transmute(loaded(function)) };
-    rewrite(record.as_ptr(), record.len(), out.as_mut_ptr(), out.len())
+    let convert: Convert = unsafe { mem::transmute(loaded(function)) };
+    convert(record.as_ptr(), record.len(), out.as_mut_ptr(), out.len())
 }
 
 /// Calls a function that reads two records and writes one, or a page.

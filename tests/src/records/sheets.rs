@@ -3,6 +3,7 @@
 use super::{distinct, how_many, injection, nodes, Record};
 use crate::bounds::{MOST_PARTICLES, NODES, TOLERANCE};
 use crate::random::Random;
+use std::collections::BTreeMap;
 
 /// "A cell is holder × 64 + subdomain." Wraps, so that holders out of range
 /// can be written too.
@@ -18,6 +19,22 @@ pub fn all_cells(n: u32) -> Vec<u32> {
 /// A sheet of words from its parts.
 pub fn sheet(n: u32, t: u32, cells: &[u32], counts: &[u32]) -> Record {
     Record::new(2, &[n, t, cells.len() as u32], cells, counts)
+}
+
+/// The same from cells given as holder, subdomain and count.
+pub fn held(n: u32, t: u32, cells: &[(u32, u32, u32)]) -> Record {
+    let each = cells
+        .iter()
+        .map(|&(holder, subdomain, count)| (cell(holder, subdomain), count));
+    let (cells, counts): (Vec<u32>, Vec<u32>) = each.unzip();
+    sheet(n, t, &cells, &counts)
+}
+
+/// The cells of a valid sheet and their counts.
+pub fn by_cell(bytes: &[u8]) -> BTreeMap<u32, u32> {
+    let mut sheet = of(bytes);
+    let (cells, counts) = (sheet.first().to_vec(), sheet.second().to_vec());
+    cells.into_iter().zip(counts).collect()
 }
 
 /// A sheet from the bytes of a valid one.

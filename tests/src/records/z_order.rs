@@ -1,6 +1,6 @@
 //! Sheets in Z order: valid ones, and each fault of *read archive*.
 
-use super::{injection, mutation, sheets, Record};
+use super::{injection, mutation, sheets, to_words, Record};
 use crate::bounds::{NODES, TOLERANCE};
 use crate::random::Random;
 use crate::reference::z_order::position;
@@ -15,10 +15,9 @@ pub fn record(n: u32, t: u32, counts: &[u32]) -> Record {
 
 /// A valid sheet in Z order.
 pub fn of(sheet: &[u8]) -> Record {
-    let mut sheet = sheets::of(sheet);
-    let mut record = record(sheet.words[0], sheet.words[1], &[0; 4_096]);
-    let (cells, counts) = (sheet.first().to_vec(), sheet.second().to_vec());
-    for (cell, count) in cells.into_iter().zip(counts) {
+    let sizes = to_words(&sheet[..8]);
+    let mut record = record(sizes[0], sizes[1], &[0; 4_096]);
+    for (cell, count) in sheets::by_cell(sheet) {
         record.words[word(cell / 64, cell % 64)] = count;
     }
     record
