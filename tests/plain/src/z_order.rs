@@ -7,8 +7,7 @@ pub const BYTES: usize = 4 * (2 + 4096);
 
 /// Where the count of a cell stands: the bits of the subdomain are the even ones,
 /// those of the holder the odd ones.
-fn position(cell: u32) -> usize {
-    let (holder, subdomain) = (cell / 64, cell % 64);
+fn position(holder: u32, subdomain: u32) -> usize {
     (spread(subdomain) | spread(holder) << 1) as usize
 }
 
@@ -26,7 +25,7 @@ pub fn put(out: &mut [u8], sheet: &Sheet, sheet_bytes: &[u8]) {
     let counts = &mut out[8..];
     counts.fill(0);
     for (cell, count) in entries(sheet_bytes, 3, sheet.e as usize) {
-        let at = 4 * position(cell);
+        let at = 4 * position(cell / 64, cell % 64);
         counts[at..at + 4].copy_from_slice(&count.to_le_bytes());
     }
 }
@@ -40,14 +39,16 @@ pub fn read(bytes: &[u8]) -> Result<([u32; 2], Table), u32> {
     check_ranges(n, t)?;
     let counts = &bytes[8..];
     let (mut table, mut p) = ([0; 4096], 0);
-    for (cell, place) in (0..).zip(&mut table) {
-        let count = word(counts, position(cell));
-        let no_node = cell / 64 >= n || cell % 64 >= n;
-        if count != 0 && no_node || count > 1_000_000_000 - p {
-            return Err(55);
+    for (holder, held) in (0..).zip(table.chunks_exact_mut(64)) {
+        for (subdomain, place) in (0..).zip(held) {
+            let count = word(counts, position(holder, subdomain));
+            let no_node = holder >= n || subdomain >= n;
+            if count != 0 && no_node || count > 1_000_000_000 - p {
+                return Err(55);
+            }
+            p += count;
+            *place = count;
         }
-        p += count;
-        *place = count;
     }
     Ok(([n, t], table))
 }
