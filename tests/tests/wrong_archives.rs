@@ -58,6 +58,11 @@ fn put(bytes: &[u8], out: &mut [u8]) {
     out[..length].copy_from_slice(&bytes[..length]);
 }
 
+/// Where the count of a cell stands.
+fn place_of(cell: u32) -> usize {
+    position(cell as usize / 64, cell as usize % 64)
+}
+
 /// A position, from N, holder and subdomain.
 type Place = fn(usize, usize, usize) -> usize;
 
@@ -82,7 +87,8 @@ macro_rules! places {
             "holder by holder, N of each", place: |n, h, s| n * h + s;
             "from the last position down", place: |_, h, s| 4_095 - position(h, s);
             "one position further", place: |_, h, s| (position(h, s) + 1) % 4_096;
-            "every other row from the right", place: |_, h, s| position(h, s ^ h & 1);
+            "odd holders the other way round",
+                place: |_, h, s| position(h, if h % 2 == 0 { s } else { 63 - s });
             "the bits of both added", place: |_, h, s| position(h ^ s, s);
         }
     };
@@ -181,13 +187,11 @@ fn words_written() {
         "one word more", change: |_, words| words.push(0);
         "the last cell left out", change: |it, words| {
             if let Some(&cell) = it.cells.last() {
-                words[2 + position(cell as usize / 64, cell as usize % 64)] = 0;
+                words[2 + place_of(cell)] = 0;
             }
         };
         "the cell in place of its count", change: |it, words| {
-            for &cell in &it.cells {
-                words[2 + position(cell as usize / 64, cell as usize % 64)] = cell;
-            }
+            it.cells.iter().for_each(|&cell| words[2 + place_of(cell)] = cell);
         };
         "running sums", change: |_, words| {
             (3..4_098).for_each(|at| words[at] += words[at - 1]);
@@ -654,10 +658,6 @@ fn sheets_read() {
         "no E", words: |words| { words.remove(2); };
         "a word more", words: |words| words.push(0);
     });
-}
-
-fn place_of(cell: u32) -> usize {
-    position(cell as usize / 64, cell as usize % 64)
 }
 
 // Both.

@@ -343,7 +343,7 @@ fn one_over_another() {
         assert!(out == archive, "{}", by.name);
         let mut out = full.clone();
         assert_eq!((by.read_archive)(&archive, &mut out).refusal, 0);
-        assert!(out == [&d, &full[d.len()..]].concat(), "{}", by.name);
+        assert!(out == [&d[..], &full[d.len()..]].concat(), "{}", by.name);
     }
 }
 
