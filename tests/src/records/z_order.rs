@@ -8,15 +8,10 @@ use crate::reference::z_order::position;
 /// How many words stand before the counts: N and t.
 const HEAD: usize = 2;
 
-/// A sheet in Z order from its parts, "4,096 counts" among them.
-pub fn record(n: u32, t: u32, counts: &[u32]) -> Record {
-    Record::new(0, &[n, t], counts, &[])
-}
-
-/// A valid sheet in Z order.
+/// A valid sheet in Z order. It has "4,096 counts" in place of two arrays, so here its
+/// words are named by their place.
 pub fn of(sheet: &[u8]) -> Record {
-    let sizes = to_words(&sheet[..8]);
-    let mut record = record(sizes[0], sizes[1], &[0; 4_096]);
+    let mut record = Record::new(0, &to_words(&sheet[..4 * HEAD]), &[0; 4_096], &[]);
     for (cell, count) in sheets::by_cell(sheet) {
         record.words[word(cell / 64, cell % 64)] = count;
     }

@@ -48,7 +48,7 @@ impl Measured {
 
     /// *Weigh* takes a tree, whoever holds the particles, and *join sheets* a
     /// second sheet. To *traffic page* all moves are alike: one outcome of each kind.
-    /// To the archive's two all sheets of one filling are.
+    /// To *write archive* and *read archive* all sheets of one filling are.
     pub fn takes(self, outcome: Outcome) -> bool {
         let joined = matches!(outcome, Outcome::Joined(_));
         let again = matches!(outcome, Outcome::Kept(_, Rest::Large));
