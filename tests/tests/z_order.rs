@@ -52,7 +52,7 @@ fn held<const E: usize>(n: u32, t: u32, cells: [(u32, u32, u32); E]) -> Vec<u8> 
 }
 
 /// An archive with these counts, given as position and count. All others are 0.
-fn archive<const E: usize>(n: u32, t: u32, counts: [(usize, u32); E]) -> Vec<u8> {
+fn archive(n: u32, t: u32, counts: impl IntoIterator<Item = (usize, u32)>) -> Vec<u8> {
     let mut words = vec![0; 4_098];
     (words[0], words[1]) = (n, t);
     for (position, count) in counts {
@@ -210,13 +210,8 @@ fn some_archives(n: u32, order: &[Cell], random: &mut Random) -> [Vec<u8>; 6] {
     FILLED.map(|part| {
         let mut places: Vec<usize> = (0..4_096).collect();
         places.retain(|&at| order[at].0 < n && order[at].1 < n && random.chance(part, 100));
-        let mut words = vec![0; 4_098];
-        (words[0], words[1]) = (n, random.between(1, 999));
         let counts = some_counts(places.len(), random);
-        for (at, count) in places.into_iter().zip(counts) {
-            words[2 + at] = count;
-        }
-        to_bytes(&words)
+        archive(n, random.between(1, 999), places.into_iter().zip(counts))
     })
 }
 
@@ -459,12 +454,8 @@ fn nodes_not_below_n() {
 
 /// An archive of 64 nodes with these counts at some positions.
 fn placed(counts: &[u32], place: fn(usize) -> usize) -> Vec<u8> {
-    let mut words = vec![0; 4_098];
-    (words[0], words[1]) = (64, 1);
-    for (k, &count) in counts.iter().enumerate() {
-        words[2 + place(k)] = count;
-    }
-    to_bytes(&words)
+    let counts = counts.iter().enumerate();
+    archive(64, 1, counts.map(|(k, &count)| (place(k), count)))
 }
 
 /// "or a sum above the maximum", which is 1,000,000,000: at the first positions, at
