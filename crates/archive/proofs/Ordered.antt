@@ -18,9 +18,10 @@ use Rattle.archive.proofs.Bits.{position-below, positions-differ, posit
 
 -- ---- an array of positions: one cell more
 
-pub below-more : (xs : List ℕ) (n v : ℕ) → PositionsBelow xs n → n < tableSize → v ≡ positionOf n → PositionsBelow (set xs n v) (n + 1)
-below-more xs n v p h e =
-    record { size = length-set xs n v ∙ p .size; each = filled-more positionOf xs n v (omega (arith, p .size)) e (p .each) }
+pub below-more : (xs : List ℕ) (n : ℕ) {m v : ℕ} → m ≡ n → PositionsBelow xs n → n < tableSize → v ≡ positionOf n
+    → PositionsBelow (set xs m v) (n + 1)
+below-more xs n {m} {v} i p h e =
+    rw i (record { size = length-set xs n v ∙ p .size; each = filled-more positionOf xs n v (omega (arith, p .size)) e (p .each) })
 
 -- the same number of cells, written otherwise
 pub below-is : (xs : List ℕ) {n m : ℕ} → n ≡ m → PositionsBelow xs n → PositionsBelow xs m

@@ -48,7 +48,7 @@ loop-again c =
       l .inv .2,
       l .inv .3,
       below-is _ (omega arith)
-          (below-more (l .positions) (64 * h + l .n) _ (l .inv .4) (omega arith)
+          (below-more (l .positions) (64 * h + l .n) (omega arith) (l .inv .4) (omega arith)
           (omega (arith, low-is c, l .inv .3, row-position h (l .n) (c .before .loop-test .taken)))),
     )
 

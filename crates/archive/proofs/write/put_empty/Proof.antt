@@ -1,6 +1,6 @@
 -- `archive::write::put_empty` meets its contract: two words and the zeros behind them are one record. Assumes nothing.
 use borrow.Author.Needs.{needs}
-use mathlib.Core.Path.{refl}
+use native.Mathlib.Omega.{arith}
 use denote.Ref.{now}
 use Rattle.archive.proofs.Storing.{empty-placed}
 use Rattle.archive.proofs.write.put_empty.Statement.{statement}
@@ -12,7 +12,8 @@ returns c =
     let second = third .before .before .before .before in
     let first = second .before .before .before .before in
     let start = first .before .before .before in
-    empty-placed (now (start .args .out)) (start .args .n) (start .args .t) (first .put-word .ensures) (second .put-word2 .ensures) (third .clear .ensures) refl
+    empty-placed (now (start .args .out)) (start .args .n) (start .args .t) (first .put-word .ensures) (second .put-word2 .ensures) (third .clear .ensures)
+    (omega arith)
     (start .pre)
 
 pub put-empty-spec : {M : Type 1} → statement M
