@@ -1,18 +1,17 @@
 -- What is known of an archive that was accepted, its table among it; and which archives are. Assumes nothing.
-use mathlib.Core.Path.{_≡_, refl, sym, ap, _∙_}
+use mathlib.Core.Path.{_≡_, refl, _∙_}
 use mathlib.Core.Logic.{_⊎_, inl, inr}
-use mathlib.Core.Bool.{Bool, true, false, not, _||_}
+use mathlib.Core.Bool.{true, false, not, _||_}
 use mathlib.Core.List.{List}
-use Prim.Native.Nat.{ℕ, _≤_, _<_}
+use Prim.Native.Nat.{ℕ, _≤_}
 use native.Mathlib.Decide.{decLt}
 use native.Mathlib.Omega.{arith}
 use borrow.Author.Tests.{ltb-false, le-ltb, eqb-true, eq-eqb, not-false}
 use lib.Dec.{eqb, ltb}
 use lib.ListN.{length, List·getD-eq-default}
-use Rattle.fold.specs.All.{all}
-use Rattle.fold.proofs.Tests.{passed, either, or-left, all-at, all-of}
+use Rattle.fold.proofs.Tests.{passed, either, all-at, all-of}
 use Rattle.limit.specs.Limit.{maxNodes, maxTolerance, maxTotal, tableSize, oneTo}
-use Rattle.limit.proofs.Laws.{one-to-is, one-to-of}
+use Rattle.limit.proofs.Laws.{one-to-is}
 use Rattle.arrays.specs.Arrays.{at}
 use Rattle.words.specs.declared.WrittenAnswer.{WrittenAnswer}
 use Rattle.words.specs.Answer.{refused, accepted}

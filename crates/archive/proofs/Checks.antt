@@ -1,5 +1,5 @@
 -- One law for each way out of *write archive* and of *read archive*: the answer, and the buffer as it is then. Assumes nothing.
-use mathlib.Core.Path.{_≡_, refl, sym, ap, _∙_}
+use mathlib.Core.Path.{_≡_, sym, ap, _∙_}
 use mathlib.Core.Logic.{_≢_}
 use mathlib.Core.Bool.{true, false}
 use mathlib.Core.List.{List}
@@ -11,7 +11,7 @@ use lib.ListN.{length}
 use Rattle.limit.specs.Limit.{maxNodes, maxTolerance, maxTotal, oneTo}
 use Rattle.limit.proofs.Laws.{one-to-of}
 use Rattle.words.specs.Checks.{refuseIf}
-use Rattle.words.specs.Buffer.{placed, afterCall, written, writing}
+use Rattle.words.specs.Buffer.{placed, written, writing}
 use Rattle.words.specs.Answer.{refused, accepted}
 use Rattle.words.specs.declared.Written.the-variants.{Bytes, Short}
 use Rattle.words.specs.declared.WrittenAnswer.{WrittenAnswer}
@@ -19,7 +19,7 @@ use Rattle.words.proofs.Writing.{Ends, ends-refused, ends-written, ends-short}
 use Rattle.sheet.specs.declared.Sheet.{Sheet}
 use Rattle.sheet.specs.declared.SheetAnswer.{SheetAnswer}
 use Rattle.sheet.specs.Sheet.{readSheet, accepted as sheetAccepted}
-use Rattle.sheet.specs.Table.{tableOf, tableIn}
+use Rattle.sheet.specs.Table.{tableOf}
 use Rattle.sheet.specs.Write.{sheetBytes}
 use Rattle.archive.specs.Archive.{archiveSize, archiveBytes, writeAnswer, archiveOf, nodesIn, toleranceIn, tableFrom, totalIn, countsFine, sheetFrom, countsAnswer, readAnswer}
 use Rattle.archive.specs.Inner.{HeadRead}
@@ -111,7 +111,8 @@ module _ (a out : List ℕ) where
         unfolding sheetFrom
         sheet-is = rw (is, h .n-is, h .t-is)
 
-        last : countsAnswer a (length out) ≡ refuseIf (ltb (length out) (length (sheetFrom a))) (refused 56) (accepted (length (sheetFrom a)))
+        last : countsAnswer a (length out)
+            ≡ refuseIf (ltb (length out) (length (sheetFrom a))) (refused 56) (accepted (length (sheetFrom a)))
         unfolding countsAnswer
         last = rw (sym fine-is ∙ fine, le-ltb maxTotal (totalIn a) (omega (arith, sum-is)))
 

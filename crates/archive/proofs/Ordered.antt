@@ -1,8 +1,8 @@
 -- Counts in order: each cell's count stands at its position, and a list of 4,096 counts is known by that. The table that is read from an
 -- archive has them at their cells again. Assumes nothing.
-use mathlib.Core.Path.{_≡_, refl, sym, ap, _∙_}
+use mathlib.Core.Path.{_≡_, refl, sym, _∙_}
 use mathlib.Core.List.{List}
-use Prim.Native.Nat.{ℕ, zero, suc, _+_, _*_, _≤_, _<_}
+use Prim.Native.Nat.{ℕ, zero, suc, _+_, _≤_, _<_}
 use native.Mathlib.Decide.{ℕ-discrete}
 use native.Mathlib.Omega.{arith}
 use lib.ListN.{length, set, length-set}
@@ -44,7 +44,8 @@ module _ (xs : List ℕ) (size : length xs ≡ tableSize) (c k : ℕ) where
   stored-here =
       getD-set-same xs (positionOf c) k 0 (omega (arith, position-below c))
 
-  pub stored-other : c < tableSize → (d : ℕ) → d < tableSize → (c ≡ d → ⊥) → at (set xs (positionOf c) k) (positionOf d) ≡ at xs (positionOf d)
+  pub stored-other : c < tableSize → (d : ℕ) → d < tableSize → (c ≡ d → ⊥)
+      → at (set xs (positionOf c) k) (positionOf d) ≡ at xs (positionOf d)
   stored-other hc d hd differ = getD-set-other xs (positionOf c) (positionOf d) k 0 (λ e. differ (sym (positions-differ hd hc e)))
 
 -- ---- all counts at their positions
@@ -60,7 +61,9 @@ module _ (table : List ℕ) where
   below zero c h l = absurd (omega arith)
   below (suc n) c h l = elim (ℕ-discrete n c) [
     | yes e ↦ rw (← e) (stored-here (inOrder table n) (length-ordered n) n (at table n))
-    | no d ↦ stored-other (inOrder table n) (length-ordered n) n (at table n) (omega arith) c (omega arith) d ∙ below n c (omega arith) (omega arith)
+    | no d ↦
+        stored-other (inOrder table n) (length-ordered n) n (at table n) (omega arith) c (omega arith) d
+        ∙ below n c (omega arith) (omega arith)
   ]
 
   -- THEOREM. Each cell's count stands at its position.

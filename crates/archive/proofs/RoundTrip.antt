@@ -2,7 +2,7 @@
 -- written again. An archive and its sheet have N, t, P, L and each count in common. Assumes nothing.
 use mathlib.Core.Path.{_≡_, refl, sym, ap, _∙_}
 use mathlib.Core.List.{List, _∷_, _++_}
-use Prim.Native.Nat.{ℕ, suc, _+_, _*_, _/_, _%_, _≤_, _<_, _^_}
+use Prim.Native.Nat.{ℕ, suc, _+_, _/_, _%_, _≤_, _<_, _^_}
 use native.Mathlib.Omega.{arith}
 use borrow.Author.Tests.{le-ltb, eq-eqb, ltb-false}
 use lib.Dec.{ltb}
@@ -22,12 +22,12 @@ use Rattle.words.proofs.Records.{take-two}
 use Rattle.words.proofs.Buffer.{after-front}
 use Rattle.sheet.specs.declared.SheetAnswer.{SheetAnswer}
 use Rattle.sheet.specs.Sheet.{readSheet, cell, accepted as sheetAccepted}
-use Rattle.sheet.specs.Table.{tableIn, held}
+use Rattle.sheet.specs.Table.{tableIn}
 use Rattle.sheet.specs.Write.{filledCells, sheetBytes}
 use Rattle.sheet.proofs.Accepted.{Accepted as SheetAccepted, sheet-accepted}
 use Rattle.sheet.proofs.Tables.{table-sum}
 use Rattle.sheet.proofs.RoundTrip.{Writable, sheet-writable, read-written, table-in-written, written-read}
-use Rattle.archive.specs.ZOrder.{position, positionOf}
+use Rattle.archive.specs.ZOrder.{positionOf}
 use Rattle.archive.specs.Archive.{archiveSize, inOrder, archiveBytes, writeAnswer, archiveOf, archiveAfter, nodesIn, toleranceIn, countAt, tableFrom, totalIn, sheetFrom, readAnswer, sheetAfter, Keeps}
 use Rattle.archive.proofs.Bits.{positions-fill}
 use Rattle.archive.proofs.Ordered.{length-ordered, ordered-at, ordered-is, from-at, from-is}

@@ -1,6 +1,6 @@
 -- A sheet's counts stored at their positions, entry by entry: what holds at the loop's head, and one turn; and the buffer that the loop
 -- begins with. Assumes nothing.
-use mathlib.Core.Path.{_≡_, refl, sym, ap, _∙_}
+use mathlib.Core.Path.{_≡_, sym, ap, _∙_}
 use mathlib.Core.List.{List, [], _∷_, _++_}
 use Prim.Native.Nat.{ℕ, suc, _+_, _*_, _≤_, _<_}
 use native.Mathlib.Decide.{ℕ-discrete}
@@ -11,7 +11,7 @@ use Rattle.limit.specs.Limit.{tableSize}
 use Rattle.arrays.specs.Arrays.{at}
 use Rattle.words.specs.Words.{words, encode, putWord}
 use Rattle.words.specs.Buffer.{placed}
-use Rattle.words.proofs.Words.{length-encode, encode-append, encode-zeros}
+use Rattle.words.proofs.Words.{encode-append, encode-zeros}
 use Rattle.words.proofs.Buffer.{sets-append, sets-placed, put-placed}
 use Rattle.sheet.specs.Table.{tableOf}
 use Rattle.sheet.specs.Inner.{Unpackable}

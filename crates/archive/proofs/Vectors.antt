@@ -49,7 +49,10 @@ unfolding readSheet readHeader words encode rising runningSum limitOf
 sheet-fine = refl
 
 -- what a cell of it has
-cell-count : (held (tableIn sheet) 0 0 ≡ 90) × (held (tableIn sheet) 1 1 ≡ 6) × (held (tableIn sheet) 2 2 ≡ 4) × (held (tableIn sheet) 1 2 ≡ 0)
+cell-count : (held (tableIn sheet) 0 0 ≡ 90)
+    × (held (tableIn sheet) 1 1 ≡ 6)
+    × (held (tableIn sheet) 2 2 ≡ 4)
+    × (held (tableIn sheet) 1 2 ≡ 0)
 unfolding tableOf countsFrom countBeside readSheet readHeader words encode rising runningSum limitOf
 cell-count = (refl, refl, refl, refl)
 

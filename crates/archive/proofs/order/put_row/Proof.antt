@@ -1,12 +1,11 @@
 -- `archive::order::put_row` meets its contract: the cells passed, of this holder and of those below it, have their positions.
 -- Assumes nothing.
 use borrow.Author.Needs.{needs}
-use mathlib.Core.Path.{_≡_, sym, ap, _∙_}
-use Prim.Native.Nat.{ℕ, _+_, _*_, _-_, _≤_, _<_}
+use mathlib.Core.Path.{_≡_}
+use Prim.Native.Nat.{_+_, _*_, _-_, _≤_, _<_}
 use native.Mathlib.Omega.{arith}
 use denote.Ref.{now}
 use Rattle.arrays.specs.Arrays.{at}
-use Rattle.archive.specs.ZOrder.{positionOf}
 use Rattle.archive.specs.Inner.{spreadOf, Spreads, PositionsBelow}
 use Rattle.archive.proofs.Bits.{row-position, spread-of-small}
 use Rattle.archive.proofs.Ordered.{below-more, below-is}

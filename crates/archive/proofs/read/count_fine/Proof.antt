@@ -1,7 +1,7 @@
 -- `archive::read::count_fine` meets its contract: a count of 0 may stand anywhere, and others as the cell's nodes say. Assumes nothing.
 use borrow.Author.Needs.{needs}
 use borrow.Author.Tests.{eq-eqb, ne-eqb}
-use mathlib.Core.Path.{_≡_, sym, ap, _∙_}
+use mathlib.Core.Path.{sym, ap, _∙_}
 use mathlib.Core.Bool.{Bool, _||_, or-true, or-false}
 use Rattle.sheet.specs.Sheet.{cellFine}
 use Rattle.archive.proofs.read.count_fine.Statement.{statement}

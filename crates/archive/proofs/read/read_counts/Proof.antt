@@ -5,7 +5,7 @@ use borrow.Author.Tests.{not-true, not-false}
 use mathlib.Core.Path.{_≡_, sym, ap, _∙_}
 use mathlib.Core.Bool.{true}
 use mathlib.Core.List.{List}
-use Prim.Native.Nat.{ℕ, _≤_, _<_}
+use Prim.Native.Nat.{ℕ, _≤_}
 use native.Mathlib.Omega.{arith}
 use denote.Ref.{now}
 use Rattle.fold.specs.Sum.{sum}
@@ -15,7 +15,6 @@ use Rattle.words.proofs.Buffer.{writing-bytes}
 use Rattle.sheet.specs.Write.{sheetBytes}
 use Rattle.sheet.proofs.Filled.{length-most}
 use Rattle.archive.specs.Archive.{tableFrom, totalIn, countsFine}
-use Rattle.archive.specs.Inner.{HeadRead}
 use Rattle.archive.proofs.Checks.{ends-stray, ends-total, ends-restored, ends-unwritten}
 use Rattle.archive.proofs.read.read_counts.Statement.{statement}
 use Rattle.archive.proofs.read.read_counts.Tie as tie

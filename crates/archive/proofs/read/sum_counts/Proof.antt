@@ -1,7 +1,8 @@
--- `archive::read::sum_counts` meets its contract: the sum is that of the cells passed, each of them below 2 to the power 32. Assumes nothing.
+-- `archive::read::sum_counts` meets its contract: the sum is that of the cells passed, each of them below 2 to the power 32.
+-- Assumes nothing.
 use borrow.Author.Needs.{needs}
-use mathlib.Core.Path.{_≡_, sym, ap, _∙_}
-use Prim.Native.Nat.{ℕ, _+_, _*_, _-_, _≤_, _<_, _^_}
+use mathlib.Core.Path.{_≡_, sym}
+use Prim.Native.Nat.{_*_, _-_, _≤_, _^_}
 use native.Mathlib.Omega.{arith}
 use denote.Ref.{now}
 use Rattle.fold.specs.Sum.{sum}

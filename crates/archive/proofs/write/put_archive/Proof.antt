@@ -1,7 +1,7 @@
 -- `archive::write::put_archive` meets its contract: at the loop's head the buffer begins with an archive that has, with the counts of the
 -- entries left, each cell's count at its position. Assumes nothing.
 use borrow.Author.Needs.{needs}
-use mathlib.Core.Path.{_≡_, refl, sym, ap, _∙_}
+use mathlib.Core.Path.{_≡_, refl, ap, _∙_}
 use mathlib.Core.List.{List, _∷_}
 use Prim.Native.Nat.{ℕ, _+_, _*_, _-_, _≤_, _<_}
 use native.Mathlib.Omega.{arith}

@@ -12,9 +12,8 @@ returns c =
     let second = third .before .before .before .before in
     let first = second .before .before .before .before in
     let start = first .before .before .before in
-    empty-placed (now (start .args .out)) (start .args .n) (start .args .t) (first .put-word .ensures) (second .put-word2 .ensures) (third .clear .ensures)
-    (omega arith)
-    (start .pre)
+    empty-placed (now (start .args .out)) (start .args .n) (start .args .t) (first .put-word .ensures) (second .put-word2 .ensures)
+    (third .clear .ensures) (omega arith) (start .pre)
 
 pub put-empty-spec : {M : Type 1} → statement M
 put-empty-spec =
