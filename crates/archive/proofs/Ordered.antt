@@ -12,7 +12,7 @@ use Rattle.arrays.specs.Arrays.{at}
 use Rattle.arrays.proofs.Padded.{zeros-at}
 use Rattle.arrays.proofs.Tabulate.{length-row, row-at, filled-more}
 use Rattle.archive.specs.ZOrder.{positionOf}
-use Rattle.archive.specs.Archive.{noCounts, inOrder, countAt, tableFrom}
+use Rattle.archive.specs.Archive.{noCounts, inOrder, countIn, tableFrom}
 use Rattle.archive.specs.Inner.{PositionsBelow}
 use Rattle.archive.proofs.Bits.{position-below, positions-differ, positions-fill}
 
@@ -85,14 +85,14 @@ module _ (table : List ℕ) where
 module _ (a : List ℕ) where
   pub length-from : length (tableFrom a) ≡ tableSize
   unfolding tableFrom
-  length-from = length-row (λ c. countAt a (positionOf c)) tableSize
+  length-from = length-row (λ c. countIn a (positionOf c)) tableSize
 
-  pub from-at : (c : ℕ) → c < tableSize → at (tableFrom a) c ≡ countAt a (positionOf c)
+  pub from-at : (c : ℕ) → c < tableSize → at (tableFrom a) c ≡ countIn a (positionOf c)
   unfolding tableFrom
-  from-at c h = row-at (λ c. countAt a (positionOf c)) tableSize c h
+  from-at c h = row-at (λ c. countIn a (positionOf c)) tableSize c h
 
   -- a table with these counts is this one
-  pub from-is : (table : List ℕ) → length table ≡ tableSize → ((c : ℕ) → c < tableSize → at table c ≡ countAt a (positionOf c))
+  pub from-is : (table : List ℕ) → length table ≡ tableSize → ((c : ℕ) → c < tableSize → at table c ≡ countIn a (positionOf c))
       → table ≡ tableFrom a
   from-is table size each =
       ext-getD 0 table (tableFrom a) (size ∙ sym length-from) (λ c h. each c (omega arith) ∙ sym (from-at c (omega arith)))

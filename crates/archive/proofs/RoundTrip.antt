@@ -28,7 +28,7 @@ use Rattle.sheet.proofs.Accepted.{Accepted as SheetAccepted, sheet-accepted}
 use Rattle.sheet.proofs.Tables.{table-sum}
 use Rattle.sheet.proofs.RoundTrip.{Writable, sheet-writable, read-written, table-in-written, written-read}
 use Rattle.archive.specs.ZOrder.{positionOf}
-use Rattle.archive.specs.Archive.{archiveSize, inOrder, archiveBytes, writeAnswer, archiveOf, archiveAfter, nodesIn, toleranceIn, countAt, tableFrom, totalIn, sheetFrom, readAnswer, sheetAfter, Keeps}
+use Rattle.archive.specs.Archive.{archiveSize, inOrder, archiveBytes, writeAnswer, archiveOf, archiveAfter, nodesIn, toleranceIn, countIn, tableFrom, totalIn, sheetFrom, readAnswer, sheetAfter, Keeps}
 use Rattle.archive.proofs.Bits.{positions-fill}
 use Rattle.archive.proofs.Ordered.{length-ordered, ordered-at, ordered-is, from-at, from-is}
 use Rattle.archive.proofs.Accepted.{Accepted, archive-accepted, accepts}
@@ -55,7 +55,7 @@ module _ (n t : ℕ) (table : List ℕ) (w : Writable n t table) where
   tolerance-back : toleranceIn (archiveBytes n t table) ≡ t
   tolerance-back = ap (λ (ws : List ℕ). getD ws 1 0) words-back
 
-  count-back : (c : ℕ) → c < tableSize → countAt (archiveBytes n t table) (positionOf c) ≡ at table c
+  count-back : (c : ℕ) → c < tableSize → countIn (archiveBytes n t table) (positionOf c) ≡ at table c
   count-back c h =
       let e : 2 + positionOf c ≡ suc (suc (positionOf c)) = omega arith in
       ap (λ (ws : List ℕ). getD ws (2 + positionOf c) 0) words-back ∙ rw e (ordered-at table c h)

@@ -12,9 +12,9 @@ use Rattle.words.specs.Words.{words, encode}
 use Rattle.words.specs.declared.WrittenAnswer.{WrittenAnswer}
 use Rattle.words.specs.Answer.{accepted}
 use Rattle.sheet.specs.Sheet.{runningSum, readHeader, readSheet}
-use Rattle.sheet.specs.Table.{countAt as countBeside, countsFrom, tableOf, tableIn, held}
+use Rattle.sheet.specs.Table.{countAt, countsFrom, tableOf, tableIn, held}
 use Rattle.archive.specs.ZOrder.{position}
-use Rattle.archive.specs.Archive.{archiveSize, writeAnswer, archiveAfter, countAt}
+use Rattle.archive.specs.Archive.{archiveSize, writeAnswer, archiveAfter, countIn}
 use Rattle.archive.proofs.RoundTrip.{writes, archive-read-back}
 
 -- the positions of the first eight subdomains' cells with this holder
@@ -53,7 +53,7 @@ cell-count : (held (tableIn sheet) 0 0 ≡ 90)
     × (held (tableIn sheet) 1 1 ≡ 6)
     × (held (tableIn sheet) 2 2 ≡ 4)
     × (held (tableIn sheet) 1 2 ≡ 0)
-unfolding tableOf countsFrom countBeside readSheet readHeader words encode rising runningSum limitOf
+unfolding tableOf countsFrom countAt readSheet readHeader words encode rising runningSum limitOf
 cell-count = (refl, refl, refl, refl)
 
 diagonal : (position 0 0 ≡ 0) × (position 1 1 ≡ 3) × (position 2 2 ≡ 12) × (position 1 2 ≡ 6)
@@ -64,17 +64,17 @@ diagonal = (refl, refl, refl, refl)
 pub archive-D : (out : List ℕ) → archiveSize ≤ length out
     → let a = take (writeAnswer sheet (length out) .bytes) (archiveAfter sheet out) in
     (writeAnswer sheet (length out) ≡ accepted 16392)
-    × (countAt a 0 ≡ 90)
-    × (countAt a 3 ≡ 6)
-    × (countAt a 12 ≡ 4)
-    × (countAt a 6 ≡ 0)
+    × (countIn a 0 ≡ 90)
+    × (countIn a 3 ≡ 6)
+    × (countIn a 12 ≡ 4)
+    × (countIn a 6 ≡ 0)
 archive-D out fits =
     let w = writes sheet (length out) sheet-fine fits in
     let k = archive-read-back sheet out (ap (λ (x : WrittenAnswer). x .refusal) w) .counts in
     let a = take (writeAnswer sheet (length out) .bytes) (archiveAfter sheet out) in (
       w,
-      ap (countAt a) (sym (diagonal .0)) ∙ k 0 0 (omega arith) (omega arith) ∙ cell-count .0,
-      ap (countAt a) (sym (diagonal .1)) ∙ k 1 1 (omega arith) (omega arith) ∙ cell-count .1,
-      ap (countAt a) (sym (diagonal .2)) ∙ k 2 2 (omega arith) (omega arith) ∙ cell-count .2,
-      ap (countAt a) (sym (diagonal .3)) ∙ k 1 2 (omega arith) (omega arith) ∙ cell-count .3,
+      ap (countIn a) (sym (diagonal .0)) ∙ k 0 0 (omega arith) (omega arith) ∙ cell-count .0,
+      ap (countIn a) (sym (diagonal .1)) ∙ k 1 1 (omega arith) (omega arith) ∙ cell-count .1,
+      ap (countIn a) (sym (diagonal .2)) ∙ k 2 2 (omega arith) (omega arith) ∙ cell-count .2,
+      ap (countIn a) (sym (diagonal .3)) ∙ k 1 2 (omega arith) (omega arith) ∙ cell-count .3,
     )

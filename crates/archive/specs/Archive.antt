@@ -93,12 +93,12 @@ abbrev pub toleranceIn : List ℕ → ℕ
 toleranceIn a = getD (words a) 1 0
 
 -- the count at a position
-abbrev pub countAt : List ℕ → ℕ → ℕ
-countAt a p = getD (words a) (2 + p) 0
+abbrev pub countIn : List ℕ → ℕ → ℕ
+countIn a p = getD (words a) (2 + p) 0
 
 -- the table of its counts, from cell to cell
 unfoldable pub tableFrom : List ℕ → List ℕ
-tableFrom a = collect tableSize (λ c. countAt a (positionOf c) ∷ [])
+tableFrom a = collect tableSize (λ c. countIn a (positionOf c) ∷ [])
 
 -- the sum of all counts
 abbrev pub totalIn : List ℕ → ℕ
@@ -143,4 +143,4 @@ pub record Keeps (s a : List ℕ) : Type 0 where
   pub limit : limitOf (totalIn a) (nodesIn a) (toleranceIn a) ≡ readSheet s .limit
   -- each count, at the position that the rule gives it: "Cells absent from the sheet count as 0"
   pub counts : (holder subdomain : ℕ) → holder < 64 → subdomain < 64
-      → countAt a (position holder subdomain) ≡ held (tableIn s) holder subdomain
+      → countIn a (position holder subdomain) ≡ held (tableIn s) holder subdomain

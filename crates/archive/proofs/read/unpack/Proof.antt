@@ -10,7 +10,7 @@ use Rattle.arrays.specs.Arrays.{at}
 use Rattle.arrays.proofs.Tabulate.{filled-more}
 use Rattle.words.specs.Words.{words}
 use Rattle.archive.specs.ZOrder.{positionOf, Positions}
-use Rattle.archive.specs.Archive.{countAt}
+use Rattle.archive.specs.Archive.{countIn}
 use Rattle.archive.proofs.Bits.{position-below}
 use Rattle.archive.proofs.Ordered.{from-is}
 use Rattle.archive.proofs.read.unpack.Statement.{statement}
@@ -18,7 +18,7 @@ use Rattle.archive.proofs.read.unpack.Tie as tie
 
 abbrev Inv-loop : tie.InvT-loop
 Inv-loop a positions table₀ c₀ table c =
-    (c ≤ tableSize) × Positions positions × (length table ≡ tableSize) × ((k : ℕ) → k < c → at table k ≡ countAt a (positionOf k))
+    (c ≤ tableSize) × Positions positions × (length table ≡ tableSize) × ((k : ℕ) → k < c → at table k ≡ countIn a (positionOf k))
 
 abbrev μ-loop : tie.MeasureT-loop
 μ-loop a positions table₀ c₀ table c = tableSize - c
@@ -41,7 +41,7 @@ loop-again : tie.Need-loop-again Inv-loop μ-loop
 loop-again c =
     let l = c .before .before in
     let a = now (l .before .before .before .args .a) in
-    let count : ℕ → ℕ = λ k. countAt a (positionOf k) in (
+    let count : ℕ → ℕ = λ k. countIn a (positionOf k) in (
       omega arith,
       l .loop .inv .1,
       simp length-set (l .loop .inv .2),
