@@ -1,5 +1,5 @@
 // A step planned and carried out, by the two exported functions one after the other. Its contract is demand 3: nothing stands between
-// what is claimed and what the functions of the archive do.
+// what is claimed and what the functions of the library do.
 use planner::StepAnswer;
 use words::WrittenAnswer;
 ghost use mathlib.Core.Path.{_≡_};

@@ -1,4 +1,4 @@
--- The archive's version, as CHANGELOG.md counts it.
+-- The library's version, as CHANGELOG.md counts it.
 use Prim.Native.Nat.{ℕ}
 
 -- 100 × major + minor: 1.5 is 105, and 1.14 will be 114.

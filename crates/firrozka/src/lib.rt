@@ -1,4 +1,4 @@
-// The C boundary: the archive libfirrozka.a, whose functions include/firrozka.h declares. Nothing checks what a foreign caller passes,
+// The C boundary: the library libfirrozka.a, whose functions include/firrozka.h declares. Nothing checks what a foreign caller passes,
 // so no function here requires anything. A slice crosses as a pointer and a length.
 use in_force::PartAnswer;
 use moves::MovesAnswer;
@@ -21,7 +21,7 @@ ghost use Rattle.archive.specs.Archive.{writeAnswer, archiveAfter, readAnswer, 
 ghost use Rattle.in_force.specs.InForce.{inForce, partOf};
 ghost use Rattle.firrozka.specs.Version.{version};
 
-// The version, so that a caller can hold the header that it was compiled with to the archive that it was linked with.
+// The version, so that a caller can hold the header that it was compiled with to the library that it was linked with.
 #[no_mangle]
 pub extern "C" fn firrozka_version() -> u32
     ensures { λ r. ⌜ r ≡ version ⌝ }
