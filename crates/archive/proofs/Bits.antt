@@ -1,12 +1,13 @@
 -- The rule of the Z order: a cell and its position determine each other, so that the positions of different cells differ and fill the
--- numbers from 0 to 4,095. Bits are put apart and together again one at a time. Assumes nothing.
-use mathlib.Core.Path.{_≡_, refl, sym, ap, ap₂, _∙_}
+-- numbers from 0 to 4,095; and the bits of a position are those that the rule names. Bits are put apart and together again one at a time.
+-- Assumes nothing.
+use mathlib.Core.Path.{_≡_, sym, ap, ap₂, _∙_}
 use Prim.Native.Nat.{ℕ, zero, suc, _+_, _*_, _/_, _%_, _^_, _<_, _≤_}
 use native.Mathlib.Nat.{div-one, div-div-eq-div-mul, pow-succ'}
 use native.Mathlib.Omega.{arith}
 use Rattle.fold.specs.Sum.{sum}
 use Rattle.limit.specs.Limit.{tableSize}
-use Rattle.archive.specs.ZOrder.{position, positionOf}
+use Rattle.archive.specs.ZOrder.{bit, position, positionOf}
 use Rattle.archive.specs.Inner.{spreadOf}
 
 -- the k lowest bits of x, bit i at bit 2i
@@ -20,6 +21,12 @@ gather zero x = 0
 gather (suc k) x = x % 2 + 2 * gather k (x / 4)
 
 -- ---- the rule, bit by bit
+
+-- the sum, written out
+pub spread-terms : (x : ℕ) → x % 2 + 4 * (x / 2 % 2) + 16 * (x / 4 % 2) + 64 * (x / 8 % 2) + 256 * (x / 16 % 2) + 1024 * (x / 32 % 2)
+    ≡ spreadOf x
+unfolding spreadOf sum
+spread-terms x = omega arith
 
 -- six terms side by side, and one in the other
 nested : (a b c d e f : ℕ) → 0 + 1 * a + 4 * b + 16 * c + 64 * d + 256 * e + 1024 * f
@@ -67,29 +74,77 @@ gather-small (suc k) x = omega (arith, gather-small k (x / 4))
 pub spread-of-small : {r : ℕ} (x : ℕ) → r ≡ spreadOf x → r ≤ 1365
 spread-of-small x e = omega (arith, e, spread-is x, spread-small 6 x)
 
+-- ---- two numbers interleaved, without their lowest bits
+
+-- the lowest bit is that of the first
+lowest : (k j x y : ℕ) → (spread (suc k) x + 2 * spread j y) % 2 ≡ x % 2
+unfolding spread
+lowest k zero x y = omega arith
+lowest k (suc j) x y = omega arith
+
+-- without it the second comes first
+second : (k x y : ℕ) → (spread (suc k) x + 2 * spread (suc k) y) / 2 ≡ spread (suc k) y + 2 * spread k (x / 2)
+unfolding spread
+second k x y = omega arith
+
+-- and without the lowest of both it begins again
+next : (k j x y : ℕ) → (spread (suc k) x + 2 * spread (suc j) y) / 4 ≡ spread k (x / 2) + 2 * spread j (y / 2)
+unfolding spread
+next k j x y = omega arith
+
+-- however many bits the second has
+fourth : (k j x y : ℕ) → (m : ℕ) × ((spread (suc k) x + 2 * spread j y) / 4 ≡ spread k (x / 2) + 2 * spread m (y / 2))
+fourth k zero x y = (zero, unfold spread in omega arith)
+fourth k (suc j) x y = (j, next k j x y)
+
+-- ---- the rule read from the position
+
+half : (i x : ℕ) → x / 2 / 2 ^ i ≡ x / 2 ^ suc i
+half i x = div-div-eq-div-mul x 2 (2 ^ i) ∙ ap (λ (y : ℕ). x / y) (sym (pow-succ' 2 i))
+
+two-more : (i x : ℕ) → x / 4 / 2 ^ (2 * i) ≡ x / 2 ^ (2 * suc i)
+two-more i x =
+    let e : 2 * suc i ≡ suc (suc (2 * i)) = omega arith in
+    let q : x / 4 ≡ x / 2 / 2 = omega arith in
+    rw (e, q) (half (2 * i) (x / 2) ∙ half (suc (2 * i)) x)
+
+even-bit : (i k j x y : ℕ) → i < k → (spread k x + 2 * spread j y) / 2 ^ (2 * i) % 2 ≡ x / 2 ^ i % 2
+even-bit i zero j x y h = absurd (omega arith)
+even-bit zero (suc k) j x y h = rw (div-one (spread (suc k) x + 2 * spread j y), div-one x) (lowest k j x y)
+even-bit (suc i) (suc k) j x y h =
+    let f = fourth k j x y in
+    ap (λ (z : ℕ). z % 2) (sym (two-more i (spread (suc k) x + 2 * spread j y)) ∙ ap (λ (z : ℕ). z / 2 ^ (2 * i)) (f .1))
+    ∙ even-bit i k (f .0) (x / 2) (y / 2) (omega arith)
+    ∙ ap (λ (z : ℕ). z % 2) (half i x)
+
+odd-bit : (i k x y : ℕ) → i < k → (spread k x + 2 * spread k y) / 2 ^ suc (2 * i) % 2 ≡ y / 2 ^ i % 2
+odd-bit i zero x y h = absurd (omega arith)
+odd-bit i (suc k) x y h =
+    ap (λ (z : ℕ). z % 2)
+    (sym (half (2 * i) (spread (suc k) x + 2 * spread (suc k) y)) ∙ ap (λ (z : ℕ). z / 2 ^ (2 * i)) (second k x y))
+    ∙ even-bit i (suc k) k y (x / 2) h
+
+-- THEOREM. "Bit i of the subdomain becomes bit 2i of the position, and bit i of the holder bit 2i+1, for i from 0 to 5."
+pub position-bits : (holder subdomain i : ℕ) → i < 6
+    → (bit (2 * i) (position holder subdomain) ≡ bit i subdomain) × (bit (2 * i + 1) (position holder subdomain) ≡ bit i holder)
+position-bits holder subdomain i h =
+    let e : 2 * i + 1 ≡ suc (2 * i) = omega arith in
+    rw (position-is holder subdomain, e) (even-bit i 6 6 subdomain holder h, odd-bit i 6 subdomain holder h)
+
 -- ---- apart, and together again
 
 -- the even bits of what is interleaved
 even : (k j x y : ℕ) → x < 2 ^ k → gather k (spread k x + 2 * spread j y) ≡ x
-unfolding spread gather
+unfolding gather
 even zero j x y h = omega arith
-even (suc k) zero x y h = rw e (omega (arith, even k zero (x / 2) y (omega arith)))
-  where
-    e : (spread (suc k) x + 0) / 4 ≡ spread k (x / 2) + 0
-    e = omega arith
-even (suc k) (suc j) x y h = rw e (omega (arith, even k j (x / 2) (y / 2) (omega arith)))
-  where
-    e : (spread (suc k) x + 2 * spread (suc j) y) / 4 ≡ spread k (x / 2) + 2 * spread j (y / 2)
-    e = omega arith
+even (suc k) j x y h =
+    let f = fourth k j x y in
+    rw (f .1) (omega (arith, lowest k j x y, even k (f .0) (x / 2) (y / 2) (omega arith)))
 
 -- and the odd ones
 odd : (k x y : ℕ) → y < 2 ^ k → gather k ((spread k x + 2 * spread k y) / 2) ≡ y
-unfolding spread gather
-odd zero x y h = omega arith
-odd (suc k) x y h = rw e (even (suc k) k y (x / 2) h)
-  where
-    e : (spread (suc k) x + 2 * spread (suc k) y) / 2 ≡ spread (suc k) y + 2 * spread k (x / 2)
-    e = omega arith
+odd zero x y h = unfold gather in omega arith
+odd (suc k) x y h = rw (second k x y) (even (suc k) k y (x / 2) h)
 
 -- what is taken apart, interleaved again
 again : (k p : ℕ) → p < 4 ^ k → spread k (gather k p) + 2 * spread k (gather k (p / 2)) ≡ p
@@ -154,25 +209,17 @@ unfolding spread
 spread-top zero x h = omega arith
 spread-top (suc k) x h = omega (arith, spread-top k (x / 2) (omega arith))
 
-spread-low : (k x : ℕ) → spread (suc k) x ≡ x % 2 + 4 * spread k (x / 2)
-unfolding spread
-spread-low k x = refl
-
 -- four cells that form a square stand next to each other
 quarter : (holder subdomain : ℕ) → holder < 64 → subdomain < 64 → position holder subdomain / 4 ≡ position (holder / 2) (subdomain / 2)
 quarter holder subdomain h l =
     omega (
       arith,
       position-is holder subdomain,
-      spread-low 5 holder,
-      spread-low 5 subdomain,
+      next 5 5 subdomain holder,
       position-is (holder / 2) (subdomain / 2),
       spread-top 5 (holder / 2) (omega arith),
       spread-top 5 (subdomain / 2) (omega arith),
     )
-
-half : (k x : ℕ) → x / 2 / 2 ^ k ≡ x / 2 ^ suc k
-half k x = div-div-eq-div-mul x 2 (2 ^ k) ∙ ap (λ (y : ℕ). x / y) (sym (pow-succ' 2 k))
 
 -- THEOREM. So do those of every square of 2 to the power k holders and as many subdomains that begins at a multiple of it: their
 -- positions have one quotient by 4 to the power k, which says where among the squares this one stands, in Z order again.

@@ -1,14 +1,8 @@
 -- `archive::order::spread` meets its contract: its six terms are those of the sum. Assumes nothing.
 use borrow.Author.Needs.{needs}
-use native.Mathlib.Omega.{arith}
-use Rattle.fold.specs.Sum.{sum}
-use Rattle.archive.specs.Inner.{spreadOf}
+use Rattle.archive.proofs.Bits.{spread-terms}
 use Rattle.archive.proofs.order.spread.Statement.{statement}
 use Rattle.archive.proofs.order.spread.Tie as tie
-
-returns : tie.Need-returns
-unfolding spreadOf sum
-returns c = omega arith
 
 pub spread-spec : {M : Type 1} → statement M
 spread-spec =
@@ -24,4 +18,4 @@ spread-spec =
     (λ c. search needs)  -- add-result-4
     (λ c. search needs)  -- mul-result-5
     (λ c. search needs)  -- add-result-5
-    returns)
+    (λ c. spread-terms (c .args .x)))  -- returns
