@@ -316,19 +316,21 @@ fn assert_no_page(sheet: &[u8], moves: &[u8], refusal: Refusal) {
     assert_eq!(page, [0xa5; PAGE.len() - 1]);
 }
 
+/// A sheet for each of its refusals, in the order of the checks.
+const REFUSED: [(&[u32], Refusal); 7] = [
+    (&[3, 100], Refusal::SheetShort),
+    (&[65, 100, 0], Refusal::SheetNodes),
+    (&[3, 1000, 0], Refusal::SheetTolerance),
+    (&[3, 100, 10], Refusal::SheetEntries),
+    (&[3, 100, 1, 0], Refusal::SheetLength),
+    (&[3, 100, 1, 3, 1], Refusal::SheetCell),
+    (&[3, 100, 1, 0, 0], Refusal::SheetCount),
+];
+
 #[test]
 fn where_there_is_no_page_the_buffer_is_untouched() {
-    // In the order of the checks: beside these sheets stand no moves.
-    let sheets: [(&[u32], Refusal); 7] = [
-        (&[3, 100], Refusal::SheetShort),
-        (&[65, 100, 0], Refusal::SheetNodes),
-        (&[3, 1000, 0], Refusal::SheetTolerance),
-        (&[3, 100, 10], Refusal::SheetEntries),
-        (&[3, 100, 1, 0], Refusal::SheetLength),
-        (&[3, 100, 1, 3, 1], Refusal::SheetCell),
-        (&[3, 100, 1, 0, 0], Refusal::SheetCount),
-    ];
-    for (words, refusal) in sheets {
+    // Beside these sheets stand no moves.
+    for (words, refusal) in REFUSED {
         assert_no_page(&to_bytes(words), &[], refusal);
     }
     let lists: [(&[u32], Refusal); 9] = [
@@ -395,18 +397,9 @@ fn the_longest_and_the_shortest_sheet_are_archived() -> Result<(), Refusal> {
 
 #[test]
 fn where_there_is_no_archive_the_buffer_is_untouched() {
-    // In the order of the checks; the buffer is a byte too short throughout.
-    let sheets: [(&[u32], Refusal); 8] = [
-        (&[3, 100], Refusal::SheetShort),
-        (&[65, 100, 0], Refusal::SheetNodes),
-        (&[3, 1000, 0], Refusal::SheetTolerance),
-        (&[3, 100, 10], Refusal::SheetEntries),
-        (&[3, 100, 1, 0], Refusal::SheetLength),
-        (&[3, 100, 1, 3, 1], Refusal::SheetCell),
-        (&[3, 100, 1, 0, 0], Refusal::SheetCount),
-        (&BUSY, Refusal::ArchiveBuffer),
-    ];
-    for (words, refusal) in sheets {
+    // The buffer is a byte too short throughout.
+    let last: (&[u32], Refusal) = (&BUSY, Refusal::ArchiveBuffer);
+    for (words, refusal) in REFUSED.into_iter().chain([last]) {
         let mut archive = [0xa5; ARCHIVE_BYTES - 1];
         let written = write_archive(&to_bytes(words), &mut archive);
         assert_eq!(written, Err(refusal));
