@@ -93,9 +93,9 @@ module _ (a out : List ℕ) where
     fine-is : countsFine n table ≡ countsFine (nodesIn a) (tableFrom a)
     fine-is = rw (is, h .n-is)
 
-    pub ends-stray : countsFine n table ≡ false → CountsEnd (refused 55) out
+    pub ends-other-nodes : countsFine n table ≡ false → CountsEnd (refused 55) out
     unfolding countsAnswer
-    ends-stray bad = counts-refuse 55 (λ z. omega arith) (rw (sym fine-is ∙ bad))
+    ends-other-nodes bad = counts-refuse 55 (λ z. omega arith) (rw (sym fine-is ∙ bad))
 
     module _ (fine : countsFine n table ≡ true) {sum₀ : ℕ} (sum-is : sum₀ ≡ totalIn a) where
       pub ends-total : maxTotal < sum₀ → CountsEnd (refused 55) out

@@ -48,7 +48,7 @@ fn unpack(a: &[u8]) -> [u32; TABLE_SIZE]
     table
 }
 
-// Whether this count may stand at cell c: one above 0 stands at nodes below n alone.
+// Whether this count may stand at cell c: one above 0 stands where both nodes are below n.
 fn count_fine(n: u32, c: u32, count: u32) -> bool
     ensures { λ r. ⌜ r ≡ (cellFine n c || eqb count 0) ⌝ }
 {
@@ -59,7 +59,7 @@ fn count_fine(n: u32, c: u32, count: u32) -> bool
     }
 }
 
-// Whether all counts do.
+// Whether each count may stand at its cell.
 fn counts_fine(table: &[u32; TABLE_SIZE], n: u32) -> bool
     ensures { λ r. ⌜ r ≡ countsFine n (now (table .entry)) ⌝ }
 {

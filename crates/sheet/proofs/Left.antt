@@ -24,7 +24,6 @@ left s e i c = countAt (drop i (cellsOf s e)) (drop i (countsOf s e)) c
 
 -- at the loop's head: the entries left still rise, and the cells from low on have all their counts among them
 pub record Left (s : List ℕ) (n e i : ℕ) : Type 0 where
-  pub i-le : i ≤ e
   pub low : ℕ
   pub rise : rising (cellFine n) low (drop i (cellsOf s e)) ≡ true
   pub ahead : (c : ℕ) → low ≤ c → left s e i c ≡ at (tableOf s e) c
@@ -35,7 +34,7 @@ module _ (s : List ℕ) (n e : ℕ) (given : Unpackable s n e) where
   left-all c = sym (count-table s n e given c)
 
   pub left-begin : Left s n e 0
-  left-begin = record { i-le = omega arith; low = 0; rise = given .cells; ahead = λ c h. left-all c }
+  left-begin = record { low = 0; rise = given .cells; ahead = λ c h. left-all c }
 
   -- and in the end nothing
   pub left-none : (i : ℕ) → e ≤ i → (c : ℕ) → left s e i c ≡ 0
@@ -86,7 +85,6 @@ module _ (s : List ℕ) (n e : ℕ) (given : Unpackable s n e) where
     pub left-again : Left s n e (i + 1)
     left-again =
         record {
-          i-le = omega arith;
           low = x + 1;
           rise = rises (cellFine n) (at-head .low) x (drop (i + 1) (cellsOf s e)) rises-here .rest;
           ahead = λ c h. sym (left-other c (λ z. omega arith)) ∙ at-head .ahead c (omega (arith, above));

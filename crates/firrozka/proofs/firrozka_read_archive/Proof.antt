@@ -1,4 +1,4 @@
--- `firrozka::firrozka_read_archive` meets its contract: answer and buffer are those of reading one. Assumes nothing.
+-- `firrozka::firrozka_read_archive` meets its contract: answer and buffer are those of reading an archive. Assumes nothing.
 use borrow.Author.Needs.{needs}
 use mathlib.Core.Path.{_∙_}
 use Rattle.firrozka.proofs.firrozka_read_archive.Statement.{statement}

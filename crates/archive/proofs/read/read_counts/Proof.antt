@@ -15,7 +15,7 @@ use Rattle.words.proofs.Buffer.{writing-bytes}
 use Rattle.sheet.specs.Write.{sheetBytes}
 use Rattle.sheet.proofs.Filled.{length-most}
 use Rattle.archive.specs.Archive.{tableFrom, totalIn, countsFine}
-use Rattle.archive.proofs.Checks.{ends-stray, ends-total, ends-restored, ends-unwritten}
+use Rattle.archive.proofs.Checks.{ends-other-nodes, ends-total, ends-restored, ends-unwritten}
 use Rattle.archive.proofs.read.read_counts.Statement.{statement}
 use Rattle.archive.proofs.read.read_counts.Tie as tie
 
@@ -42,7 +42,7 @@ module _ (c : tie.After-counts-fine) where
 returns : tie.Need-returns
 returns c =
     let f = c .before in
-    ends-stray (a₀ f) (out₀ f) (start f .pre) (table-is f) (sym (f .counts-fine .ensures) ∙ not-true _ (c .if1 .taken))
+    ends-other-nodes (a₀ f) (out₀ f) (start f .pre) (table-is f) (sym (f .counts-fine .ensures) ∙ not-true _ (c .if1 .taken))
 
 -- and the sum was taken
 module _ (c : tie.After-sum-counts) where
