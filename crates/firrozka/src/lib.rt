@@ -18,6 +18,7 @@ ghost use Rattle.carry.specs.Carry.{carryAnswer, nextAfter};
 ghost use Rattle.inlet.specs.Join.{joinAnswer, joinedAfter};
 ghost use Rattle.traffic.specs.Page.{pageAnswer, pageAfter};
 ghost use Rattle.archive.specs.Archive.{writeAnswer, archiveAfter, readAnswer, sheetAfter};
+ghost use Rattle.groups.specs.Groups.{groupsAnswer, groupsAfter};
 ghost use Rattle.in_force.specs.InForce.{inForce, partOf};
 ghost use Rattle.firrozka.specs.Version.{version};
 
@@ -26,7 +27,7 @@ ghost use Rattle.firrozka.specs.Version.{version};
 pub extern "C" fn firrozka_version() -> u32
     ensures { λ r. ⌜ r ≡ version ⌝ }
 {
-    105
+    106
 }
 
 // *Read sheet*.
@@ -127,6 +128,15 @@ pub extern "C" fn firrozka_read_archive(archive: &[u8], sheet: &mut [u8]) -> Wri
     ensures bytes { λ _. ⌜ now (sheet .exit) ≡ sheetAfter (now (archive .entry)) (now (sheet .entry)) ⌝ }
 {
     archive::read::answer(archive::read::read_archive(archive, sheet))
+}
+
+// *Groups*.
+#[no_mangle]
+pub extern "C" fn firrozka_groups(plan: &[u8], groups: &mut [u8]) -> WrittenAnswer
+    ensures answer { λ r. ⌜ r ≡ groupsAnswer (now (plan .entry)) (length (now (groups .entry))) ⌝ }
+    ensures bytes { λ _. ⌜ now (groups .exit) ≡ groupsAfter (now (plan .entry)) (now (groups .entry)) ⌝ }
+{
+    groups::answer(groups::groups(plan, groups))
 }
 
 // *Tree in force*: the stretch by its place, since no reference can be handed back over the boundary.

@@ -1,0 +1,12 @@
+pub mod Distances
+pub mod Noting
+pub mod Owners
+pub mod Checks
+pub mod Looking
+pub mod Planned
+pub mod Placing
+pub mod ReadBack
+pub mod Together
+pub mod Sizes
+pub mod Answers
+pub mod Vectors

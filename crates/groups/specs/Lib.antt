@@ -1,0 +1,4 @@
+pub mod Colour
+pub mod Group
+pub mod Groups
+pub mod Inner
