@@ -18,19 +18,20 @@
 extern "C" {
 #endif
 
-/* The version, 100 × major + minor: 1.5 is 105. CHANGELOG.md says what each brought. firrozka_version() is the library's own: where the
+/* The version, 100 × major + minor: 1.6 is 106. CHANGELOG.md says what each brought. firrozka_version() is the library's own: where the
  * two differ, a program was compiled with the header of another version. */
-#define FIRROZKA_VERSION 105
+#define FIRROZKA_VERSION 106
 uint32_t firrozka_version(void);
 
-/* Buffers of so many bytes are long enough for every call. The last is the length of every archive. */
+/* Buffers of so many bytes are long enough for every call. FIRROZKA_ARCHIVE_BYTES is the length of every archive. */
 enum {
-    FIRROZKA_SHEET_BYTES = 32780,  /* 4 × (3 + 2 × 4,096) */
-    FIRROZKA_PLAN_BYTES = 524,     /* 4 × (3 + 2 × 64) */
-    FIRROZKA_MOVES_BYTES = 32264,  /* 4 × (2 + 2 × 4,032) */
-    FIRROZKA_LEAST_BYTES = 256,    /* 4 × 64 */
-    FIRROZKA_PAGE_BYTES = 1625,    /* 25 × (64 + 1) */
-    FIRROZKA_ARCHIVE_BYTES = 16392 /* 4 × (2 + 4,096) */
+    FIRROZKA_SHEET_BYTES = 32780,   /* 4 × (3 + 2 × 4,096) */
+    FIRROZKA_PLAN_BYTES = 524,      /* 4 × (3 + 2 × 64) */
+    FIRROZKA_MOVES_BYTES = 32264,   /* 4 × (2 + 2 × 4,032) */
+    FIRROZKA_LEAST_BYTES = 256,     /* 4 × 64 */
+    FIRROZKA_PAGE_BYTES = 1625,     /* 25 × (64 + 1) */
+    FIRROZKA_ARCHIVE_BYTES = 16392, /* 4 × (2 + 4,096) */
+    FIRROZKA_GROUPS_BYTES = 516     /* 4 × (1 + 2 × 64) */
 };
 
 /* The kind of a plan. */
@@ -44,6 +45,11 @@ enum firrozka_kind {
 enum firrozka_source {
     FIRROZKA_OLD_PLAN = 1,
     FIRROZKA_NEW_PLAN = 2
+};
+
+/* The entry of a node that is in no group of a colour. */
+enum {
+    FIRROZKA_NO_GROUP = 64
 };
 
 /* Why an operation refuses. Its checks run in the order of its numbers, those of the sheet and of the other record first; only join sheets
@@ -94,7 +100,9 @@ enum firrozka_refusal {
     FIRROZKA_ARCHIVE_LENGTH = 54, /* the length is not 16,392 bytes */
     FIRROZKA_ARCHIVE_COUNT = 55,  /* a count is above 0 at a node not below N, or the sum is above 1,000,000,000 */
     /* write archive, read archive */
-    FIRROZKA_ARCHIVE_BUFFER = 56 /* the buffer is too short */
+    FIRROZKA_ARCHIVE_BUFFER = 56, /* the buffer is too short */
+    /* groups */
+    FIRROZKA_GROUPS_BUFFER = 57 /* the buffer is under 4 × (1 + 2N) bytes */
 };
 
 /* Read sheet: N, the tolerance t in tenths of a percent, the number of cells E, the total P and the limit L. Refused: 1 to 7. */
@@ -162,6 +170,13 @@ struct firrozka_written firrozka_write_archive(const uint8_t *sheet, size_t shee
  * byte for byte; and every archive that is accepted is that of the sheet that comes out of it.
  * Refused: 54; 2 and 3, here of the archive; 55; 56 where the buffer is shorter than this sheet. */
 struct firrozka_written firrozka_read_archive(const uint8_t *archive, size_t archive_len, uint8_t *sheet, size_t sheet_len);
+
+/* Groups: writes each node's group in the even colour and in the odd, for a message library, and gives the length in bytes, 4 × (1 + 2N).
+ * Each family with a helper is a group. It is named by its owner, and even or odd as its owner's distance from the root is. The words are
+ * N, N entries of the even colour and N of the odd. An entry is the number of the group's owner, or FIRROZKA_NO_GROUP. Two different nodes
+ * share an entry other than this in a colour exactly when they belong to one family of that colour. A plan of kind 0 has no group.
+ * Refused: the plan's; 57. */
+struct firrozka_written firrozka_groups(const uint8_t *plan, size_t plan_len, uint8_t *groups, size_t groups_len);
 
 /* Tree in force: the helpands that hold after a step, as a stretch of one of the two plans: which plan, and where in it, in bytes. It is
  * of the old plan if the new kind is 1, else of the new. A new plan of kind 0 gives its roots. Nothing is copied, nothing is refused.

@@ -4,7 +4,7 @@
 #include <string.h>
 #include "firrozka.h"
 
-#if FIRROZKA_VERSION < 105
+#if FIRROZKA_VERSION < 106
 #error "the preprocessor can test the version"
 #endif
 
@@ -41,8 +41,17 @@ static const uint8_t to_itself[] = {3, 0, 0, 0, 1, 0, 0, 0, 0, 0, 0, 0, 1, 0, 0,
 static const uint8_t moves_of_two[] = {2, 0, 0, 0, 0, 0, 0, 0};
 static const uint8_t too_much[] = {3, 0, 0, 0, 1, 0, 0, 0, 66, 16, 0, 0, 24, 0, 0, 0};
 
+/* Nodes 0 and 2 help node 1, which is the root, and nodes 3 and 4 help node 0. Then the groups, of which node 1's is even and node 0's odd;
+ * and those of step J's plan, in which no node helps. */
+static const uint8_t tree[] = {5, 0, 0, 0, 2, 0, 0, 0, 36, 0, 0, 0, 1, 0, 0, 0, 1, 0, 0, 0, 1, 0, 0, 0, 0, 0, 0, 0,
+                               0, 0, 0, 0, 20, 0, 0, 0, 0, 0, 0, 0, 15, 0, 0, 0, 12, 0, 0, 0, 9, 0, 0, 0};
+static const uint8_t families[] = {5, 0, 0, 0, 1, 0, 0, 0, 1, 0, 0, 0, 1, 0, 0, 0, 64, 0, 0, 0, 64, 0, 0, 0,
+                                   0, 0, 0, 0, 64, 0, 0, 0, 64, 0, 0, 0, 0, 0, 0, 0, 0, 0, 0, 0};
+static const uint8_t no_family[] = {3, 0, 0, 0, 64, 0, 0, 0, 64, 0, 0, 0, 64, 0, 0, 0,
+                                    64, 0, 0, 0, 64, 0, 0, 0, 64, 0, 0, 0};
+
 static uint8_t plan[FIRROZKA_PLAN_BYTES], moves[FIRROZKA_MOVES_BYTES], next[FIRROZKA_SHEET_BYTES], least[FIRROZKA_LEAST_BYTES];
-static uint8_t page[FIRROZKA_PAGE_BYTES];
+static uint8_t page[FIRROZKA_PAGE_BYTES], groups[FIRROZKA_GROUPS_BYTES];
 
 /* The archive of the busy sheet, and a buffer that is longer by a word. */
 static uint8_t kept[FIRROZKA_ARCHIVE_BYTES], archive[FIRROZKA_ARCHIVE_BYTES + 4];
@@ -205,6 +214,31 @@ static void check_read_archive(void)
     CHECK(not_read(FIRROZKA_ARCHIVE_BUFFER, 0, 3, sizeof kept, sizeof busy - 1));
 }
 
+/* Whether so much of the tree is refused so, with 0 bytes and the buffer as it was. */
+static int no_groups(uint32_t refusal, size_t plan_len, size_t groups_len)
+{
+    memset(groups, PAINT, sizeof groups);
+    struct firrozka_written g = firrozka_groups(tree, plan_len, groups, groups_len);
+    return g.refusal == refusal && !g.bytes && painted(groups, sizeof groups);
+}
+
+static void check_groups(void)
+{
+    memset(groups, PAINT, sizeof groups);
+    struct firrozka_written g = firrozka_groups(tree, sizeof tree, groups, sizeof groups);
+    CHECK(!g.refusal && g.bytes == sizeof families && !memcmp(groups, families, sizeof families));
+    CHECK(painted(groups + sizeof families, sizeof groups - sizeof families));
+    /* A buffer of just this length. */
+    CHECK(firrozka_groups(tree, sizeof tree, groups, sizeof families).bytes == sizeof families);
+    g = firrozka_groups(roots, sizeof roots, groups, sizeof groups);
+    CHECK(!g.refusal && g.bytes == sizeof no_family && !memcmp(groups, no_family, sizeof no_family));
+    CHECK(groups[4] == FIRROZKA_NO_GROUP);
+    /* The plan's come before 57. */
+    CHECK(no_groups(FIRROZKA_PLAN_SHORT, 11, sizeof groups));
+    CHECK(no_groups(FIRROZKA_PLAN_LENGTH, sizeof tree - 1, sizeof families - 1));
+    CHECK(no_groups(FIRROZKA_GROUPS_BUFFER, sizeof tree, sizeof families - 1));
+}
+
 /* With length 0 a pointer may be null, a buffer's too. */
 static void check_null(void)
 {
@@ -226,6 +260,8 @@ static void check_null(void)
     make_kept();
     CHECK(firrozka_read_archive(NULL, 0, next, sizeof next).refusal == FIRROZKA_ARCHIVE_LENGTH);
     CHECK(firrozka_read_archive(kept, sizeof kept, NULL, 0).refusal == FIRROZKA_ARCHIVE_BUFFER);
+    CHECK(firrozka_groups(NULL, 0, groups, sizeof groups).refusal == FIRROZKA_PLAN_SHORT);
+    CHECK(firrozka_groups(tree, sizeof tree, NULL, 0).refusal == FIRROZKA_GROUPS_BUFFER);
     CHECK(firrozka_tree_in_force(NULL, 0, NULL, 0).length == 0);
 }
 
@@ -256,6 +292,7 @@ int main(void)
     check_traffic();
     check_write_archive();
     check_read_archive();
+    check_groups();
     check_null();
     check_force();
     return 0;

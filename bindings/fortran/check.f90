@@ -65,6 +65,7 @@ program check
     call check_traffic
     call check_write_archive
     call check_read_archive
+    call check_groups
     call check_words
 
 contains
@@ -216,6 +217,33 @@ contains
         next = untouched
         written = firrozka_read_archive(busy_archive(place, word), firrozka_archive_bytes, next, firrozka_sheet_bytes)
         call same([written%refusal, written%bytes, count(next /= untouched, kind=c_int32_t)], [integer :: refusal, 0, 0])
+    end subroutine
+
+    ! Nodes 0 and 2 help node 1, which is the root, and nodes 3 and 4 help node 0: node 1's family is even and node 0's odd. In step
+    ! J's plan no node helps.
+    subroutine check_groups
+        integer(c_int8_t) :: tree(52), groups(firrozka_groups_bytes), expected(44)
+
+        tree = words_to_bytes([5, 2, 36, 1, 1, 1, 0, 0, 20, 0, 15, 12, 9])
+        expected = words_to_bytes([5, 1, 1, 1, 64, 64, 0, 64, 64, 0, 0])
+        groups = untouched
+        written = firrozka_groups(tree, size(tree, kind=c_size_t), groups, size(groups, kind=c_size_t))
+        call same([written%refusal, written%bytes], [0, 44])
+        call same([count(groups(:44) /= expected, kind=c_int32_t), count(groups(45:) /= untouched, kind=c_int32_t)], [0, 0])
+        ! A buffer of just this length.
+        written = firrozka_groups(tree, size(tree, kind=c_size_t), groups, 44_c_size_t)
+        call same([written%refusal, written%bytes], [0, 44])
+        written = firrozka_groups(roots, size(roots, kind=c_size_t), groups, firrozka_groups_bytes)
+        call same([written%refusal, written%bytes, word_at(groups, 1)], [integer :: 0, 28, firrozka_no_group])
+        call same([count(groups(:28) /= words_to_bytes([3, 64, 64, 64, 64, 64, 64]), kind=c_int32_t)], [0])
+
+        ! The plan's come before 57.
+        groups = untouched
+        written = firrozka_groups(tree, 51_c_size_t, groups, 43_c_size_t)
+        call same([written%refusal, written%bytes], [integer :: firrozka_plan_length, 0])
+        written = firrozka_groups(tree, size(tree, kind=c_size_t), groups, 43_c_size_t)
+        call same([written%refusal, written%bytes], [integer :: firrozka_groups_buffer, 0])
+        call same([count(groups /= untouched, kind=c_int32_t)], [0])
     end subroutine
 
     ! Words of all four bytes, both ways, from integers of either size.

@@ -13,22 +13,25 @@ module firrozka
     public :: firrozka_version
     public :: firrozka_read_sheet, firrozka_read_plan, firrozka_read_moves
     public :: firrozka_weigh, firrozka_plan_step, firrozka_carry_out, firrozka_join_sheets
-    public :: firrozka_traffic_page, firrozka_write_archive, firrozka_read_archive, firrozka_tree_in_force
+    public :: firrozka_traffic_page, firrozka_write_archive, firrozka_read_archive, firrozka_groups, firrozka_tree_in_force
     public :: words_to_bytes, word_at
 
-    ! The version that this module was written for, 100 × major + minor: 1.5 is 105. firrozka_version() is the library's own.
-    integer(c_int32_t), parameter, public :: firrozka_module_version = 105
+    ! The version that this module was written for, 100 × major + minor: 1.6 is 106. firrozka_version() is the library's own.
+    integer(c_int32_t), parameter, public :: firrozka_module_version = 106
 
-    ! Buffers of so many bytes are long enough for every call. The last is the length of every archive.
+    ! Buffers of so many bytes are long enough for every call. firrozka_archive_bytes is the length of every archive.
     integer(c_size_t), parameter, public :: &
         firrozka_sheet_bytes = 32780, firrozka_plan_bytes = 524, firrozka_moves_bytes = 32264, firrozka_least_bytes = 256, &
-        firrozka_page_bytes = 1625, firrozka_archive_bytes = 16392
+        firrozka_page_bytes = 1625, firrozka_archive_bytes = 16392, firrozka_groups_bytes = 516
 
     ! The kind of a plan.
     integer(c_int32_t), parameter, public :: firrozka_primary = 0, firrozka_kept = 1, firrozka_rebuilt = 2
 
     ! Which of two plans has the tree in force.
     integer(c_int32_t), parameter, public :: firrozka_old_plan = 1, firrozka_new_plan = 2
+
+    ! The entry of a node that is in no group of a colour.
+    integer(c_int32_t), parameter, public :: firrozka_no_group = 64
 
     ! Why an operation refuses. Its checks run in the order of its numbers, those of the sheet and of the other record first; only
     ! join sheets has a 7 behind 51, and read archive 2 and 3 behind 54.
@@ -78,7 +81,9 @@ module firrozka
         firrozka_archive_length = 54, & ! the length is not 16,392 bytes
         firrozka_archive_count = 55, &  ! a count is above 0 at a node not below N, or the sum is above 1,000,000,000
         ! write archive, read archive
-        firrozka_archive_buffer = 56 ! the buffer is too short
+        firrozka_archive_buffer = 56, & ! the buffer is too short
+        ! groups
+        firrozka_groups_buffer = 57 ! the buffer is under 4 × (1 + 2N) bytes
 
     ! The answers: 0 or a refusal number, and the values named, all 0 in a refusal. The tolerance t is in tenths of a percent.
     type, bind(c), public :: firrozka_sheet
@@ -206,6 +211,16 @@ module firrozka
             integer(c_int8_t), intent(in) :: archive(*)
             integer(c_int8_t), intent(inout) :: sheet(*)
             integer(c_size_t), value :: archive_len, sheet_len
+            type(firrozka_written) :: answer
+        end function
+
+        ! The words are N, N entries of the even colour and N of the odd. An entry is the number of the group's owner, or
+        ! firrozka_no_group.
+        function firrozka_groups(plan, plan_len, groups, groups_len) bind(c) result(answer)
+            import :: c_int8_t, c_size_t, firrozka_written
+            integer(c_int8_t), intent(in) :: plan(*)
+            integer(c_int8_t), intent(inout) :: groups(*)
+            integer(c_size_t), value :: plan_len, groups_len
             type(firrozka_written) :: answer
         end function
 
