@@ -56,8 +56,8 @@ pub struct StepAnswer {
     pub moves_bytes: u32,
 }
 
-/// *Carry out*, *join sheets*, *traffic page*, *write archive* and *read archive*
-/// give the length in bytes of what they wrote.
+/// *Carry out*, *join sheets*, *traffic page*, *write archive*, *read archive* and
+/// *groups* give the length in bytes of what they wrote.
 #[repr(C)]
 #[derive(Clone, Copy, Debug, Default, PartialEq, Eq)]
 pub struct WrittenAnswer {
@@ -141,6 +141,12 @@ extern "C" {
         archive_len: usize,
         sheet: *mut u8,
         sheet_len: usize,
+    ) -> WrittenAnswer;
+    fn firrozka_groups(
+        plan: *const u8,
+        plan_len: usize,
+        groups: *mut u8,
+        groups_len: usize,
     ) -> WrittenAnswer;
     fn firrozka_tree_in_force(
         old: *const u8,
@@ -247,6 +253,11 @@ pub fn write_archive(sheet: &[u8], archive: &mut [u8]) -> WrittenAnswer {
 /// *Read archive*, as the library does it.
 pub fn read_archive(archive: &[u8], sheet: &mut [u8]) -> WrittenAnswer {
     convert(firrozka_read_archive, archive, sheet)
+}
+
+/// *Groups*, as the library does it.
+pub fn groups(plan: &[u8], groups: &mut [u8]) -> WrittenAnswer {
+    convert(firrozka_groups, plan, groups)
 }
 
 /// *Tree in force*, as the library does it.

@@ -29,9 +29,10 @@ mod words;
 
 pub use ffi::version;
 pub use operations::{
-    carry_out, join_sheets, plan_step, read_archive, read_moves, read_plan, read_sheet,
-    traffic_page, traffic_text, tree_in_force, weigh, write_archive, Step, Weighed, ARCHIVE_BYTES,
-    LEAST_BYTES, MOVES_BYTES, NO_PLAN, PAGE_BYTES, PLAN_BYTES, SHEET_BYTES, VERSION,
+    carry_out, groups, join_sheets, plan_step, read_archive, read_moves, read_plan, read_sheet,
+    traffic_page, traffic_text, tree_in_force, weigh, write_archive, Groups, Step, Weighed,
+    ARCHIVE_BYTES, GROUPS_BYTES, LEAST_BYTES, MOVES_BYTES, NO_GROUP, NO_PLAN, PAGE_BYTES,
+    PLAN_BYTES, SHEET_BYTES, VERSION,
 };
 pub use records::{Cell, Kind, Move, Moves, NoKind, Node, Plan, Sheet};
 pub use refusal::Refusal;

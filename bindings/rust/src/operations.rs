@@ -8,7 +8,7 @@ use crate::words::Words;
 use std::str;
 
 /// The version that this crate was written for: 100 × major + minor.
-pub const VERSION: u32 = 105;
+pub const VERSION: u32 = 106;
 
 /// Enough for every sheet.
 pub const SHEET_BYTES: usize = 4 * (3 + 2 * 64 * 64);
@@ -28,8 +28,14 @@ pub const PAGE_BYTES: usize = 25 * (64 + 1);
 /// The length of every archive.
 pub const ARCHIVE_BYTES: usize = 4 * (2 + 64 * 64);
 
+/// Enough for the groups of every plan.
+pub const GROUPS_BYTES: usize = 4 * (1 + 2 * 64);
+
 /// No old plan.
 pub const NO_PLAN: &[u8] = &[];
+
+/// The entry of a node that is in no group of a colour.
+pub const NO_GROUP: u32 = 64;
 
 /// *Read sheet*.
 pub fn read_sheet(sheet: &[u8]) -> Result<Sheet<'_>, Refusal> {
@@ -179,6 +185,29 @@ pub fn write_archive<'a>(sheet: &[u8], archive: &'a mut [u8]) -> Result<&'a [u8]
 /// Refusals 2 and 3 are of the archive: `ArchiveNodes` and `ArchiveTolerance`.
 pub fn read_archive<'a>(archive: &[u8], sheet: &'a mut [u8]) -> Result<&'a [u8], Refusal> {
     written(ffi::read_archive(archive, sheet), sheet).map_err(Refusal::of_archive)
+}
+
+/// What *groups* gives. An entry is the number of the group's owner, or `NO_GROUP`.
+#[derive(Clone, Copy, Debug, PartialEq, Eq)]
+pub struct Groups<'a> {
+    /// The record: N, and the entries of both colours.
+    pub record: &'a [u8],
+    /// The N entries of the even colour.
+    pub even: Words<'a>,
+    /// The N entries of the odd colour.
+    pub odd: Words<'a>,
+}
+
+/// *Groups*: writes each node's group in the even colour and in the odd to the front
+/// of the buffer, for a message library.
+///
+/// Each family with a helper is a group. It is named by its owner, and even or odd
+/// as its owner's distance from the root is.
+pub fn groups<'a>(plan: &[u8], groups: &'a mut [u8]) -> Result<Groups<'a>, Refusal> {
+    let record = written(ffi::groups(plan, groups), groups)?;
+    let n = Words::of(record).get(0).expect("N stands first");
+    let [even, odd] = arrays(record, 1, n);
+    Ok(Groups { record, even, odd })
 }
 
 /// *Tree in force*: the helpands, a part of one of the two plans, or an empty

@@ -80,6 +80,7 @@ refusals! {
     ArchiveCount = 55, "archive", "a count is above 0 at a node not below N, \
         or the sum is above 1,000,000,000";
     ArchiveBuffer = 56, "write archive, read archive", "the buffer is too short";
+    GroupsBuffer = 57, "groups", "the buffer is under 4 × (1 + 2N) bytes";
     // Numbers 2 and 3 once more.
     ArchiveNodes = 1002, "archive", "N is not 1 to 64";
     ArchiveTolerance = 1003, "archive", "t is not 1 to 999";

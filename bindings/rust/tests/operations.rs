@@ -1,11 +1,11 @@
 //! The wrapper over the library: document 01's steps, refusals and parts, and
-//! document 02's joined sheets, traffic pages and archives.
+//! document 02's joined sheets, traffic pages, archives and groups.
 
 use firrozka::{
-    carry_out, join_sheets, plan_step, read_archive, read_moves, read_plan, read_sheet, to_bytes,
-    traffic_page, traffic_text, tree_in_force, weigh, write_archive, Cell, Kind, Move, Refusal,
-    Step, Words, ARCHIVE_BYTES, LEAST_BYTES, MOVES_BYTES, NO_PLAN, PAGE_BYTES, PLAN_BYTES,
-    SHEET_BYTES,
+    carry_out, groups, join_sheets, plan_step, read_archive, read_moves, read_plan, read_sheet,
+    to_bytes, traffic_page, traffic_text, tree_in_force, weigh, write_archive, Cell, Kind, Move,
+    Refusal, Step, Words, ARCHIVE_BYTES, GROUPS_BYTES, LEAST_BYTES, MOVES_BYTES, NO_GROUP, NO_PLAN,
+    PAGE_BYTES, PLAN_BYTES, SHEET_BYTES,
 };
 use std::thread;
 
@@ -49,6 +49,13 @@ fn archive(n: u32, t: u32, counts: &[(&str, u32)]) -> Vec<u8> {
 fn busy_archive() -> Vec<u8> {
     archive(3, 100, &[("0", 34), ("1", 3), ("3", 23), ("20", 1200)])
 }
+
+/// Nodes 0 and 2 help node 1, which is the root, and nodes 3 and 4 help node 0.
+const TREE: [u32; 13] = [5, 2, 36, 1, 1, 1, 0, 0, 20, 0, 15, 12, 9];
+
+/// Its groups: in the even colour node 1's family, in the odd that of node 0.
+const GROUPS: [u32; 11] = [5, 1, 1, 1, 64, 64, 0, 64, 64, 0, 0];
+const TREE_GROUPS_BYTES: usize = 44;
 
 struct Buffers {
     plan: [u8; PLAN_BYTES],
@@ -462,6 +469,83 @@ fn an_archive_is_refused_as_one() {
     let written = write_archive(&sheet, &mut []).map(<[u8]>::to_vec);
     let said = written.expect_err("it is refused").to_string();
     assert_eq!(said, "refused 2: sheet: N is not 1 to 64");
+}
+
+#[test]
+fn each_family_with_a_helper_is_a_group() -> Result<(), Refusal> {
+    let (plan, expected) = (to_bytes(&TREE), to_bytes(&GROUPS));
+    let mut buffer = [0xa5; GROUPS_BYTES];
+    let of_tree = groups(&plan, &mut buffer)?;
+    assert_eq!(of_tree.record, expected);
+    assert_eq!(numbers(of_tree.even), [1, 1, 1, NO_GROUP, NO_GROUP]);
+    assert_eq!(numbers(of_tree.odd), [0, NO_GROUP, NO_GROUP, 0, 0]);
+    let behind = &buffer[TREE_GROUPS_BYTES..];
+    assert_eq!(behind, &[0xa5; GROUPS_BYTES][TREE_GROUPS_BYTES..]);
+    // A kept tree has the same groups, into a buffer of just this length.
+    let kept = to_bytes(&[&[5, 1], &TREE[2..]].concat());
+    let mut buffer = [0xa5; TREE_GROUPS_BYTES];
+    assert_eq!(groups(&kept, &mut buffer)?.record, expected);
+    Ok(())
+}
+
+#[test]
+fn a_plan_of_kind_0_has_no_group() -> Result<(), Refusal> {
+    let mut buffer = [0xa5; GROUPS_BYTES];
+    for n in [1, 3, 64] {
+        let roots: Vec<u32> = (0..n).collect();
+        let plan = to_bytes(&[&[n, 0, 36], &roots[..], &vec![0; n as usize]].concat());
+        let of_roots = groups(&plan, &mut buffer)?;
+        for entries in [of_roots.even, of_roots.odd] {
+            assert_eq!(numbers(entries), vec![NO_GROUP; n as usize]);
+        }
+    }
+    Ok(())
+}
+
+#[test]
+fn the_groups_of_a_chain_take_turns_in_colour() -> Result<(), Refusal> {
+    // Node k helps node k - 1, so that each node but the last owns a group.
+    let (_, plan) = long_chain();
+    let mut buffer = [0xa5; GROUPS_BYTES];
+    let of_chain = groups(&plan, &mut buffer)?;
+    assert_eq!(of_chain.record.len(), GROUPS_BYTES);
+    let even: Vec<u32> = (0..64).map(|node| node / 2 * 2).collect();
+    assert_eq!(numbers(of_chain.even), even);
+    let odd: Vec<u32> = (1..63).map(|node| (node - 1) / 2 * 2 + 1).collect();
+    let odd = [&[NO_GROUP][..], &odd, &[NO_GROUP]].concat();
+    assert_eq!(numbers(of_chain.odd), odd);
+    Ok(())
+}
+
+#[test]
+fn where_there_are_no_groups_the_buffer_is_untouched() {
+    // In the order of the checks; the buffer is a byte too short throughout.
+    let plans: [(&[u32], Refusal); 9] = [
+        (&[5, 2], Refusal::PlanShort),
+        (&[65, 2, 36], Refusal::PlanNodes),
+        (&[5, 3, 36], Refusal::PlanKind),
+        (&[5, 2, 1_999_000_001], Refusal::PlanLimit),
+        (&TREE[..12], Refusal::PlanLength),
+        (
+            &[5, 2, 36, 1, 1, 1, 0, 5, 20, 0, 15, 12, 9],
+            Refusal::PlanHelpand,
+        ),
+        // Nodes 3 and 4 help each other.
+        (
+            &[5, 2, 36, 1, 1, 1, 4, 3, 20, 0, 15, 12, 9],
+            Refusal::PlanShape,
+        ),
+        (
+            &[5, 2, 36, 1, 1, 1, 0, 0, 20, 0, 15, 12, 37],
+            Refusal::PlanShare,
+        ),
+        (&TREE, Refusal::GroupsBuffer),
+    ];
+    for (words, refusal) in plans {
+        let mut buffer = [0xa5; TREE_GROUPS_BYTES - 1];
+        assert_eq!(groups(&to_bytes(words), &mut buffer), Err(refusal));
+        assert_eq!(buffer, [0xa5; TREE_GROUPS_BYTES - 1]);
+    }
 }
 
 /// The stack that docs/USING.md asks for.

@@ -2,8 +2,8 @@
 
 use firrozka::ffi::PartAnswer;
 use firrozka::{
-    to_bytes, version, write_archive, Refusal, Words, ARCHIVE_BYTES, LEAST_BYTES, MOVES_BYTES,
-    PAGE_BYTES, PLAN_BYTES, SHEET_BYTES, VERSION,
+    groups, to_bytes, version, write_archive, Refusal, Words, ARCHIVE_BYTES, GROUPS_BYTES,
+    LEAST_BYTES, MOVES_BYTES, NO_GROUP, PAGE_BYTES, PLAN_BYTES, SHEET_BYTES, VERSION,
 };
 use std::collections::BTreeSet;
 use std::fs;
@@ -24,6 +24,13 @@ fn part(name: &str, opening: &str, end: &str) -> String {
     let text = file(name);
     let (_, rest) = text.split_once(opening).expect("the file has the part");
     one_line(rest.split_once(end).map_or(rest, |(part, _)| part))
+}
+
+/// The numbers of a line.
+fn numbers(line: &str) -> Vec<u32> {
+    let numbers = line.split_whitespace().map(str::parse);
+    let numbers: Result<_, _> = numbers.collect();
+    numbers.expect("all are numbers")
 }
 
 /// The text has a line for each of these refusals, and no other that has the mark.
@@ -56,8 +63,7 @@ fn the_formats_page_has_the_order_of_an_archive() {
     let text = file("docs/FORMATS.md");
     let (_, picture) = text.split_once(" 7   subdomain\n").expect("it is there");
     for (holder, line) in (0..8).zip(picture.lines()) {
-        let numbers = line.split_whitespace().map(str::parse);
-        let numbers: Vec<u32> = numbers.collect::<Result<_, _>>().expect("all are numbers");
+        let numbers = numbers(line);
         assert_eq!((numbers[0], numbers.len()), (holder, 9));
         for (subdomain, position) in (0..).zip(&numbers[1..]) {
             let sheet = to_bytes(&[8, 1, 1, holder * 64 + subdomain, 7]);
@@ -67,6 +73,18 @@ fn the_formats_page_has_the_order_of_an_archive() {
             assert_eq!(count, Some(7), "{holder} {subdomain}");
         }
     }
+}
+
+#[test]
+fn the_formats_page_has_the_groups_of_a_plan() {
+    let opening = "or 64 for none, `FIRROZKA_NO_GROUP`.\n\n`";
+    let text = part("docs/FORMATS.md", opening, "`, in which");
+    let pair = text.split_once("`: these are the groups of the plan `");
+    let (expected, plan) = pair.expect("it is there");
+    let mut buffer = [0; GROUPS_BYTES];
+    let of_plan = groups(&to_bytes(&numbers(plan)), &mut buffer);
+    let of_plan = of_plan.expect("the plan is accepted");
+    assert_eq!(of_plan.record, to_bytes(&numbers(expected)));
 }
 
 /// `SheetShort` as C writes it: `SHEET_SHORT`.
@@ -142,6 +160,7 @@ fn all_have_the_sizes_of_buffers() {
         ("least", LEAST_BYTES),
         ("page", PAGE_BYTES),
         ("archive", ARCHIVE_BYTES),
+        ("groups", GROUPS_BYTES),
     ];
     let c = part("include/firrozka.h", "enum {", "};");
     let fortran = part("bindings/fortran/firrozka.f90", "parameter", "interface");
@@ -190,12 +209,17 @@ fn all_have_the_version() {
 }
 
 #[test]
-fn all_have_the_sources_of_a_tree() {
-    let c = part("include/firrozka.h", "enum firrozka_source {", "};");
+fn all_have_the_sources_of_a_tree_and_the_entry_for_no_group() {
+    let c = part("include/firrozka.h", "enum firrozka_source", "_refusal {");
     let fortran = part("bindings/fortran/firrozka.f90", "parameter", "interface");
     let python = part("bindings/python/firrozka.py", "import", "class");
-    for (name, source) in [("OLD", PartAnswer::OLD), ("NEW", PartAnswer::NEW)] {
-        let upper = format!("{name}_PLAN = {source}");
+    let numbers = [
+        ("OLD_PLAN", PartAnswer::OLD),
+        ("NEW_PLAN", PartAnswer::NEW),
+        ("NO_GROUP", NO_GROUP),
+    ];
+    for (name, number) in numbers {
+        let upper = format!("{name} = {number}");
         assert!(c.contains(&format!("FIRROZKA_{upper}")), "{upper}");
         assert!(python.contains(&upper), "{upper}");
         let lower = format!("firrozka_{upper}").to_lowercase();
@@ -230,7 +254,7 @@ fn numbers_lead_to_refusals_and_back() {
     assert_eq!(named().len() + shared.len(), Refusal::ALL.len());
     let numbers: Vec<u32> = named().into_iter().map(Refusal::number).collect();
     assert!(numbers.windows(2).all(|pair| pair[0] < pair[1]));
-    assert_eq!(numbers.last(), Some(&56));
+    assert_eq!(numbers.last(), Some(&57));
     assert_eq!(Refusal::from_number(0), None);
     assert_eq!(Refusal::from_number(8), None);
     let text = Refusal::SheetLength.to_string();
