@@ -13,16 +13,17 @@ import struct
 from pathlib import Path
 from typing import NamedTuple
 
-# The version that this module was written for, 100 × major + minor: 1.5 is 105. version() is the library's own.
-VERSION = 105
+# The version that this module was written for, 100 × major + minor: 1.6 is 106. version() is the library's own.
+VERSION = 106
 
-# Buffers of so many bytes are long enough for every call. The last is the length of every archive.
+# Buffers of so many bytes are long enough for every call. ARCHIVE_BYTES is the length of every archive.
 SHEET_BYTES = 32780
 PLAN_BYTES = 524
 MOVES_BYTES = 32264
 LEAST_BYTES = 256
 PAGE_BYTES = 1625
 ARCHIVE_BYTES = 16392
+GROUPS_BYTES = 516
 
 # The kind of a plan, by its number.
 KINDS = ("primary", "kept", "rebuilt")
@@ -30,6 +31,9 @@ KINDS = ("primary", "kept", "rebuilt")
 # Which of two plans has the tree in force.
 OLD_PLAN = 1
 NEW_PLAN = 2
+
+# The entry of a node that is in no group of a colour.
+NO_GROUP = 64
 
 # Of what, and why.
 REFUSALS = {
@@ -68,6 +72,7 @@ REFUSALS = {
     54: ("archive", "the length is not 16,392 bytes"),
     55: ("archive", "a count is above 0 at a node not below N, or the sum is above 1,000,000,000"),
     56: ("write archive, read archive", "the buffer is too short"),
+    57: ("groups", "the buffer is under 4 × (1 + 2N) bytes"),
 }
 
 # The numbers of a sheet that read archive has, too.
@@ -148,6 +153,14 @@ class Step(NamedTuple):
     moves: bytes
 
 
+class Groups(NamedTuple):
+    """What groups gives: the record as bytes, and its entries. An entry is the number of the group's owner, or NO_GROUP."""
+
+    record: bytes
+    even: list
+    odd: list
+
+
 def to_bytes(words):
     """Words in bytes: 4 bytes each, unsigned, low byte first."""
     return struct.pack(f"<{len(words)}I", *words)
@@ -192,6 +205,7 @@ _FUNCTIONS = {
     "traffic_page": (3, _WRITTEN),
     "write_archive": (2, _WRITTEN),
     "read_archive": (2, _WRITTEN),
+    "groups": (2, _WRITTEN),
     "tree_in_force": (2, _answer("source", "start", "length")),
 }
 
@@ -316,6 +330,16 @@ def write_archive(sheet):
 def read_archive(archive):
     """Read archive: the sheet that was written to it, as bytes. A refusal raises ArchiveRefused, which is a Refused."""
     return _written("read_archive", SHEET_BYTES, _bytes("archive", archive))
+
+
+def groups(plan):
+    """Groups: each node's group in the even colour and in the odd, for a message library.
+
+    Each family with a helper is a group. It is named by its owner, and even or odd as its owner's distance from the root is.
+    """
+    record = _written("groups", GROUPS_BYTES, _bytes("plan", plan))
+    n, *entries = to_words(record)
+    return Groups(record, entries[:n], entries[n:])
 
 
 def tree_in_force(old_plan, new_plan):

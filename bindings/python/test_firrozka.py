@@ -1,4 +1,5 @@
-"""The module over the library: document 01's steps, refusals and parts, and document 02's joined sheets, traffic pages and archives."""
+"""The module over the library: document 01's steps, refusals and parts, and document 02's joined sheets, traffic pages, archives and
+groups."""
 
 import array
 import copy
@@ -42,6 +43,10 @@ def archive(n, t, counts):
 
 # Of the busy sheet holder and subdomain are 0 0, 0 1, 1 1 and 2 0.
 ARCHIVE = archive(3, 100, {"0": 34, "1": 3, "3": 23, "20": 1200})
+
+# Nodes 0 and 2 help node 1, which is the root, and nodes 3 and 4 help node 0. Even is node 1's family, odd that of node 0.
+TREE = firrozka.to_bytes([5, 2, 36, 1, 1, 1, 0, 0, 20, 0, 15, 12, 9])
+GROUPS = firrozka.to_bytes([5, 1, 1, 1, 64, 64, 0, 64, 64, 0, 0])
 
 # Steps H and I: the old plan by its helpands, and the sheets.
 CHAIN = firrozka.to_bytes([3, 2, 36, 0, 0, 1, 0, 0, 0])
@@ -199,6 +204,47 @@ class Operations(unittest.TestCase):
             firrozka.write_archive(firrozka.to_bytes([65, 100, 0]))
         self.assertEqual(str(caught.exception), "refused 2: sheet: N is not 1 to 64")
 
+    def test_groups(self):
+        none = firrozka.NO_GROUP
+        self.assertEqual(firrozka.groups(TREE), (GROUPS, [1, 1, 1, none, none], [0, none, none, 0, 0]))
+        # The bytes behind what is written stay as they were.
+        buffer = ctypes.create_string_buffer(b"\xa5" * 50, 50)
+        self.assertEqual(firrozka._call("groups", TREE, buffer).bytes, 44)
+        self.assertEqual(buffer.raw, GROUPS + b"\xa5" * 6)
+        # Step D, in which nodes 1 and 2 help node 0.
+        self.assertEqual(firrozka.groups(PLAN)[1:], ([0, 0, 0], [none] * 3))
+
+    def test_no_group_in_kind_0(self):
+        for n in (1, 3, 64):
+            plan = firrozka.to_bytes([n, 0, 36, *range(n), *[0] * n])
+            self.assertEqual(firrozka.groups(plan)[1:], ([64] * n, [64] * n))
+
+    def test_the_groups_of_the_longest_chain(self):
+        # Node k helps node k - 1, so that each node but the last owns a group.
+        plan = firrozka.to_bytes([64, 2, 36, 0, *range(63), *[0] * 64])
+        record, even, odd = firrozka.groups(plan)
+        self.assertEqual(len(record), firrozka.GROUPS_BYTES)
+        self.assertEqual(even, [owner for owner in range(0, 64, 2) for _ in range(2)])
+        self.assertEqual(odd, [64] + [owner for owner in range(1, 63, 2) for _ in range(2)] + [64])
+
+    def test_no_groups(self):
+        # In the order of the checks; the buffer is a byte too short throughout.
+        cases = (
+            (11, TREE[:11]),
+            (12, firrozka.to_bytes([65, 2, 36])),
+            (13, firrozka.to_bytes([5, 3, 36])),
+            (14, firrozka.to_bytes([5, 2, 1_999_000_001])),
+            (15, TREE[:-1]),
+            (16, firrozka.to_bytes([5, 2, 36, 1, 1, 1, 0, 5, 20, 0, 15, 12, 9])),
+            # Nodes 3 and 4 help each other.
+            (17, firrozka.to_bytes([5, 2, 36, 1, 1, 1, 4, 3, 20, 0, 15, 12, 9])),
+            (18, firrozka.to_bytes([5, 2, 36, 1, 1, 1, 0, 0, 20, 0, 15, 12, 37])),
+            (57, TREE),
+        )
+        for number, plan in cases:
+            self.assert_unwritten(number, "groups", plan, length=len(GROUPS) - 1)
+        self.assertEqual(str(firrozka.Refused(57)), "refused 57: groups: the buffer is under 4 × (1 + 2N) bytes")
+
     def test_weigh(self):
         self.assertEqual(firrozka.weigh(SHEET_H, CHAIN), (True, [28, 36, 0]))
         self.assertEqual(firrozka.weigh(SHEET_I, CHAIN), (False, [27, 37, 0]))
@@ -281,6 +327,7 @@ class Arguments(unittest.TestCase):
             self.assertEqual(firrozka.traffic_page(form(BUSY), form(TRAFFIC)), PAGE)
             self.assertEqual(firrozka.write_archive(form(BUSY)), ARCHIVE)
             self.assertEqual(firrozka.read_archive(form(ARCHIVE)), BUSY)
+            self.assertEqual(firrozka.groups(form(TREE)).record, GROUPS)
             self.assertEqual(firrozka.tree_in_force(form(CHAIN), form(kept)), [0, 0, 1])
 
     def test_no_old_plan_is_none_or_empty(self):
@@ -307,6 +354,7 @@ class Arguments(unittest.TestCase):
         self.assert_named("moves", "str", firrozka.traffic_page, BUSY, PAGE)
         self.assert_named("sheet", "Sheet", firrozka.write_archive, firrozka.read_sheet(BUSY))
         self.assert_named("archive", "NoneType", firrozka.read_archive, None)
+        self.assert_named("plan", "Plan", firrozka.groups, firrozka.read_plan(TREE))
         self.assert_named("old_plan", "NoneType", firrozka.tree_in_force, None, PLAN)
         self.assert_named("new_plan", "NoneType", firrozka.tree_in_force, PLAN, None)
 
