@@ -1,7 +1,7 @@
 //! The tool `firrozka`: steps planned, weighed and carried out from files, sheets
-//! joined and archived, traffic pages printed, and text to records and back. It is
-//! tested, not proved; what is decided, and what a record may be, is asked of the
-//! proved library.
+//! joined and archived, traffic pages and groups printed, and text to records and
+//! back. It is tested, not proved; what is decided, and what a record may be, is
+//! asked of the proved library.
 //!
 //! | module | what it holds |
 //! |---|---|
@@ -10,6 +10,7 @@
 //! | `tolerance` | the tolerance in percent, both ways |
 //! | `record` | the three records, and why some bytes are none |
 //! | `archive` | sheets to archives and back |
+//! | `groups` | the groups of a plan as lines |
 //! | `table` | tables to the words of records |
 //! | `show` | records as tables |
 //! | `step` | a step planned, weighed and carried out, its traffic, and sheets joined before it |
@@ -22,6 +23,7 @@
 pub mod archive;
 pub mod arguments;
 pub mod files;
+pub mod groups;
 pub mod record;
 pub mod show;
 pub mod step;

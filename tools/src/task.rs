@@ -7,7 +7,7 @@ use crate::record::{reading, Record};
 use crate::step::{self, Source};
 use crate::table::Sizes;
 use crate::text::{self, Piece};
-use crate::{archive, show, table, words};
+use crate::{archive, groups, show, table, words};
 use firrozka::{to_bytes, Words, SHEET_BYTES};
 
 /// What is asked for.
@@ -27,6 +27,8 @@ pub enum Task {
     Archive,
     /// An archive to its sheet.
     Restore,
+    /// The groups of a plan.
+    Groups,
     /// A table of counts to a sheet.
     Table(Sizes),
     /// Text to a record that the library accepts, or words to any bytes.
@@ -75,6 +77,7 @@ impl Task {
             | Task::Traffic
             | Task::Archive
             | Task::Restore
+            | Task::Groups
             | Task::Show(_)
             | Task::ShowArchive => SHEET_BYTES as u64 + 1,
             Task::Table(_) | Task::Write(_) | Task::Words => u64::MAX,
@@ -95,6 +98,7 @@ impl Task {
             }
             Task::Archive => archive::archived(input),
             Task::Restore => archive::restored(input),
+            Task::Groups => groups::listed(input).map(String::into_bytes),
             Task::Show(record) => show::show(record, input).map(String::into_bytes),
             Task::ShowArchive => show::show_archive(input).map(String::into_bytes),
             _ => to_text(input).map(String::into_bytes),

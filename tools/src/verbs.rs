@@ -28,7 +28,7 @@ pub struct Verb {
 pub const FLAGS: [&str; 1] = ["--empty"];
 
 /// All verbs.
-pub static VERBS: [Verb; 11] = [
+pub static VERBS: [Verb; 12] = [
     Verb {
         name: "plan",
         form: "SHEET [OLD_PLAN] [-o PLAN] [-m MOVES]",
@@ -119,6 +119,22 @@ The sheet is the one that was written to the archive, byte for byte.
         options: &["-o"],
         files: &["ARCHIVE"],
         task: |given| saved(Task::Restore, given, "SHEET"),
+    },
+    Verb {
+        name: "groups",
+        form: "PLAN",
+        does: "prints the groups of a plan, for the message library",
+        more: "\
+An owner and its helpers are a group, if it has a helper. Under the number of nodes
+stands a line for each group: its colour, its owner, and its members by rising
+number, the owner among them. The colour is even or odd as the owner's distance
+from the root is; no node is in two groups of one colour. Even groups come first,
+and in each colour they stand by rising owner. In a plan of kind 0 no node helps,
+and there is no group.
+",
+        options: &[],
+        files: &["PLAN"],
+        task: |_| Ok(Task::Groups),
     },
     Verb {
         name: "table",
