@@ -1,11 +1,12 @@
-/* Plans step D and prints it as the bench program does, and then its traffic page; writes its sheet to an archive and reads it back. */
+/* Plans step D and prints it as the bench program does, and then its traffic page; writes its sheet to an archive and reads it back; prints
+ * its plan's groups. */
 #include <inttypes.h>
 #include <stdio.h>
 #include <string.h>
 #include "firrozka.h"
 
 static uint8_t plan[FIRROZKA_PLAN_BYTES], moves[FIRROZKA_MOVES_BYTES], page[FIRROZKA_PAGE_BYTES];
-static uint8_t archive[FIRROZKA_ARCHIVE_BYTES], restored[FIRROZKA_SHEET_BYTES];
+static uint8_t archive[FIRROZKA_ARCHIVE_BYTES], restored[FIRROZKA_SHEET_BYTES], groups[FIRROZKA_GROUPS_BYTES];
 
 /* The word at a place: 4 bytes, low byte first. */
 static uint32_t word(const uint8_t *record, size_t place)
@@ -61,6 +62,26 @@ static int print_archive(const uint8_t *sheet, size_t sheet_len)
     return 0;
 }
 
+/* Prints the N entries of a colour, which begin at a place. */
+static void print_entries(const char *colour, size_t first)
+{
+    printf(" %s", colour);
+    for (uint32_t k = 0; k < word(groups, 0); k++)
+        printf(" %" PRIu32, word(groups, first + k));
+}
+
+static int print_groups(size_t plan_len)
+{
+    struct firrozka_written written = firrozka_groups(plan, plan_len, groups, sizeof groups);
+    if (written.refusal)
+        return refused(written.refusal);
+    printf("groups");
+    print_entries("even", 1);
+    print_entries("odd", 1 + word(groups, 0));
+    printf("\n");
+    return 0;
+}
+
 int main(void)
 {
     /* The words 3 100 3 0 65 130 90 6 4: 3 nodes, a tolerance of 100 tenths of a percent, 3 cells. */
@@ -77,5 +98,5 @@ int main(void)
         return refused(written.refusal);
     /* No null byte ends the page. */
     fwrite(page, 1, written.bytes, stdout);
-    return print_archive(sheet, sizeof sheet);
+    return print_archive(sheet, sizeof sheet) || print_groups(step.plan_bytes);
 }

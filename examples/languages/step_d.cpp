@@ -1,4 +1,5 @@
-// Plans step D and prints it as the bench program does, and then its traffic page; writes its sheet to an archive and reads it back.
+// Plans step D and prints it as the bench program does, and then its traffic page; writes its sheet to an archive and reads it back; prints
+// its plan's groups.
 #include <array>
 #include <cstdint>
 #include <initializer_list>
@@ -52,7 +53,7 @@ Page traffic_page(const Bytes &sheet, const Bytes &moves) {
     return {answer, std::string(page.begin(), page.begin() + answer.bytes)};
 }
 
-// What write archive or read archive answers and writes.
+// What write archive, read archive or groups answers and writes.
 struct Converted {
     firrozka_written answer;
     Bytes bytes;
@@ -79,6 +80,12 @@ std::array<std::uint32_t, 64> own_amounts(const std::vector<std::uint32_t> &shee
 int refused(std::uint32_t refusal) {
     std::cout << "refused " << refusal << '\n';
     return 1;
+}
+
+// The N entries of a colour, which begin at a place.
+void print_entries(const char *colour, const std::vector<std::uint32_t> &groups, std::size_t first) {
+    std::cout << ' ' << colour;
+    for (std::uint32_t k = 0; k < groups[0]; ++k) std::cout << ' ' << groups[first + k];
 }
 
 int main() {
@@ -108,4 +115,12 @@ int main() {
     if (restored.answer.refusal != FIRROZKA_ACCEPTED) return refused(restored.answer.refusal);
     std::cout << "archive " << archive.bytes.size() << " bytes, read back "
               << (restored.bytes == sheet ? "the same" : "another") << '\n';
+
+    const Converted written = converted(firrozka_groups, step.plan, FIRROZKA_GROUPS_BYTES);
+    if (written.answer.refusal != FIRROZKA_ACCEPTED) return refused(written.answer.refusal);
+    const auto groups = to_words(written.bytes);
+    std::cout << "groups";
+    print_entries("even", groups, 1);
+    print_entries("odd", groups, 1 + groups[0]);
+    std::cout << '\n';
 }

@@ -1,4 +1,5 @@
-! Plans step D and prints it as the bench program does, and then its traffic page; writes its sheet to an archive and reads it back.
+! Plans step D and prints it as the bench program does, and then its traffic page; writes its sheet to an archive and reads it
+! back; prints its plan's groups.
 program step_d
     use, intrinsic :: iso_c_binding, only: c_int8_t, c_int32_t, c_size_t
     use firrozka
@@ -7,7 +8,7 @@ program step_d
     ! 3 nodes, a tolerance of 100 tenths of a percent, 3 cells.
     integer, parameter :: words(9) = [3, 100, 3, 0, 65, 130, 90, 6, 4]
     integer(c_int8_t) :: sheet(4 * size(words)), no_plan(1), plan(firrozka_plan_bytes), moves(firrozka_moves_bytes)
-    integer(c_int8_t) :: archive(firrozka_archive_bytes), restored(firrozka_sheet_bytes)
+    integer(c_int8_t) :: archive(firrozka_archive_bytes), restored(firrozka_sheet_bytes), groups(firrozka_groups_bytes)
     character(len=firrozka_page_bytes) :: page
     type(firrozka_step) :: step
     type(firrozka_written) :: written, read_back
@@ -41,6 +42,12 @@ program step_d
     read_back = firrozka_read_archive(archive, int(written%bytes, c_size_t), restored, size(restored, kind=c_size_t))
     call accept(read_back%refusal)
     print '("archive ", i0, " bytes, read back ", a)', written%bytes, trim(merge('the same', 'another ', same(read_back%bytes)))
+
+    written = firrozka_groups(plan, int(step%plan_bytes, c_size_t), groups, size(groups, kind=c_size_t))
+    call accept(written%refusal)
+    ! The colon keeps a blank from following the last entry.
+    write (*, '("groups even", *(:, 1x, i0))', advance='no') (word_at(groups, k), k = 1, n)
+    print '(" odd", *(:, 1x, i0))', (word_at(groups, k), k = n + 1, 2 * n)
 
 contains
 

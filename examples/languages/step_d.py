@@ -1,4 +1,5 @@
-"""Plans step D and prints it as the bench program does, and then its traffic page; writes its sheet to an archive and reads it back."""
+"""Plans step D and prints it as the bench program does, and then its traffic page; writes its sheet to an archive and reads it back; prints
+its plan's groups."""
 
 import firrozka
 
@@ -24,3 +25,6 @@ print(firrozka.traffic_page(sheet, step.moves), end="")
 archive = firrozka.write_archive(sheet)
 same = firrozka.read_archive(archive) == sheet
 print(f"archive {len(archive)} bytes, read back {'the same' if same else 'another'}")
+
+groups = firrozka.groups(step.plan)
+print("groups even", *groups.even, "odd", *groups.odd)

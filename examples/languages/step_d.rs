@@ -1,10 +1,10 @@
 //! Plans step D and prints it as the bench program does, and then its traffic page;
-//! writes its sheet to an archive and reads it back.
+//! writes its sheet to an archive and reads it back; prints its plan's groups.
 
 use firrozka::{
-    plan_step, read_archive, read_moves, read_plan, read_sheet, to_bytes, traffic_page,
-    write_archive, Refusal, ARCHIVE_BYTES, MOVES_BYTES, NO_PLAN, PAGE_BYTES, PLAN_BYTES,
-    SHEET_BYTES,
+    groups, plan_step, read_archive, read_moves, read_plan, read_sheet, to_bytes, traffic_page,
+    write_archive, Refusal, Words, ARCHIVE_BYTES, GROUPS_BYTES, MOVES_BYTES, NO_PLAN, PAGE_BYTES,
+    PLAN_BYTES, SHEET_BYTES,
 };
 
 /// Each node's amount of its own subdomain: Pn less the shares of its helpers.
@@ -18,6 +18,11 @@ fn own(sheet: &[u8], plan: &[u8]) -> Result<Vec<u32>, Refusal> {
         own[node.helpand as usize] -= node.share;
     }
     Ok(own)
+}
+
+fn with_blanks(words: Words) -> String {
+    let words: Vec<String> = words.iter().map(|word| word.to_string()).collect();
+    words.join(" ")
 }
 
 fn main() -> Result<(), Refusal> {
@@ -43,5 +48,10 @@ fn main() -> Result<(), Refusal> {
     let same = read_archive(archive, &mut restored)? == sheet;
     let read = if same { "the same" } else { "another" };
     println!("archive {} bytes, read back {read}", archive.len());
+
+    let mut buffer = [0; GROUPS_BYTES];
+    let groups = groups(step.plan, &mut buffer)?;
+    let [even, odd] = [groups.even, groups.odd].map(with_blanks);
+    println!("groups even {even} odd {odd}");
     Ok(())
 }
