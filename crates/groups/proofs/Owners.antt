@@ -6,16 +6,16 @@ use mathlib.Core.List.{List}
 use Prim.Native.Nat.{ℕ, _+_, _≤_, _<_}
 use native.Mathlib.Decide.{ℕ-discrete}
 use native.Mathlib.Omega.{arith}
-use borrow.Author.Tests.{ltb-true, lt-ltb}
+use borrow.Author.Tests.{lt-ltb}
 use lib.Dec.{ltb}
 use lib.ListN.{length, set, replicate, getD-replicate}
 use lib.Seq.{getD-set-same, getD-set-other}
 use Rattle.fold.specs.Sum.{only}
-use Rattle.fold.proofs.Tests.{either, only-is, only-not}
-use Rattle.fold.proofs.Sums.{sum-zero, sum-zeros, sum-term, sum-lt, sum-more}
+use Rattle.fold.proofs.Tests.{only-is, only-not}
+use Rattle.fold.proofs.Sums.{sum-zeros, sum-term, sum-more}
 use Rattle.arrays.specs.Arrays.{at}
 use Rattle.tree.specs.Family.{helps, overHelpers}
-use Rattle.tree.proofs.Families.{helps-yes, helps-self, helps-other, helpers-none, helpers-more}
+use Rattle.tree.proofs.Families.{helps-yes, helps-self, helps-other, helpers-none}
 use Rattle.groups.specs.Group.{hasHelper, none}
 use Rattle.groups.specs.Inner.{ownGroup}
 

@@ -1,5 +1,5 @@
 -- N and the two rows of entries, each stored as a run of words, are the record. Assumes nothing.
-use mathlib.Core.Path.{_≡_, refl, ap, _∙_}
+use mathlib.Core.Path.{_≡_, refl, _∙_}
 use mathlib.Core.List.{List, [], _∷_, _++_}
 use Prim.Native.Nat.{ℕ, _+_, _*_, _≤_}
 use native.Mathlib.Omega.{arith}
@@ -7,7 +7,7 @@ use lib.ListN.{length, take, length-append}
 use lib.Seq.{sets}
 use Rattle.arrays.specs.Arrays.{tabulate}
 use Rattle.arrays.proofs.Tabulate.{length-row, take-tabulate}
-use Rattle.words.specs.Words.{bytesOf, encode, putWord}
+use Rattle.words.specs.Words.{encode, putWord}
 use Rattle.words.specs.Buffer.{placed}
 use Rattle.words.proofs.Words.{length-encode}
 use Rattle.words.proofs.Buffer.{put-sets, record-placed}

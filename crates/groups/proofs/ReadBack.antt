@@ -2,14 +2,14 @@
 use mathlib.Core.Path.{_≡_, refl, sym, ap, _∙_}
 use mathlib.Core.Logic.{_⊎_, inl, inr}
 use mathlib.Core.List.{List, [], _∷_, _++_}
-use Prim.Native.Nat.{ℕ, _+_, _*_, _≤_, _<_, _^_}
+use Prim.Native.Nat.{ℕ, _+_, _*_, _<_, _^_}
 use native.Mathlib.Omega.{arith}
 use borrow.Author.Tests.{eq-eqb}
 use lib.ListN.{length, getD, drop}
 use Rattle.fold.proofs.Tests.{handed}
 use Rattle.arrays.specs.Arrays.{at}
 use Rattle.arrays.proofs.Tabulate.{row-at}
-use Rattle.words.specs.Words.{words, encode}
+use Rattle.words.specs.Words.{words}
 use Rattle.words.specs.declared.WrittenAnswer.{WrittenAnswer}
 use Rattle.words.specs.Answer.{refused}
 use Rattle.words.proofs.Words.{Below, below-none, below-cons, word-front, part-at}
@@ -18,7 +18,7 @@ use Rattle.plan.specs.Plan.{readPlan, helpandsOf}
 use Rattle.groups.specs.declared.colour.Colour.{Colour}
 use Rattle.groups.specs.declared.colour.Colour.the-variants.{Even, Odd}
 use Rattle.groups.specs.Group.{none, groupIn}
-use Rattle.groups.specs.Groups.{groupsIn, groupsBytes, groupsSize, groupsOf, groupsAnswer, groupsAfter, entryIn, GroupsReadBack, MessageGroups}
+use Rattle.groups.specs.Groups.{groupsIn, groupsBytes, groupsOf, groupsAnswer, groupsAfter, entryIn, GroupsReadBack, MessageGroups}
 use Rattle.groups.specs.Inner.{Rooted}
 use Rattle.groups.proofs.Planned.{plan-rooted, kind-none}
 use Rattle.groups.proofs.Placing.{length-in, length-groups}

@@ -1,13 +1,12 @@
 -- What the entries say: a node's entry is the owner of the one group that it is in, so that two different nodes share one exactly when
 -- they belong to one family. Assumes nothing.
 use mathlib.Core.Path.{_≡_, refl, sym, ap, _∙_}
-use mathlib.Core.Logic.{_≢_, _⊎_, inl, inr, _↔_}
+use mathlib.Core.Logic.{_≢_, _⊎_, inl, inr}
 use mathlib.Core.Bool.{Bool, true, false, _||_, or-true}
 use Prim.Native.Nat.{ℕ, _<_}
 use native.Mathlib.Decide.{ℕ-discrete}
 use native.Mathlib.Omega.{arith}
 use borrow.Author.Tests.{eq-eqb, ne-eqb}
-use lib.Dec.{eqb}
 use Rattle.fold.proofs.Tests.{either, and-left, and-right, and-both}
 use Rattle.tree.specs.Family.{helps}
 use Rattle.tree.proofs.Families.{helps-of, helper-below, helps-helpand}
@@ -77,14 +76,6 @@ module _ {n : ℕ} {h : ℕ → ℕ} (t : Rooted n h) (c : Colour) where
             let colour = and-right (hasHelper n h m) (coloured c (distance n h m)) group in
             let other = group-not t c k (helper-other t c k l (helper-below h m k y) (rw q colour)) in
             rw (other, q, group)
-
-    -- every member of a family, and its owner, is a node
-    owner-node : (m : ℕ) → belongs h m k ≡ true → m < n
-    owner-node m e = by (member h m k e)
-      where
-        by : (k ≡ m) ⊎ (helps h m k ≡ true) → m < n
-        by (inl q) = rw (← q) l
-        by (inr y) = rw (← helps-of h m k y) (t .inside k l)
 
     alone : (i m : ℕ) → inGroup n h c i k ≡ true → inGroup n h c m k ≡ true → i ≡ m
     alone i m e f = sym (named i e) ∙ named m f

@@ -10,7 +10,7 @@ use Rattle.words.specs.Answer.{accepted, refused}
 use Rattle.plan.specs.Tree.{reaches}
 use Rattle.plan.specs.Plan.{arraysAnswer, headAnswer, readPlan}
 use Rattle.groups.specs.Colour.{distanceWithin}
-use Rattle.groups.specs.Groups.{groupsBytes, groupsOf, groupsAnswer, groupsAfter}
+use Rattle.groups.specs.Groups.{groupsBytes, groupsOf, groupsAnswer}
 
 -- nodes 0 and 2 help 1, the root, and 3 and 4 help 0
 abbrev plan : List ℕ

@@ -1,12 +1,10 @@
 // Each node's group in one colour, from the distances and the families with a helper.
 ghost use mathlib.Core.Path.{_≡_};
-ghost use Prim.Native.Nat.{_≤_, _<_};
-ghost use lib.ListN.{length};
-ghost use Rattle.limit.specs.Limit.{maxNodes};
+ghost use Prim.Native.Nat.{_<_};
 ghost use Rattle.arrays.specs.Arrays.{at, tabulate};
 ghost use Rattle.groups.specs.Colour.{coloured};
 ghost use Rattle.groups.specs.Group.{groupIn};
-ghost use Rattle.groups.specs.Inner.{Rooted, Distances, OwnGroups, Groupable};
+ghost use Rattle.groups.specs.Inner.{Rooted, OwnGroups, Groupable};
 
 // The colours, in the order in which they are written.
 pub enum Colour {

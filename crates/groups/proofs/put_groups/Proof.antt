@@ -1,17 +1,14 @@
 -- `groups::put_groups` meets its contract: N and the two rows of entries are one record. Assumes nothing.
 use borrow.Author.Needs.{needs}
-use mathlib.Core.Path.{_≡_, ap, _∙_}
+use mathlib.Core.Path.{ap, _∙_}
 use mathlib.Core.List.{List}
-use Prim.Native.Nat.{ℕ, _+_, _*_, _≤_}
+use Prim.Native.Nat.{ℕ, _+_, _*_}
 use native.Mathlib.Omega.{arith}
-use lib.ListN.{length, take}
+use lib.ListN.{take}
 use lib.Seq.{sets}
 use denote.Ref.{now}
-use Rattle.arrays.specs.Arrays.{at, tabulate}
-use Rattle.arrays.proofs.Tabulate.{tabulate-long}
+use Rattle.arrays.specs.Arrays.{at}
 use Rattle.words.specs.Words.{encode}
-use Rattle.groups.specs.declared.colour.Colour.the-variants.{Even, Odd}
-use Rattle.groups.specs.Group.{groupIn}
 use Rattle.groups.specs.Inner.{Rooted, Groupable}
 use Rattle.groups.proofs.Placing.{groups-placed}
 use Rattle.groups.proofs.put_groups.Statement.{statement}
@@ -47,22 +44,15 @@ of-head c = c .before .before
 abbrev of-even : tie.After-put-words → tie.After-put-word
 of-even c = c .before .before .before .before .before
 
--- a row has an entry for each node
-long : (n : ℕ) (f : ℕ → ℕ) (row : List ℕ) → row ≡ tabulate n f → n ≤ length row
-long n f row e = rw e (tabulate-long n f)
-
 put-words-requires : tie.Need-put-words-requires
 put-words-requires c κs =
-    let r = of-second (of-head (c .before .before .before .before)) in
-    let a = of-row r .args in
-    (omega (arith, of-row r .pre .1), long (a .n) (groupIn (a .n) (at (a .t3)) Even) (r .groups-in .result) (r .groups-in .ensures))
+    let s = of-row (of-second (of-head (c .before .before .before .before))) in
+    (omega (arith, s .pre .1), search needs)
 
 put-words-requires-2 : tie.Need-put-words-requires-2
 put-words-requires-2 c κs =
-    let r = of-head (of-even (c .before .before .before .before)) in
-    let s = of-row (of-second r) in
-    let a = s .args in
-    (omega (arith, s .pre .1), long (a .n) (groupIn (a .n) (at (a .t3)) Odd) (r .groups-in2 .result) (r .groups-in2 .ensures))
+    let s = of-row (of-second (of-head (of-even (c .before .before .before .before)))) in
+    (omega (arith, s .pre .1), search needs)
 
 returns : tie.Need-returns
 returns c =

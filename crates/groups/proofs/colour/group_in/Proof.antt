@@ -2,12 +2,11 @@
 use borrow.Author.Needs.{needs}
 use mathlib.Core.Path.{_≡_, sym, ap, _∙_}
 use mathlib.Core.Bool.{Bool, true, false}
-use Prim.Native.Nat.{_<_}
+use Prim.Native.Nat.{ℕ, _<_}
 use native.Mathlib.Omega.{arith}
 use denote.Ref.{now}
 use Rattle.arrays.specs.Arrays.{at}
 use Rattle.groups.specs.Colour.{distance, coloured}
-use Rattle.groups.specs.Inner.{Groupable}
 use Rattle.groups.proofs.Looking.{looked-own, looked-helpand, looked-none}
 use Rattle.groups.proofs.colour.group_in.Statement.{statement}
 use Rattle.groups.proofs.colour.group_in.Tie as tie
@@ -25,13 +24,30 @@ begun c = c .before .before .before
 abbrev start : tie.After-coloured → tie.Start
 start c = begun (c .before .before)
 
--- what was found of a colour, as of the distance
-module _ (c : tie.After-coloured) where
-  abbrev p : Groupable (start c .args .nodes) (at (now (start c .args .helpands))) (now (start c .args .distances)) (now (start c .args .own))
-  p = start c .pre .0
+-- the colour of the family of a node, and what was found of it
+abbrev Coloured : (s : tie.Start) → ℕ → Bool → Type 0
+Coloured s n b = coloured (s .args .colour) (distance (s .args .nodes) (at (now (s .args .helpands))) n) ≡ b
 
-  own-colour : (b : Bool) → c .coloured .result ≡ b → coloured (start c .args .colour) (distance (start c .args .nodes) (at (now (start c .args .helpands))) (start c .args .k)) ≡ b
-  own-colour b e = sym (c .coloured .ensures ∙ ap (coloured (start c .args .colour)) (p .each-distance (start c .args .k) (start c .pre .1))) ∙ e
+found : (s : tie.Start) (n : ℕ) → n < s .args .nodes → (r b : Bool)
+    → r ≡ coloured (s .args .colour) (at (now (s .args .distances)) n) → r ≡ b → Coloured s n b
+found s n l r b e q = sym (e ∙ ap (coloured (s .args .colour)) (s .pre .0 .each-distance n l)) ∙ q
+
+own-colour : (c : tie.After-coloured) (b : Bool) → c .coloured .result ≡ b → Coloured (start c) (start c .args .k) b
+own-colour c b = found (start c) (start c .args .k) (start c .pre .1) (c .coloured .result) b (c .coloured .ensures)
+
+abbrev own-other : tie.After-coloured2 → tie.Else1
+own-other c = c .before .before
+
+-- its helpand is a node
+inside : (s : tie.Start) → at (now (s .args .helpands)) (s .args .k) < s .args .nodes
+inside s = s .pre .0 .rooted .inside (s .args .k) (s .pre .1)
+
+helpand-colour : (c : tie.After-coloured2) (b : Bool) → c .coloured2 .result ≡ b →
+    let s = start (own-other c .before) in
+    Coloured s (at (now (s .args .helpands)) (s .args .k)) b
+helpand-colour c b =
+    let s = start (own-other c .before) in
+    found s (at (now (s .args .helpands)) (s .args .k)) (inside s) (c .coloured2 .result) b (c .coloured2 .ensures)
 
 returns : tie.Need-returns
 returns c =
@@ -40,29 +56,18 @@ returns c =
     p .each-own (s .args .k) (s .pre .1)
     ∙ sym (looked-own (p .rooted) (s .args .colour) (s .args .k) (s .pre .1) (own-colour (c .before) true (c .if1 .taken)))
 
-helpand-colour : (c : tie.After-coloured2) (b : Bool) → c .coloured2 .result ≡ b →
-    let s = start (c .before .before .before) in
-    let h = at (now (s .args .helpands)) in
-    coloured (s .args .colour) (distance (s .args .nodes) h (h (s .args .k))) ≡ b
-helpand-colour c b e =
-    let s = start (c .before .before .before) in
-    let p = s .pre .0 in
-    let h = at (now (s .args .helpands)) in
-    let inside = p .rooted .inside (s .args .k) (s .pre .1) in
-    sym (c .coloured2 .ensures ∙ ap (coloured (s .args .colour)) (p .each-distance (h (s .args .k)) inside)) ∙ e
-
 returns-2 : tie.Need-returns-2
 returns-2 c =
-    let f = c .before .before .before in
+    let f = own-other (c .before) in
     let s = start (f .before) in
     let p = s .pre .0 in
-    p .each-own (at (now (s .args .helpands)) (s .args .k)) (p .rooted .inside (s .args .k) (s .pre .1))
+    p .each-own (at (now (s .args .helpands)) (s .args .k)) (inside s)
     ∙ sym (looked-helpand (p .rooted) (s .args .colour) (s .args .k) (s .pre .1) (own-colour (f .before) false (f .if1 .left))
     (helpand-colour (c .before) true (c .if2 .taken)))
 
 returns-3 : tie.Need-returns-3
 returns-3 c =
-    let f = c .before .before .before in
+    let f = own-other (c .before) in
     let s = start (f .before) in
     let p = s .pre .0 in
     sym (looked-none (p .rooted) (s .args .colour) (s .args .k) (s .pre .1) (own-colour (f .before) false (f .if1 .left))

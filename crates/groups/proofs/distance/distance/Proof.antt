@@ -1,5 +1,4 @@
 -- `groups::distance::distance` meets its contract: what is left of the distance is that of the node reached. Assumes nothing.
-use borrow.Author.Needs.{needs}
 use mathlib.Core.Path.{_≡_}
 use Prim.Native.Nat.{_+_, _≤_, _<_}
 use native.Mathlib.Omega.{arith}

@@ -1,5 +1,4 @@
 -- `groups::distance::note_chain` meets its contract: the nodes passed are noted. Assumes nothing.
-use borrow.Author.Needs.{needs}
 use mathlib.Core.Path.{_≡_}
 use Prim.Native.Nat.{_+_, _<_}
 use native.Mathlib.Omega.{arith}
