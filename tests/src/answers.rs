@@ -37,7 +37,7 @@ pub fn planned([kind, limit, plan_bytes, moves_bytes]: [u32; 4]) -> StepAnswer {
 }
 
 /// *Carry out* "gives its length in bytes", and so do *join sheets*, *traffic page*,
-/// *write archive* and *read archive*.
+/// *write archive*, *read archive* and *groups*.
 pub fn written(bytes: u32) -> WrittenAnswer {
     WrittenAnswer { refusal: 0, bytes }
 }

@@ -27,6 +27,9 @@ pub const PAGE_BYTES: usize = 25 * (MOST_NODES + 1);
 /// A sheet in Z order: N, t and a count for each cell that there can be.
 pub const Z_ORDER_BYTES: usize = 4 * (2 + MOST_NODES * MOST_NODES);
 
+/// The longest groups: 4 × (1+2N).
+pub const GROUPS_BYTES: usize = 4 * (1 + 2 * MOST_NODES);
+
 pub type PlanStep = fn(sheet: &[u8], old: &[u8], plan: &mut [u8], moves: &mut [u8]) -> StepAnswer;
 
 /// An operation that reads two records and writes one, or a page.
@@ -35,7 +38,7 @@ pub type Write = fn(first: &[u8], second: &[u8], out: &mut [u8]) -> WrittenAnswe
 /// An operation that reads one record and writes another.
 pub type Convert = fn(record: &[u8], out: &mut [u8]) -> WrittenAnswer;
 
-/// Someone who does all eleven.
+/// Someone who does all twelve.
 pub struct Implementation {
     pub name: &'static str,
     pub read_sheet: fn(sheet: &[u8]) -> SheetAnswer,
@@ -48,6 +51,7 @@ pub struct Implementation {
     pub traffic_page: fn(sheet: &[u8], moves: &[u8], page: &mut [u8]) -> WrittenAnswer,
     pub write_archive: fn(sheet: &[u8], archive: &mut [u8]) -> WrittenAnswer,
     pub read_archive: fn(archive: &[u8], sheet: &mut [u8]) -> WrittenAnswer,
+    pub groups: fn(plan: &[u8], groups: &mut [u8]) -> WrittenAnswer,
     pub tree_in_force: fn(old: &[u8], new: &[u8]) -> PartAnswer,
 }
 
@@ -64,6 +68,7 @@ pub const REFERENCE: Implementation = Implementation {
     traffic_page: reference::traffic_page,
     write_archive: reference::write_archive,
     read_archive: reference::read_archive,
+    groups: reference::groups,
     tree_in_force: reference::tree_in_force,
 };
 
@@ -80,6 +85,7 @@ pub const ARCHIVE: Implementation = Implementation {
     traffic_page: boundary::traffic_page,
     write_archive: boundary::write_archive,
     read_archive: boundary::read_archive,
+    groups: boundary::groups,
     tree_in_force: boundary::tree_in_force,
 };
 
@@ -93,6 +99,7 @@ pub const PLAIN: Implementation = Implementation {
     traffic_page: plain::traffic_page,
     write_archive: plain::write_archive,
     read_archive: plain::read_archive,
+    groups: plain::groups,
     ..REFERENCE
 };
 
@@ -179,6 +186,11 @@ impl Implementation {
     /// *Read archive* with a buffer that is long enough: the sheet, or the refusal.
     pub fn brought_back(&self, archive: &[u8]) -> Result<Vec<u8>, u32> {
         written(SHEET_BYTES, |sheet| (self.read_archive)(archive, sheet))
+    }
+
+    /// *Groups* with a buffer that is long enough: the record, or the refusal.
+    pub fn grouped(&self, plan: &[u8]) -> Result<Vec<u8>, u32> {
+        written(GROUPS_BYTES, |groups| (self.groups)(plan, groups))
     }
 
     /// *Weigh* with a buffer that is long enough: the leasts and whether the

@@ -39,3 +39,8 @@ pub fn write_archive(sheet: &[u8], archive: &mut [u8]) -> WrittenAnswer {
 pub fn read_archive(archive: &[u8], sheet: &mut [u8]) -> WrittenAnswer {
     firrozka_plain::read_archive(archive, sheet).map_or_else(Answer::refused, answers::written)
 }
+
+/// *Groups*, as the baseline does it.
+pub fn groups(plan: &[u8], groups: &mut [u8]) -> WrittenAnswer {
+    firrozka_plain::groups(plan, groups).map_or_else(Answer::refused, answers::written)
+}

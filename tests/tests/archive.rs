@@ -7,7 +7,7 @@
 #![forbid(unsafe_code)]
 
 use firrozka_tests::calls::{
-    CARRY_OUT, JOIN_SHEETS, PLAN_STEP, READ_ARCHIVE, TRAFFIC_PAGE, TREE_IN_FORCE, WEIGH,
+    CARRY_OUT, GROUPS, JOIN_SHEETS, PLAN_STEP, READ_ARCHIVE, TRAFFIC_PAGE, TREE_IN_FORCE, WEIGH,
     WRITE_ARCHIVE,
 };
 
@@ -46,6 +46,11 @@ fn write_archive() {
 #[test]
 fn read_archive() {
     READ_ARCHIVE.test(ROUNDS);
+}
+
+#[test]
+fn groups() {
+    GROUPS.test(ROUNDS);
 }
 
 #[test]

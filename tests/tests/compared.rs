@@ -27,16 +27,17 @@ fn archive() -> PathBuf {
 }
 
 /// What requests brought, the latest first.
-const BROUGHT: [Measured; 4] = [
+const BROUGHT: [Measured; 5] = [
+    Measured::Groups,
     Measured::ReadArchive,
     Measured::WriteArchive,
     Measured::TrafficPage,
     Measured::JoinSheets,
 ];
 
-/// How many of these an archive lacks that is from before request 2026-05, from
-/// before 2026-04, and from before 2026-02.
-const LACKED: [usize; 3] = [2, 3, 4];
+/// How many of these an archive lacks that is from before request 2026-06, from
+/// before 2026-05, from before 2026-04, and from before 2026-02.
+const LACKED: [usize; 4] = [1, 3, 4, 5];
 
 /// The same without some operations.
 fn without(lacked: &[Measured]) -> PathBuf {
@@ -54,7 +55,7 @@ fn without(lacked: &[Measured]) -> PathBuf {
 }
 
 /// A row for each operation.
-fn some_rows() -> [Row; 7] {
+fn some_rows() -> [Row; 8] {
     MEASURED.map(|measured| Row {
         measured,
         filling: Filling::Sparse,
@@ -101,7 +102,7 @@ fn an_archive_without_some_operations() {
 }
 
 /// An archive of version 1.0 is handed the same steps, with t in percents. It
-/// joins no sheets, and writes neither pages nor sheets in Z order.
+/// joins no sheets, and writes neither pages nor sheets in Z order nor groups.
 #[test]
 fn sheets_of_another_unit_mean_the_same() {
     let there = |row: &Row| !BROUGHT.contains(&row.measured);

@@ -33,6 +33,8 @@ struct Archive {
     /// Nowhere in one from before request 2026-05, like the next.
     write_archive: AtomicPtr<c_void>,
     read_archive: AtomicPtr<c_void>,
+    /// Nowhere in one from before request 2026-06.
+    groups: AtomicPtr<c_void>,
 }
 
 impl Archive {
@@ -47,6 +49,7 @@ impl Archive {
             traffic_page: AtomicPtr::new(ptr::null_mut()),
             write_archive: AtomicPtr::new(ptr::null_mut()),
             read_archive: AtomicPtr::new(ptr::null_mut()),
+            groups: AtomicPtr::new(ptr::null_mut()),
         }
     }
 }
@@ -91,6 +94,7 @@ pub fn load(file: &Path, place: usize) -> Result<(), String> {
         (&archive.traffic_page, "firrozka_traffic_page"),
         (&archive.write_archive, "firrozka_write_archive"),
         (&archive.read_archive, "firrozka_read_archive"),
+        (&archive.groups, "firrozka_groups"),
     ] {
         function.store(find(name), Ordering::Relaxed);
     }
@@ -134,6 +138,11 @@ pub fn has_write_archive(place: usize) -> bool {
 /// Whether the archive at this place has *read archive*.
 pub fn has_read_archive(place: usize) -> bool {
     is_there(&PLACES[place].read_archive)
+}
+
+/// Whether the archive at this place has *groups*.
+pub fn has_groups(place: usize) -> bool {
+    is_there(&PLACES[place].groups)
 }
 
 fn is_there(function: &AtomicPtr<c_void>) -> bool {
@@ -213,6 +222,11 @@ pub fn write_archive<const PLACE: usize>(sheet: &[u8], archive: &mut [u8]) -> Wr
 /// *Read archive*, as the archive at this place does it.
 pub fn read_archive<const PLACE: usize>(archive: &[u8], sheet: &mut [u8]) -> WrittenAnswer {
     convert(&PLACES[PLACE].read_archive, archive, sheet)
+}
+
+/// *Groups*, as the archive at this place does it.
+pub fn groups<const PLACE: usize>(plan: &[u8], groups: &mut [u8]) -> WrittenAnswer {
+    convert(&PLACES[PLACE].groups, plan, groups)
 }
 
 /// Calls a function that reads one record and writes another.

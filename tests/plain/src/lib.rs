@@ -6,6 +6,7 @@
 #![forbid(unsafe_code)]
 
 mod deciding;
+mod grouping;
 mod page;
 mod records;
 mod transfer;
@@ -142,6 +143,14 @@ pub fn write_archive(sheet_bytes: &[u8], out: &mut [u8]) -> Result<u32, u32> {
 pub fn read_archive(archive: &[u8], out: &mut [u8]) -> Result<u32, u32> {
     let (sizes, table) = z_order::read(archive)?;
     write_sheet(&table, sizes, out).ok_or(56)
+}
+
+/// *Groups*: their length in bytes.
+pub fn groups(plan_bytes: &[u8], out: &mut [u8]) -> Result<u32, u32> {
+    let plan = read_plan(plan_bytes)?;
+    let bytes = 4 * (1 + 2 * plan.n as usize);
+    grouping::put(out.get_mut(..bytes).ok_or(57u32)?, &plan);
+    Ok(bytes as u32)
 }
 
 /// Writes a table as a sheet with this N and t, and gives its length in bytes;

@@ -123,7 +123,7 @@ impl Draft {
             21 | 121 => *second = plans::build(random),
             54 => z_order::inject(first, fault, random),
             302 | 303 | 355 => z_order::inject(first, fault - 300, random),
-            22 | 25 | 43 | 53 | 56 | 252 | 356 => self.rooms[0] = short,
+            22 | 25 | 43 | 53 | 56 | 57 | 252 | 356 => self.rooms[0] = short,
             23 => self.rooms[1] = short,
             24 => *second = roots(second.words[0], random),
             122 => {
@@ -227,6 +227,15 @@ pub fn write_archive(random: &mut Random) -> Draft {
 pub fn read_archive(random: &mut Random) -> Draft {
     let archive = z_order::of(&some_sheet(random).bytes());
     Draft::new([archive, Record::none()])
+}
+
+/// A plan: a step's, or any.
+pub fn groups(random: &mut Random) -> Draft {
+    let plan = match random.below(4) {
+        0 => plans::of(&REFERENCE.plan(&some_step(random)).plan),
+        _ => plans::build(random),
+    };
+    Draft::new([plan, Record::none()])
 }
 
 /// Old and new plan: those of a step, or two with the same helpands, or with

@@ -97,6 +97,13 @@ pub fn read_archive(call: &Call) -> Vec<u32> {
     [z_order(&call.records[0]), rest].concat()
 }
 
+/// Request 2026-06: "Checks: the plan's, then 57 for a buffer under 4 × (1+2N)
+/// bytes."
+pub fn groups(call: &Call) -> Vec<u32> {
+    let rest = holding(&[(57, is_short(call, 0))]);
+    [plan(&call.records[0]), rest].concat()
+}
+
 /// The faults of a second record that is of the same sort as the first.
 fn of_second(faults: Vec<u32>) -> Vec<u32> {
     faults.into_iter().map(|number| 100 + number).collect()
@@ -112,7 +119,7 @@ fn kind(plan: &[u8]) -> Option<u64> {
     word_at(&to_words(plan), 1)
 }
 
-fn helpands(plan: &[u8]) -> Vec<u32> {
+pub fn helpands(plan: &[u8]) -> Vec<u32> {
     let words = to_words(plan);
     stretch(&words, 3, word_at(&words, 0).unwrap_or(0)).to_vec()
 }

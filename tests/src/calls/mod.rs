@@ -1,4 +1,4 @@
-//! The eleven operations, seen alike: one record or two are read, up to two
+//! The twelve operations, seen alike: one record or two are read, up to two
 //! buffers are lent, and the answer is some words. Then one run serves all.
 //!
 //! | file | what it holds |
@@ -347,6 +347,33 @@ pub const READ_ARCHIVE: Operation = Operation {
     ..CARRY_OUT
 };
 
+pub const GROUPS: Operation = Operation {
+    name: "groups",
+    checks: &[&OF_PLAN, &[57]],
+    answer: |implementation, [plan, _], [groups, _]| {
+        let answer = (implementation.groups)(plan, groups);
+        vec![answer.refusal, answer.bytes]
+    },
+    needed: |plan, _| [4 * (1 + 2 * nodes(plan)), 0],
+    faults: faults::groups,
+    records: READ_PLAN.records,
+    build: drafts::groups,
+    corners: &[
+        ("N 1", |call, _| first_word(call) == 1),
+        ("kind 0", |call, _| kind(call) == 0),
+        ("kind 1", |call, _| kind(call) == 1),
+        ("kind 2", |call, _| kind(call) == 2),
+        ("a chain of 64", |call, _| depth(call) == 63),
+        ("a star of 64", |call, _| {
+            first_word(call) == 64 && depth(call) == 1
+        }),
+        ("a tree between these", |call, _| {
+            (3..30).contains(&depth(call))
+        }),
+    ],
+    ..CARRY_OUT
+};
+
 /// It has no refusals; what leads to the empty stretch has numbers here. Those
 /// of the old plan are *read plan*'s, those of the new plan 100 more, and the
 /// rest is 121, N differ, 122, kind 1 after kind 0, 123, kind 1 with other
@@ -376,8 +403,8 @@ pub const TREE_IN_FORCE: Operation = Operation {
     ],
 };
 
-/// All eleven.
-pub const OPERATIONS: [&Operation; 11] = [
+/// All twelve.
+pub const OPERATIONS: [&Operation; 12] = [
     &READ_SHEET,
     &READ_PLAN,
     &READ_MOVES,
@@ -388,11 +415,12 @@ pub const OPERATIONS: [&Operation; 11] = [
     &TRAFFIC_PAGE,
     &WRITE_ARCHIVE,
     &READ_ARCHIVE,
+    &GROUPS,
     &TREE_IN_FORCE,
 ];
 
 /// Those that the benchmark measures.
-pub const MEASURED_CALLS: [&Operation; 7] = [
+pub const MEASURED_CALLS: [&Operation; 8] = [
     &WEIGH,
     &PLAN_STEP,
     &CARRY_OUT,
@@ -400,6 +428,7 @@ pub const MEASURED_CALLS: [&Operation; 7] = [
     &TRAFFIC_PAGE,
     &WRITE_ARCHIVE,
     &READ_ARCHIVE,
+    &GROUPS,
 ];
 
 impl Operation {
@@ -421,9 +450,9 @@ fn is_first(answer: &[u32], faults: &[u32]) -> bool {
     answer[0] == refusal && (refusal == 0 || answer[1..].iter().all(|&value| value == 0))
 }
 
-/// N of a sheet, or the smallest if it has none.
-fn nodes(sheet: &[u8]) -> usize {
-    let n = word_at(&to_words(sheet), 0);
+/// N of a record, or the smallest if it has none.
+fn nodes(record: &[u8]) -> usize {
+    let n = word_at(&to_words(record), 0);
     n.filter(|&n| n <= u64::from(*NODES.end()))
         .unwrap_or(0)
         .max(1) as usize
@@ -431,6 +460,16 @@ fn nodes(sheet: &[u8]) -> usize {
 
 fn first_word(call: &Call) -> u32 {
     to_words(&call.records[0][..4])[0]
+}
+
+/// The kind of an accepted plan.
+fn kind(call: &Call) -> u32 {
+    to_words(&call.records[0])[1]
+}
+
+/// The most steps that a node of an accepted plan is away from the root.
+fn depth(call: &Call) -> usize {
+    plans::depth(&faults::helpands(&call.records[0]))
 }
 
 fn has_all_cells(call: &Call, _: &[u32]) -> bool {

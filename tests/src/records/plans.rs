@@ -3,6 +3,7 @@
 use super::{injection, nodes, Record};
 use crate::bounds::{MOST_LIMIT, NODES};
 use crate::random::Random;
+use crate::reference::tree::distance;
 
 /// The form of a tree.
 #[derive(Clone, Copy, Debug, PartialEq, Eq)]
@@ -72,12 +73,8 @@ pub fn chain(n: u32) -> Vec<u32> {
 
 /// The most steps that a node is away from the root.
 pub fn depth(helpands: &[u32]) -> usize {
-    let helpand = |node: usize| helpands[node] as usize;
-    let steps = |node| {
-        let chain = std::iter::successors(Some(node), |&at| Some(helpand(at)));
-        chain.take_while(|&at| helpand(at) != at).count()
-    };
-    (0..helpands.len()).map(steps).max().unwrap_or(0)
+    let steps = (0..helpands.len()).map(|node| distance(helpands, node));
+    steps.max().unwrap_or(0)
 }
 
 /// Shares up to the limit, 0 at roots: all 0, all at the limit, or mixed.

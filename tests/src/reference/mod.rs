@@ -17,9 +17,11 @@
 //! | `transfer` | Moves, and the sheet that follows |
 //! | `page` | Request 2026-04, the lines |
 //! | `z_order` | Request 2026-05, the record |
-//! | `operations` | Operations on more than one record; requests 2026-02, 2026-04 and 2026-05 |
+//! | `grouping` | Request 2026-06, the record |
+//! | `operations` | Operations on more than one record; requests 2026-02 and 2026-04 to 2026-06 |
 
 pub mod deciding;
+mod grouping;
 pub mod keeping;
 pub mod moves;
 pub mod operations;
@@ -36,8 +38,8 @@ pub mod z_order;
 
 pub use moves::read_moves;
 pub use operations::{
-    carry_out, join_sheets, plan_step, plan_step_with, read_archive, traffic_page, tree_in_force,
-    weigh, write_archive,
+    carry_out, groups, join_sheets, plan_step, plan_step_with, read_archive, traffic_page,
+    tree_in_force, weigh, write_archive,
 };
 pub use plan::read_plan;
 pub use sheet::read_sheet;

@@ -10,7 +10,7 @@ use super::table::Table;
 use super::tree::old_tree;
 use super::weighing::Weighing;
 use super::words::{to_bytes, to_word};
-use super::{deciding, moves, plan, sheet, transfer, z_order};
+use super::{deciding, grouping, moves, plan, sheet, transfer, z_order};
 use crate::answers::{self, Answer, PartAnswer, StepAnswer, WeighedAnswer, WrittenAnswer};
 use crate::bounds::MOST_PARTICLES;
 
@@ -210,6 +210,24 @@ fn try_read_archive(archive: &[u8], sheet: &mut [u8]) -> Result<u32, u32> {
     let record = z_order::read(archive)?.bytes();
     // "then 56"
     written(&record, sheet).ok_or(56)
+}
+
+/// *Groups*, request 2026-06: "each family with a helper is a group". It gives the
+/// length in bytes, as *carry out* does.
+pub fn groups(plan: &[u8], groups: &mut [u8]) -> WrittenAnswer {
+    try_groups(plan, groups).map_or_else(Answer::refused, answers::written)
+}
+
+fn try_groups(plan: &[u8], groups: &mut [u8]) -> Result<u32, u32> {
+    // "the plan's"
+    let plan = plan::read(plan)?;
+    // "then 57 for a buffer under 4 × (1+2N) bytes"
+    if groups.len() < 4 * (1 + 2 * plan.n as usize) {
+        return Err(57);
+    }
+    let record = grouping::bytes(&plan);
+    store(&record, groups);
+    Ok(record.len() as u32)
 }
 
 /// *Tree in force* "takes an old and a new plan. If the new kind is 1, it hands

@@ -15,6 +15,16 @@ pub fn helpers(helpands: &[u32], owner: usize) -> Vec<usize> {
         .collect()
 }
 
+/// A node's distance from the root, by the chain of helpands.
+pub fn distance(helpands: &[u32], node: usize) -> usize {
+    let (mut at, mut steps) = (node, 0);
+    while !is_root(helpands, at) {
+        at = helpands[at] as usize;
+        steps += 1;
+    }
+    steps
+}
+
 /// All nodes "from the root down": every node stands behind its helpand.
 pub fn downwards(helpands: &[u32]) -> Vec<usize> {
     let mut order: Vec<usize> = (0..helpands.len())

@@ -29,6 +29,7 @@ pub const EARLIER: Implementation = Implementation {
     traffic_page: loaded::traffic_page::<0>,
     write_archive: loaded::write_archive::<0>,
     read_archive: loaded::read_archive::<0>,
+    groups: loaded::groups::<0>,
     ..REFERENCE
 };
 
@@ -42,12 +43,13 @@ pub const LATER: Implementation = Implementation {
     traffic_page: loaded::traffic_page::<1>,
     write_archive: loaded::write_archive::<1>,
     read_archive: loaded::read_archive::<1>,
+    groups: loaded::groups::<1>,
     ..REFERENCE
 };
 
 /// The rows of operations that both archives have. Before request 2026-02 there
-/// was no *join sheets*, before 2026-04 no *traffic page*, and before 2026-05 neither
-/// *write archive* nor *read archive*.
+/// was no *join sheets*, before 2026-04 no *traffic page*, before 2026-05 neither *write
+/// archive* nor *read archive*, and before 2026-06 no *groups*.
 pub fn in_both(archives: [&Path; 2], rows: &[Row]) -> Result<Vec<Row>, String> {
     let folder = Folder::new();
     load(archives, 0, &folder.0)?;
@@ -57,6 +59,7 @@ pub fn in_both(archives: [&Path; 2], rows: &[Row]) -> Result<Vec<Row>, String> {
         Measured::TrafficPage => both(loaded::has_traffic_page),
         Measured::WriteArchive => both(loaded::has_write_archive),
         Measured::ReadArchive => both(loaded::has_read_archive),
+        Measured::Groups => both(loaded::has_groups),
         _ => true,
     };
     Ok(rows.iter().filter(there).copied().collect())

@@ -21,9 +21,10 @@ pub enum Measured {
     TrafficPage,
     WriteArchive,
     ReadArchive,
+    Groups,
 }
 
-pub const MEASURED: [Measured; 7] = [
+pub const MEASURED: [Measured; 8] = [
     Measured::PlanStep,
     Measured::CarryOut,
     Measured::Weigh,
@@ -31,6 +32,7 @@ pub const MEASURED: [Measured; 7] = [
     Measured::TrafficPage,
     Measured::WriteArchive,
     Measured::ReadArchive,
+    Measured::Groups,
 ];
 
 impl Measured {
@@ -43,13 +45,15 @@ impl Measured {
             Measured::TrafficPage => "traffic page",
             Measured::WriteArchive => "write archive",
             Measured::ReadArchive => "read archive",
+            Measured::Groups => "groups",
         }
     }
 
     /// *Weigh* takes a tree, whoever holds the particles, and *join sheets* a
     /// second sheet. To *traffic page* all moves are alike: one outcome of each kind.
-    /// To *write archive* and *read archive* all sheets of one filling are.
-    pub fn takes(self, outcome: Outcome) -> bool {
+    /// To *write archive* and *read archive* all sheets of one filling are. *Groups*
+    /// takes a plan, whatever its sheet and its shares are: one of each tree.
+    pub fn takes(self, filling: Filling, outcome: Outcome) -> bool {
         let joined = matches!(outcome, Outcome::Joined(_));
         let again = matches!(outcome, Outcome::Kept(_, Rest::Large));
         match self {
@@ -63,12 +67,19 @@ impl Measured {
                     | Outcome::Rebuilt(None)
             ),
             Measured::WriteArchive | Measured::ReadArchive => outcome == Outcome::Primary,
+            Measured::Groups => {
+                filling == Filling::Sparse
+                    && matches!(
+                        outcome,
+                        Outcome::Primary | Outcome::Kept(_, Rest::Small) | Outcome::Rebuilt(None)
+                    )
+            }
         }
     }
 }
 
-/// One call: two records to read, the sheet first, in Z order where that is read,
-/// and the lengths of what is written.
+/// One call: two records to read, the sheet first, in Z order where that is read, or
+/// a plan alone; and the lengths of what is written.
 #[derive(Clone)]
 struct Call {
     records: [Vec<u8>; 2],
@@ -111,6 +122,7 @@ impl Job {
                 }
                 (Measured::WriteArchive, _) => [step.sheet, Vec::new()],
                 (Measured::ReadArchive, _) => [z_order::of(&step.sheet).bytes(), Vec::new()],
+                (Measured::Groups, _) => [REFERENCE.plan(&step).plan, Vec::new()],
                 _ => [step.sheet, step.old],
             };
             Call {
@@ -201,20 +213,21 @@ impl Job {
 
 /// One call. Gives how many bytes were written to each buffer.
 fn one(measured: Measured, by: &Implementation, call: &Call, [a, b]: &mut Buffers) -> [usize; 2] {
-    let [sheet, second] = &call.records;
+    let [first, second] = &call.records;
     match measured {
         Measured::PlanStep => {
-            let answer = (by.plan_step)(sheet, second, b, a);
+            let answer = (by.plan_step)(first, second, b, a);
             assert_eq!(answer.refusal, 0);
             [answer.moves_bytes as usize, answer.plan_bytes as usize]
         }
-        Measured::CarryOut => written((by.carry_out)(sheet, second, a)),
-        Measured::JoinSheets => written((by.join_sheets)(sheet, second, a)),
-        Measured::TrafficPage => written((by.traffic_page)(sheet, second, a)),
-        Measured::WriteArchive => written((by.write_archive)(sheet, a)),
-        Measured::ReadArchive => written((by.read_archive)(sheet, a)),
+        Measured::CarryOut => written((by.carry_out)(first, second, a)),
+        Measured::JoinSheets => written((by.join_sheets)(first, second, a)),
+        Measured::TrafficPage => written((by.traffic_page)(first, second, a)),
+        Measured::WriteArchive => written((by.write_archive)(first, a)),
+        Measured::ReadArchive => written((by.read_archive)(first, a)),
+        Measured::Groups => written((by.groups)(first, a)),
         Measured::Weigh => {
-            let answer = (by.weigh)(sheet, second, a);
+            let answer = (by.weigh)(first, second, a);
             assert_eq!(answer.refusal, 0);
             [second.len() / 2 - 6, 0]
         }

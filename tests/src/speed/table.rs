@@ -29,7 +29,10 @@ pub fn rows() -> Vec<Row> {
     let mut rows = Vec::new();
     for measured in MEASURED {
         for filling in FILLINGS {
-            for outcome in OUTCOMES.into_iter().filter(|&it| measured.takes(it)) {
+            for outcome in OUTCOMES
+                .into_iter()
+                .filter(|&it| measured.takes(filling, it))
+            {
                 rows.extend([false, true].map(|changing| Row {
                     measured,
                     filling,
