@@ -19,6 +19,7 @@
 //! | `worked` | the steps that document 01 works by hand |
 //! | `implementations` | who does the operations, side by side |
 //! | `calls` | the differential run over these |
+//! | `careless` | wrong ones for the tests of the tests |
 //! | `division` | what a division along a tree is |
 //! | `rival` | whether there is one, found in other ways |
 //! | `demands` | what must hold of a planned step, however it was found |
@@ -35,6 +36,7 @@ pub mod bench_text;
 pub mod bounds;
 pub mod buffers;
 pub mod calls;
+pub mod careless;
 pub mod cases;
 pub mod coverage;
 pub mod damaged;

@@ -6,6 +6,8 @@
 
 use firrozka_tests::answers::{self, Answer, WrittenAnswer};
 use firrozka_tests::calls::{READ_ARCHIVE, WRITE_ARCHIVE};
+use firrozka_tests::careless;
+use firrozka_tests::careless::put;
 use firrozka_tests::implementations::{
     Convert, Implementation, REFERENCE, SHEET_BYTES, Z_ORDER_BYTES,
 };
@@ -50,12 +52,6 @@ fn the_right_ones() {
         let met = operation.run(&right, SEED, 500);
         assert!(met.is_ok(), "{:?}", met.err());
     }
-}
-
-/// Writes as much as there is room for.
-fn put(bytes: &[u8], out: &mut [u8]) {
-    let length = bytes.len().min(out.len());
-    out[..length].copy_from_slice(&bytes[..length]);
 }
 
 /// Where the count of a cell stands.
@@ -661,90 +657,6 @@ fn sheets_read() {
 }
 
 // Both.
-
-/// Somebody who is careless with the buffer or the answer: `$right` does it right.
-macro_rules! careless {
-    ($right:ident) => {
-        [
-            ("writes nothing", |record, out| {
-                $right(record, &mut out.to_vec())
-            }),
-            ("a byte behind what is written", |record, out| {
-                cleared_behind($right(record, out), out, 1)
-            }),
-            ("the rest cleared", |record, out| {
-                cleared_behind($right(record, out), out, out.len())
-            }),
-            ("the buffer cleared first", |record, out| {
-                out.fill(0);
-                $right(record, out)
-            }),
-            ("the last byte not written", |record, out| {
-                let old = out.to_vec();
-                let answer = $right(record, out);
-                if answer.refusal == 0 {
-                    let last = answer.bytes as usize - 1;
-                    out[last] = old[last];
-                }
-                answer
-            }),
-            ("bytes of 0 not written", |record, out| {
-                let old = out.to_vec();
-                let answer = $right(record, out);
-                let bytes = out.iter_mut().zip(old).take(answer.bytes as usize);
-                bytes
-                    .filter(|(byte, _)| **byte == 0)
-                    .for_each(|(byte, old)| *byte = old);
-                answer
-            }),
-            ("words of 0 not written", |record, out| {
-                let old = out.to_vec();
-                let answer = $right(record, out);
-                let words = out[..answer.bytes as usize].chunks_mut(4);
-                words
-                    .zip(old.chunks(4))
-                    .filter(|(word, _)| **word == [0; 4])
-                    .for_each(|(word, old)| word.copy_from_slice(old));
-                answer
-            }),
-            ("a length with a refusal", |record, out| {
-                let longer = $right(record, &mut [0; SHEET_BYTES]);
-                WrittenAnswer {
-                    bytes: longer.bytes,
-                    ..$right(record, out)
-                }
-            }),
-            ("the length of the buffer", |record, out| {
-                answered($right(record, out), out.len())
-            }),
-            ("the length of what was read", |record, out| {
-                answered($right(record, out), record.len())
-            }),
-            ("the length in words", |record, out| {
-                let answer = $right(record, out);
-                answered(answer, answer.bytes as usize / 4)
-            }),
-            ("no length", |record, out| answered($right(record, out), 0)),
-        ]
-    };
-}
-
-/// Clears up to so many bytes behind what was written.
-fn cleared_behind(answer: WrittenAnswer, out: &mut [u8], most: usize) -> WrittenAnswer {
-    if answer.refusal == 0 {
-        let behind = out[answer.bytes as usize..].iter_mut();
-        behind.take(most).for_each(|byte| *byte = 0);
-    }
-    answer
-}
-
-/// The same answer, with another length if it was accepted.
-fn answered(answer: WrittenAnswer, bytes: usize) -> WrittenAnswer {
-    match answer.refusal {
-        0 => answers::written(bytes as u32),
-        _ => answer,
-    }
-}
 
 #[test]
 fn buffers() {

@@ -5,6 +5,7 @@
 
 use firrozka_tests::answers::{self, Answer, WrittenAnswer};
 use firrozka_tests::calls::JOIN_SHEETS;
+use firrozka_tests::careless::put;
 use firrozka_tests::implementations::{Implementation, Write, REFERENCE, SHEET_BYTES};
 use firrozka_tests::reference::join_sheets;
 use firrozka_tests::reference::sheet::{self, Sheet};
@@ -72,12 +73,6 @@ fn join([first, second]: [&[u8]; 2], out: &mut [u8], checks: &[Check], sum: Sum)
     let record = joining.joint.bytes();
     put(&record, out);
     answers::written(record.len() as u32)
-}
-
-/// Writes as much as there is room for.
-fn put(bytes: &[u8], out: &mut [u8]) {
-    let length = bytes.len().min(out.len());
-    out[..length].copy_from_slice(&bytes[..length]);
 }
 
 fn joint(first: &Sheet, second: &Sheet, sum: Sum) -> Sheet {

@@ -5,6 +5,7 @@
 
 use firrozka_tests::answers::{self, Answer, WrittenAnswer};
 use firrozka_tests::calls::TRAFFIC_PAGE;
+use firrozka_tests::careless::put;
 use firrozka_tests::implementations::{Implementation, Write, PAGE_BYTES, REFERENCE};
 use firrozka_tests::reference::moves::{self, parts, Moves};
 use firrozka_tests::reference::sheet::{self, Sheet};
@@ -171,9 +172,7 @@ fn page(
     let mut numbers = Numbers::of(&paging);
     change(&paging, &mut numbers);
     let text = text(&numbers);
-    // As much as there is room for.
-    let length = text.len().min(room);
-    out[..length].copy_from_slice(&text.as_bytes()[..length]);
+    put(text.as_bytes(), out);
     answers::written(text.len() as u32)
 }
 
