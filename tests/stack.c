@@ -14,7 +14,7 @@ enum { NODES = 64, STACK = 1 << 20, PAINT = 0xa5 };
 
 static uint8_t sheet[FIRROZKA_SHEET_BYTES], next[FIRROZKA_SHEET_BYTES], old[FIRROZKA_PLAN_BYTES], plan[FIRROZKA_PLAN_BYTES];
 static uint8_t moves[FIRROZKA_MOVES_BYTES], least[FIRROZKA_LEAST_BYTES], page[FIRROZKA_PAGE_BYTES];
-static uint8_t archive[FIRROZKA_ARCHIVE_BYTES];
+static uint8_t archive[FIRROZKA_ARCHIVE_BYTES], groups[FIRROZKA_GROUPS_BYTES];
 static size_t moves_len;
 static uint32_t kind;
 static uint8_t *stack, *frame;
@@ -60,6 +60,7 @@ static void join_sheets(void) { firrozka_join_sheets(sheet, sizeof sheet, sheet,
 static void traffic_page(void) { firrozka_traffic_page(sheet, sizeof sheet, moves, moves_len, page, sizeof page); }
 static void write_archive(void) { firrozka_write_archive(sheet, sizeof sheet, archive, sizeof archive); }
 static void read_archive(void) { firrozka_read_archive(archive, sizeof archive, next, sizeof next); }
+static void groups_of_chain(void) { firrozka_groups(old, sizeof old, groups, sizeof groups); }
 static void tree_in_force(void) { firrozka_tree_in_force(old, sizeof old, plan, sizeof plan); }
 
 static void plan_with(size_t old_len)
@@ -115,6 +116,7 @@ int main(void)
     measure("traffic page", traffic_page);
     measure("write archive", write_archive);
     measure("read archive", read_archive);
+    measure("groups", groups_of_chain);
     measure("read sheet", read_sheet);
     measure("read plan", read_plan);
     measure("read moves", read_moves);
