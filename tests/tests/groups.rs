@@ -51,19 +51,24 @@ fn roots(n: u32) -> Vec<u8> {
     plan(0, &each(n, |node| node))
 }
 
-/// A file of the examples.
-fn example(name: &str) -> Vec<u8> {
-    let examples = concat!(env!("CARGO_MANIFEST_DIR"), "/../examples");
-    fs::read(format!("{examples}/{name}")).expect("the file is there")
-}
-
-/// 0 and 2 help 1, 3 and 4 help 0: distances 1 0 1 2 2. The example prints them.
+/// 0 and 2 help 1, 3 and 4 help 0: distances 1 0 1 2 2.
 #[test]
 fn two_families() {
     let (even, odd) = ([1, 1, 1, NONE, NONE], [0, NONE, NONE, 0, 0]);
     write_tree(&[1, 1, 1, 0, 0], &even, &odd);
     let words = [5, 1, 1, 1, 64, 64, 0, 64, 64, 0, 0];
     assert_eq!(record(&even, &odd), to_bytes(&words));
+}
+
+/// A file of the examples.
+fn example(name: &str) -> Vec<u8> {
+    let examples = concat!(env!("CARGO_MANIFEST_DIR"), "/../examples");
+    fs::read(format!("{examples}/{name}")).expect("the file is there")
+}
+
+/// What the example prints of these two families.
+#[test]
+fn the_example() {
     let printed = b"nodes 5\neven owner 1 members 0 1 2\nodd owner 0 members 0 3 4\n";
     assert!(example("groups.expected").starts_with(printed));
 }
