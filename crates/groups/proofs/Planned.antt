@@ -1,5 +1,5 @@
 -- In an accepted plan of any kind every chain of helpands leads to a root, and kind 0 has no helper. Assumes nothing.
-use mathlib.Core.Path.{_≡_, sym, _∙_}
+use mathlib.Core.Path.{_≡_, sym, ap, _∙_}
 use mathlib.Core.Bool.{true, false}
 use mathlib.Core.List.{List}
 use Prim.Native.Nat.{ℕ, _<_}
@@ -10,7 +10,9 @@ use Rattle.fold.proofs.Tests.{and-right, all-at}
 use Rattle.arrays.specs.Arrays.{at, padded}
 use Rattle.arrays.proofs.Padded.{padded-same}
 use Rattle.plan.specs.Tree.{isRoot, roots, reaches, shapeFine}
-use Rattle.plan.specs.Plan.{readPlan, helpandsOf}
+use Rattle.plan.specs.declared.Plan.{Plan}
+use Rattle.plan.specs.declared.PlanAnswer.{PlanAnswer}
+use Rattle.plan.specs.Plan.{readPlan, helpandsOf, accepted}
 use Rattle.plan.proofs.Accepted.{plan-accepted}
 use Rattle.plan.proofs.Chains.{reaches-root}
 use Rattle.tree.proofs.Families.{helps-self, helps-other}
@@ -56,8 +58,19 @@ module _ (p : List ℕ) (q : readPlan p .refusal ≡ 0) where
         reach = shape-reach n₀ (readPlan p .kind) h₀ (a .shape);
       }
 
-  pub array-rooted : Rooted n₀ (at (padded (helpandsOf p n₀)))
-  array-rooted = rw (padded-same (helpandsOf p n₀)) plan-rooted
-
   pub kind-none : readPlan p .kind ≡ 0 → (c : Colour) (k : ℕ) → groupIn n₀ h₀ c k ≡ none
   kind-none z = primary-none n₀ (readPlan p .kind) h₀ (plan-accepted p q .shape) z
+
+-- the same of a reading
+module _ (p : List ℕ) (q : Plan) (read : accepted (q .n) (q .kind) (q .limit) ≡ readPlan p) where
+  fine : readPlan p .refusal ≡ 0
+  fine = ap (λ (a : PlanAnswer). a .refusal) (sym read)
+
+  nodes : readPlan p .n ≡ q .n
+  nodes = ap (λ (a : PlanAnswer). a .n) (sym read)
+
+  pub array-rooted : Rooted (q .n) (at (padded (helpandsOf p (q .n))))
+  array-rooted = rw (padded-same (helpandsOf p (q .n))) (rw nodes at (plan-rooted p fine))
+
+  pub reading-none : q .kind ≡ 0 → (c : Colour) (k : ℕ) → groupIn (q .n) (at (helpandsOf p (q .n))) c k ≡ none
+  reading-none z = rw nodes at (kind-none p fine (ap (λ (a : PlanAnswer). a .kind) (sym read) ∙ z))

@@ -2,12 +2,18 @@
 use mathlib.Core.Path.{_≡_}
 use mathlib.Core.Logic.{_≢_}
 use mathlib.Core.Bool.{true, cond}
-use mathlib.Core.List.{List}
-use Prim.Native.Nat.{ℕ, _≤_, _<_}
-use lib.ListN.{length}
+use mathlib.Core.List.{List, [], _∷_, _++_}
+use Prim.Native.Nat.{ℕ, _+_, _*_, _≤_, _<_}
+use lib.Dec.{eqb}
+use lib.ListN.{length, replicate}
+use lib.Seq.{sets}
+use Rattle.fold.specs.Collect.{collect}
 use Rattle.limit.specs.Limit.{maxNodes}
 use Rattle.arrays.specs.Arrays.{at}
+use Rattle.words.specs.Words.{encode}
 use Rattle.plan.specs.Tree.{reaches}
+use Rattle.groups.specs.declared.colour.Colour.{Colour}
+use Rattle.groups.specs.declared.colour.Colour.the-variants.{Even, Odd}
 use Rattle.groups.specs.Colour.{distance}
 use Rattle.groups.specs.Group.{hasHelper, none}
 
@@ -35,6 +41,10 @@ Distances nodes h distances = (k : ℕ) → k < nodes → at distances k ≡ dis
 abbrev pub ownGroup : ℕ → (ℕ → ℕ) → ℕ → ℕ
 ownGroup nodes h n = cond (hasHelper nodes h n) n none
 
+-- the name of the group that node k is a helper in, where its helpand is g
+abbrev pub helpedGroup : ℕ → ℕ → ℕ
+helpedGroup g k = cond (eqb g k) none g
+
 abbrev pub OwnGroups : ℕ → (ℕ → ℕ) → List ℕ → Type 0
 OwnGroups nodes h own = (n : ℕ) → n < nodes → at own n ≡ ownGroup nodes h n
 
@@ -49,3 +59,12 @@ pub record Groupable (nodes : ℕ) (h : ℕ → ℕ) (distances own : List ℕ) 
   pub rooted : Rooted nodes h
   pub each-distance : Distances nodes h distances
   pub each-own : OwnGroups nodes h own
+
+-- a buffer into which the entries of the nodes below k, in each colour, were stored behind the first word
+abbrev pub withEntries : ℕ → (Colour → ℕ → ℕ) → ℕ → List ℕ → List ℕ
+withEntries nodes entry k out =
+    sets (sets out 4 (encode (collect k (λ j. entry Even j ∷ [])))) (4 * (1 + nodes)) (encode (collect k (λ j. entry Odd j ∷ [])))
+
+-- the record of n nodes without a group
+unfoldable pub noGroups : ℕ → List ℕ
+noGroups n = encode ((n ∷ []) ++ replicate n none ++ replicate n none)

@@ -1,10 +1,12 @@
-// Each node's group in one colour, from the distances and the families with a helper.
+// The groups of one node: of the two families that it belongs to, its own and its helpand's, one is even and the other odd.
 ghost use mathlib.Core.Path.{_≡_};
+ghost use mathlib.Core.Bool.{true};
 ghost use Prim.Native.Nat.{_<_};
-ghost use Rattle.arrays.specs.Arrays.{at, tabulate};
+ghost use Rattle.arrays.specs.Arrays.{at};
+ghost use Rattle.groups.specs.declared.colour.Colour.the-variants.{Even, Odd};
 ghost use Rattle.groups.specs.Colour.{coloured};
 ghost use Rattle.groups.specs.Group.{groupIn};
-ghost use Rattle.groups.specs.Inner.{Rooted, OwnGroups, Groupable};
+ghost use Rattle.groups.specs.Inner.{Rooted, OwnGroups, Groupable, helpedGroup};
 
 // The colours, in the order in which they are written.
 pub enum Colour {
@@ -13,15 +15,22 @@ pub enum Colour {
 }
 
 // Stands for no group.
-const NO_GROUP: u32 = 64;
+pub const NO_GROUP: u32 = 64;
 
-// Whether an owner at this distance has a family of this colour.
-fn coloured(colour: Colour, distance: u32) -> bool
-    ensures { λ r. ⌜ r ≡ coloured colour distance ⌝ }
+// A node's group in each colour.
+pub struct Entries {
+    pub even: u32,
+    pub odd: u32,
+}
+
+// The colour of an owner's family, from its distance.
+fn family_colour(distance: u32) -> Colour
+    ensures { λ r. ⌜ coloured r distance ≡ true ⌝ }
 {
-    match colour {
-        Colour::Even => distance % 2 == 0,
-        Colour::Odd => distance % 2 == 1,
+    if distance % 2 == 0 {
+        Colour::Even
+    } else {
+        Colour::Odd
     }
 }
 
@@ -42,46 +51,39 @@ pub fn own_groups(helpands: &[u32; 64], nodes: usize) -> [u32; 64]
     own
 }
 
-// The group of node k in a colour: of its own family and its helpand's that which has the colour, if it is a group.
-fn group_in(
-    colour: Colour,
+// The name of the group that a node is a helper in: its helpand's, unless it is a root.
+fn helped_group(helpand: u32, k: usize) -> u32
+    ensures { λ r. ⌜ r ≡ helpedGroup helpand k ⌝ }
+{
+    if helpand as usize == k {
+        NO_GROUP
+    } else {
+        helpand
+    }
+}
+
+// The groups of node k. Its own family has the colour of its distance, and its helpand's the other.
+pub fn entries_of(
     helpands: &[u32; 64],
     distances: &[u32; 64],
     own: &[u32; 64],
     nodes: usize,
     k: usize,
-) -> u32
+) -> Entries
     requires { ⌜ Groupable nodes (at (now helpands)) (now distances) (now own) × (k < nodes) ⌝ }
-    ensures { λ r. ⌜ r ≡ groupIn nodes (at (now (helpands .entry))) colour k ⌝ }
+    ensures { λ r. ⌜
+        (r .even ≡ groupIn nodes (at (now (helpands .entry))) Even k) × (r .odd ≡ groupIn nodes (at (now (helpands .entry))) Odd k) ⌝ }
 {
-    let helpand = helpands[k] as usize;
-    let of_owner = own[k];
-    let of_helper = own[helpand];
-    if coloured(colour, distances[k]) {
-        return of_owner;
+    let as_owner = own[k];
+    let as_helper = helped_group(helpands[k], k);
+    match family_colour(distances[k]) {
+        Colour::Even => Entries {
+            even: as_owner,
+            odd: as_helper,
+        },
+        Colour::Odd => Entries {
+            even: as_helper,
+            odd: as_owner,
+        },
     }
-    if coloured(colour, distances[helpand]) {
-        return of_helper;
-    }
-    NO_GROUP
-}
-
-// The groups of all nodes in a colour.
-pub fn groups_in(
-    colour: Colour,
-    helpands: &[u32; 64],
-    distances: &[u32; 64],
-    own: &[u32; 64],
-    nodes: usize,
-) -> [u32; 64]
-    requires { ⌜ Groupable nodes (at (now helpands)) (now distances) (now own) ⌝ }
-    ensures { λ r. ⌜ r ≡ tabulate nodes (groupIn nodes (at (now (helpands .entry))) colour) ⌝ }
-{
-    let mut groups = [0u32; 64];
-    let mut k = 0;
-    while k < nodes {
-        groups[k] = group_in(colour, helpands, distances, own, nodes, k);
-        k += 1;
-    }
-    groups
 }

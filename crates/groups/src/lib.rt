@@ -1,6 +1,6 @@
 // *Groups*, request 2026-06: the families of a plan as groups for a message library, in two colours, written to a lent buffer. Above the
 // balancer: it uses the plan and its tree, and nothing of the balancer uses it.
-use colour::Colour;
+use colour::NO_GROUP;
 use plan::Plan;
 use plan::PlanReading;
 use plan::PlanRefusal;
@@ -8,11 +8,13 @@ use words::WrittenAnswer;
 ghost use mathlib.Core.Path.{_≡_};
 ghost use Prim.Native.Nat.{_≤_};
 ghost use lib.ListN.{length};
+ghost use Rattle.limit.specs.Limit.{maxNodes};
 ghost use Rattle.words.specs.Buffer.{placed};
 ghost use Rattle.arrays.specs.Arrays.{at};
 ghost use Rattle.plan.specs.Plan.{readPlan, accepted};
+ghost use Rattle.groups.specs.Group.{groupIn};
 ghost use Rattle.groups.specs.Groups.{groupsBytes, groupsSize, groupsAnswer, groupsAfter, numberOf, answerOf};
-ghost use Rattle.groups.specs.Inner.{Rooted};
+ghost use Rattle.groups.specs.Inner.{Rooted, Groupable, withEntries, noGroups};
 
 pub mod colour;
 pub mod distance;
@@ -29,6 +31,26 @@ pub enum Grouping {
     Refused(GroupsRefusal),
 }
 
+// Writes each node's group in the even colour behind the first word, and behind these each node's group in the odd.
+fn put_entries(
+    out: &mut [u8],
+    helpands: &[u32; 64],
+    distances: &[u32; 64],
+    own: &[u32; 64],
+    nodes: usize,
+)
+    requires { ⌜ Groupable nodes (at (now helpands)) (now distances) (now own) × (groupsSize nodes ≤ length (now out)) ⌝ }
+    ensures { λ _. ⌜ now (out .exit) ≡ withEntries nodes (groupIn nodes (at (now (helpands .entry)))) nodes (now (out .entry)) ⌝ }
+{
+    let mut k = 0;
+    while k < nodes {
+        let entries = colour::entries_of(helpands, distances, own, nodes, k);
+        words::put_word(out, 1 + k, entries.even);
+        words::put_word(out, 1 + nodes + k, entries.odd);
+        k += 1;
+    }
+}
+
 // Writes the groups of n nodes into a buffer that is long enough.
 fn put_groups(out: &mut [u8], n: u32, helpands: [u32; 64])
     requires { ⌜ Rooted n (at helpands) × (groupsSize n ≤ length (now out)) ⌝ }
@@ -37,11 +59,20 @@ fn put_groups(out: &mut [u8], n: u32, helpands: [u32; 64])
     let nodes = n as usize;
     let distances = distance::distances(&helpands, nodes);
     let own = colour::own_groups(&helpands, nodes);
-    let even = colour::groups_in(Colour::Even, &helpands, &distances, &own, nodes);
-    let odd = colour::groups_in(Colour::Odd, &helpands, &distances, &own, nodes);
     words::put_word(out, 0, n);
-    words::put_words(out, 1, &even, nodes);
-    words::put_words(out, 1 + nodes, &odd, nodes);
+    put_entries(out, &helpands, &distances, &own, nodes);
+}
+
+// The same where no node helps.
+fn put_none(out: &mut [u8], n: u32)
+    requires { ⌜ (n ≤ maxNodes) × (groupsSize n ≤ length (now out)) ⌝ }
+    ensures { λ _. ⌜ now (out .exit) ≡ placed (noGroups n) (now (out .entry)) ⌝ }
+{
+    let nodes = n as usize;
+    let none = [NO_GROUP; 64];
+    words::put_word(out, 0, n);
+    words::put_words(out, 1, &none, nodes);
+    words::put_words(out, 1 + nodes, &none, nodes);
 }
 
 // Writes the groups of a plan that was read.
@@ -54,7 +85,11 @@ fn groups_read(plan: &[u8], p: Plan, groups: &mut [u8]) -> Grouping
     if groups.len() < 4 * (1 + 2 * nodes) {
         return Grouping::Refused(GroupsRefusal::Buffer);
     }
-    put_groups(groups, p.n, words::words_64(plan, 3, nodes));
+    if p.kind == 0 {
+        put_none(groups, p.n);
+    } else {
+        put_groups(groups, p.n, words::words_64(plan, 3, nodes));
+    }
     Grouping::Grouped(4 * (1 + 2 * p.n))
 }
 

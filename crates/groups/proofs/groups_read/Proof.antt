@@ -1,9 +1,11 @@
 -- `groups::groups_read` meets its contract: the buffer's test is 57, and past it the groups are written. Assumes nothing.
 use borrow.Author.Needs.{needs}
 use mathlib.Core.Path.{_≡_, sym, ap, _∙_}
+use mathlib.Core.Logic.{⊎-elim}
 use mathlib.Core.List.{List}
-use Prim.Native.Nat.{ℕ}
+use Prim.Native.Nat.{ℕ, _≤_}
 use native.Mathlib.Omega.{arith}
+use lib.ListN.{length, drop, length-append, length-drop}
 use denote.Ref.{now}
 use Rattle.plan.specs.declared.PlanAnswer.{PlanAnswer}
 use Rattle.arrays.specs.Arrays.{at, padded}
@@ -12,8 +14,9 @@ use Rattle.words.specs.Buffer.{placed}
 use Rattle.plan.specs.Plan.{readPlan, helpandsOf, accepted}
 use Rattle.plan.proofs.Accepted.{Accepted, reading-accepted}
 use Rattle.groups.specs.Groups.{groupsBytes}
-use Rattle.groups.specs.Inner.{Rooted}
-use Rattle.groups.proofs.Planned.{array-rooted}
+use Rattle.groups.specs.Inner.{Rooted, noGroups}
+use Rattle.groups.proofs.Planned.{array-rooted, reading-none}
+use Rattle.groups.proofs.Placing.{length-groups, none-groups}
 use Rattle.groups.proofs.Checks.{ends-buffer, ends-grouped}
 use Rattle.groups.proofs.groups_read.Statement.{statement}
 use Rattle.groups.proofs.groups_read.Tie as tie
@@ -29,40 +32,64 @@ module _ (c : tie.After-struct-known) where
   facts : Accepted plan (accepted (start .args .p .n) (start .args .p .kind) (start .args .p .limit))
   facts = reading-accepted plan (start .args .p) (start .pre)
 
-  fine : readPlan plan .refusal ≡ 0
-  fine = ap (λ (a : PlanAnswer). a .refusal) (sym (start .pre))
-
-  rooted : Rooted (start .args .p .n) (at (padded (helpandsOf plan (start .args .p .n))))
-  rooted =
-      let n : readPlan plan .n ≡ start .args .p .n = ap (λ (a : PlanAnswer). a .n) (sym (start .pre)) in
-      rw n at (array-rooted plan fine)
-
 returns : tie.Need-returns
 returns c = ends-buffer _ _ (start (c .before) .pre) (omega (arith, c .if1 .taken))
 
+-- past the test of the buffer
+abbrev long : tie.After-struct-known2 → tie.Else1
+long c = c .before
+
+put-none-requires : tie.Need-put-none-requires
+put-none-requires c κs =
+    let e = long (c .before .before) in
+    (facts (e .before) .n-high, omega (arith, e .if1 .left))
+
 words-64-requires : tie.Need-words-64-requires
 words-64-requires c κs =
-    let k = facts (c .before .before) in
+    let k = facts (long (c .before .before) .before) in
     omega (arith, k .size, k .n-high)
 
 put-groups-requires : tie.Need-put-groups-requires
 put-groups-requires c κs =
-    let e = c .before .before in
-    (rw (c .words-64 .ensures) (rooted (e .before)), omega (arith, e .if1 .left))
+    let e = long (c .before .before .before) in
+    let s = start (e .before) in
+    (rw (c .words-64 .ensures) (array-rooted (plan (e .before)) (s .args .p) (s .pre)), omega (arith, e .if1 .left))
 
-abbrev written : tie.After-struct-known2 → tie.After-struct-known
-written c = c .before .before .before .before .before .before .before
+-- what was written, whichever way it went
+module _ (c : tie.Joined2) where
+  abbrev read : tie.After-struct-known
+  read = long (c .before) .before
+
+  abbrev n : ℕ
+  n = start read .args .p .n
+
+  abbrev h : ℕ → ℕ
+  h = at (helpandsOf (plan read) n)
+
+  none-is : start read .args .p .kind ≡ 0 → noGroups n ≡ groupsBytes n h
+  none-is z = none-groups n h (reading-none (plan read) (start read .args .p) (start read .pre) z)
+
+  written : c .if2 .groups ≡ placed (groupsBytes n h) (now (start read .args .groups))
+  written = ⊎-elim
+      (λ w. w .5 ∙ w .2 .ensures ∙ ap (λ (x : List ℕ). placed x (now (start read .args .groups))) (none-is (w .0 .taken)))
+      (λ w. w .6 ∙ w .3 .ensures
+      ∙ ap (λ (x : ℕ → ℕ). placed (groupsBytes n x) (now (start read .args .groups)))
+      (ap at (w .2 .ensures) ∙ padded-same (helpandsOf (plan read) n)))
+      (c .if2 .came)
 
 returns-2 : tie.Need-returns-2
 returns-2 c =
-    let w = c .before .before .before in
-    let h = w .before in
-    let e = h .before .before in
-    let s = start (e .before) in
-    ends-grouped _ _ (s .pre) (omega (arith, e .if1 .left))
-    (w .put-groups .ensures
-    ∙ ap (λ (x : ℕ → ℕ). placed (groupsBytes (s .args .p .n) x) (now (s .args .groups)))
-    (ap at (h .words-64 .ensures) ∙ padded-same (helpandsOf (plan (e .before)) (s .args .p .n))))
+    let j = c .before in
+    let e = long (j .before) in
+    ends-grouped _ _ (start (e .before) .pre) (omega (arith, e .if1 .left)) (written j)
+
+same-length : tie.Need-same-length
+same-length c =
+    let j = c .before in
+    let out = now (start (read j) .args .groups) in
+    let rec = groupsBytes (n j) (h j) in
+    let e : length rec ≤ length out = omega (arith, length-groups (n j) (h j), long (j .before) .if1 .left) in
+    ap length (written j) ∙ length-append rec (drop (length rec) out) ∙ simp length-drop (omega arith)
 
 pub groups-read-spec : {M : Type 1} → statement M
 groups-read-spec =
@@ -73,10 +100,11 @@ groups-read-spec =
     (λ c. search needs)  -- add-if1
     (λ c. search needs)  -- mul-if1-2
     returns
+    put-none-requires
     words-64-requires
     put-groups-requires
-    (λ c. omega (arith, facts (written c) .n-high))  -- mul-t15
-    (λ c. omega (arith, facts (written c) .n-high))  -- add-t16
-    (λ c. omega (arith, facts (written c) .n-high))  -- mul-t17
-    (λ c. search needs)  -- same-length
+    (λ c. omega (arith, facts (read (c .before)) .n-high))  -- mul-t18
+    (λ c. omega (arith, facts (read (c .before)) .n-high))  -- add-t19
+    (λ c. omega (arith, facts (read (c .before)) .n-high))  -- mul-t20
+    same-length
     returns-2)
