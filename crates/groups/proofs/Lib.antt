@@ -2,11 +2,12 @@ pub mod Distances
 pub mod Noting
 pub mod Owners
 pub mod Checks
-pub mod Looking
+pub mod Entries
 pub mod Planned
 pub mod Placing
 pub mod ReadBack
 pub mod Together
+pub mod Grouped
 pub mod Sizes
 pub mod Answers
 pub mod Vectors

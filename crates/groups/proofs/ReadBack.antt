@@ -66,7 +66,7 @@ module _ (p out : List ℕ) (q : groupsAnswer p (length out) .refusal ≡ 0) whe
   abbrev n₀ : ℕ
   n₀ = readPlan p .n
 
-  plan-fine : readPlan p .refusal ≡ 0
+  pub plan-fine : readPlan p .refusal ≡ 0
   unfolding groupsAnswer
   plan-fine = handed (λ (a : WrittenAnswer). a .refusal) refused (λ k. refl) (readPlan p .refusal) _ q .0
 

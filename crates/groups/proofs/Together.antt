@@ -16,15 +16,15 @@ use Rattle.groups.specs.Group.{hasHelper, isGroup, none, groupIn, belong
 use Rattle.groups.specs.Groups.{MessageGroups}
 use Rattle.groups.specs.Inner.{Rooted}
 use Rattle.groups.proofs.Owners.{has-helper}
-use Rattle.groups.proofs.Looking.{group-has, group-not, helper-other}
+use Rattle.groups.proofs.Entries.{group-has, group-not, helper-other}
 
 -- ---- members of a family
 
 module _ (h : ℕ → ℕ) where
-  belongs-owner : (n : ℕ) → belongs h n n ≡ true
+  pub belongs-owner : (n : ℕ) → belongs h n n ≡ true
   belongs-owner n = rw (eq-eqb n n refl)
 
-  belongs-helpand : (k : ℕ) → belongs h (h k) k ≡ true
+  pub belongs-helpand : (k : ℕ) → belongs h (h k) k ≡ true
   belongs-helpand k = elim (ℕ-discrete (h k) k) [
     | yes e ↦ rw (eq-eqb k (h k) (sym e))
     | no d ↦ rw (helps-helpand h k d, or-true)

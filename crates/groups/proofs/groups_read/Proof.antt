@@ -1,20 +1,19 @@
 -- `groups::groups_read` meets its contract: the buffer's test is 57, and past it the groups are written. Assumes nothing.
 use borrow.Author.Needs.{needs}
-use mathlib.Core.Path.{_≡_, sym, ap, _∙_}
+use mathlib.Core.Path.{_≡_, ap, _∙_}
 use mathlib.Core.Logic.{⊎-elim}
 use mathlib.Core.List.{List}
 use Prim.Native.Nat.{ℕ, _≤_}
 use native.Mathlib.Omega.{arith}
 use lib.ListN.{length, drop, length-append, length-drop}
 use denote.Ref.{now}
-use Rattle.plan.specs.declared.PlanAnswer.{PlanAnswer}
-use Rattle.arrays.specs.Arrays.{at, padded}
+use Rattle.arrays.specs.Arrays.{at}
 use Rattle.arrays.proofs.Padded.{padded-same}
 use Rattle.words.specs.Buffer.{placed}
-use Rattle.plan.specs.Plan.{readPlan, helpandsOf, accepted}
+use Rattle.plan.specs.Plan.{helpandsOf, accepted}
 use Rattle.plan.proofs.Accepted.{Accepted, reading-accepted}
 use Rattle.groups.specs.Groups.{groupsBytes}
-use Rattle.groups.specs.Inner.{Rooted, noGroups}
+use Rattle.groups.specs.Inner.{noGroups}
 use Rattle.groups.proofs.Planned.{array-rooted, reading-none}
 use Rattle.groups.proofs.Placing.{length-groups, none-groups}
 use Rattle.groups.proofs.Checks.{ends-buffer, ends-grouped}

@@ -1,15 +1,12 @@
 -- `groups::put_entries` meets its contract: the entries of the nodes passed are stored. Assumes nothing.
 use borrow.Author.Needs.{needs}
-use mathlib.Core.Path.{_≡_, refl, ap, _∙_}
-use mathlib.Core.List.{List}
-use Prim.Native.Nat.{ℕ, _+_, _*_, _-_, _≤_}
+use mathlib.Core.Path.{_≡_, refl, ap}
+use Prim.Native.Nat.{_+_, _*_, _-_, _≤_}
 use native.Mathlib.Omega.{arith}
 use lib.ListN.{length}
 use denote.Ref.{now}
 use Rattle.arrays.specs.Arrays.{at}
-use Rattle.words.specs.Words.{putWord}
 use Rattle.words.proofs.Buffer.{length-put}
-use Rattle.groups.specs.declared.colour.Colour.the-variants.{Even, Odd}
 use Rattle.groups.specs.Group.{groupIn}
 use Rattle.groups.specs.Groups.{groupsSize}
 use Rattle.groups.specs.Inner.{withEntries}

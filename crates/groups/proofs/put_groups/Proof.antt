@@ -1,6 +1,6 @@
 -- `groups::put_groups` meets its contract: N and the entries behind it are one record. Assumes nothing.
 use borrow.Author.Needs.{needs}
-use mathlib.Core.Path.{_≡_, ap, _∙_}
+use mathlib.Core.Path.{_∙_}
 use native.Mathlib.Omega.{arith}
 use denote.Ref.{now}
 use Rattle.arrays.specs.Arrays.{at}

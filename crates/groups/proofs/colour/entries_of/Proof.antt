@@ -11,7 +11,7 @@ use Rattle.groups.specs.declared.colour.Colour.{Colour}
 use Rattle.groups.specs.declared.colour.Colour.the-variants.{Even, Odd}
 use Rattle.groups.specs.Colour.{distance, coloured}
 use Rattle.groups.specs.Group.{groupIn}
-use Rattle.groups.proofs.Looking.{even-not-odd, odd-not-even, looked-own, looked-helped}
+use Rattle.groups.proofs.Entries.{even-not-odd, odd-not-even, entry-own, entry-helped}
 use Rattle.groups.proofs.colour.entries_of.Statement.{statement}
 use Rattle.groups.proofs.colour.entries_of.Tie as tie
 
@@ -42,10 +42,10 @@ module _ (c : tie.After-family-colour) where
   own : (x : Colour) → c .family-colour .result ≡ x → at (now (start .args .own)) k ≡ groupIn (start .args .nodes) h x k
   own x e =
       let p = start .pre .0 in
-      p .each-own k (start .pre .1) ∙ sym (looked-own (p .rooted) x k (start .pre .1) (found x e))
+      p .each-own k (start .pre .1) ∙ sym (entry-own (p .rooted) x k (start .pre .1) (found x e))
 
   helped : (x : Colour) → coloured x d ≡ false → c .before .before .helped-group .result ≡ groupIn (start .args .nodes) h x k
-  helped x e = c .before .before .helped-group .ensures ∙ sym (looked-helped (start .pre .0 .rooted) x k (start .pre .1) e)
+  helped x e = c .before .before .helped-group .ensures ∙ sym (entry-helped (start .pre .0 .rooted) x k (start .pre .1) e)
 
 returns : tie.Need-returns
 returns c =

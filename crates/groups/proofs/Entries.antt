@@ -1,4 +1,4 @@
--- A node's group is looked up by the colours of its own family and of its helpand's, which differ. Assumes nothing.
+-- A node's entries, from the colours of its own family and of its helpand's, which differ. Assumes nothing.
 use mathlib.Core.Path.{_≡_, refl, sym, ap, _∙_}
 use mathlib.Core.Logic.{_≢_, _⊎_, inl, inr}
 use mathlib.Core.Bool.{Bool, true, false, not, _&&_, and-false}
@@ -12,7 +12,7 @@ use Rattle.tree.proofs.Families.{helps-helpand}
 use Rattle.groups.specs.declared.colour.Colour.{Colour}
 use Rattle.groups.specs.declared.colour.Colour.the-variants.{Even, Odd}
 use Rattle.groups.specs.Colour.{distance, coloured}
-use Rattle.groups.specs.Group.{hasHelper, isGroup, none, groupIn}
+use Rattle.groups.specs.Group.{hasHelper, isGroup, groupIn}
 use Rattle.groups.specs.Inner.{Rooted, ownGroup, helpedGroup}
 use Rattle.groups.proofs.Distances.{distance-step}
 use Rattle.groups.proofs.Owners.{has-helper}
@@ -78,8 +78,8 @@ module _ {nodes : ℕ} {h : ℕ → ℕ} (t : Rooted nodes h) (c : Colour) where
     Is g = groupIn nodes h c k ≡ g
 
     -- the own family has the colour
-    pub looked-own : Coloured k true → Is (ownGroup nodes h k)
-    looked-own e = by (either (hasHelper nodes h k))
+    pub entry-own : Coloured k true → Is (ownGroup nodes h k)
+    entry-own e = by (either (hasHelper nodes h k))
       where
         by : (hasHelper nodes h k ≡ true) ⊎ (hasHelper nodes h k ≡ false) → Is (ownGroup nodes h k)
         by (inl y) = rw (group-has k e, y)
@@ -89,8 +89,8 @@ module _ {nodes : ℕ} {h : ℕ → ℕ} (t : Rooted nodes h) (c : Colour) where
         ]
 
     -- it has not: then the helpand's has it, where there is one
-    pub looked-helped : Coloured k false → Is (helpedGroup (h k) k)
-    looked-helped e = elim (ℕ-discrete (h k) k) [
+    pub entry-helped : Coloured k false → Is (helpedGroup (h k) k)
+    entry-helped e = elim (ℕ-discrete (h k) k) [
       | yes r ↦ rw (eq-eqb (h k) k r, r, group-not k e)
       | no d ↦
           rw (
