@@ -1,5 +1,5 @@
 -- In a plan of kind 1 or 2 nobody is left out: every node is in a group, and the root in its own, which is even. Assumes nothing.
-use mathlib.Core.Path.{_≡_, refl, sym, ap, _∙_}
+use mathlib.Core.Path.{_≡_, sym, ap, _∙_}
 use mathlib.Core.Logic.{_≢_, _⊎_, inl, inr}
 use mathlib.Core.Bool.{true}
 use mathlib.Core.List.{List}
@@ -19,7 +19,7 @@ use Rattle.tree.proofs.Families.{helps-yes, helps-helpand}
 use Rattle.groups.specs.declared.colour.Colour.{Colour}
 use Rattle.groups.specs.declared.colour.Colour.the-variants.{Even, Odd}
 use Rattle.groups.specs.Colour.{distance, coloured}
-use Rattle.groups.specs.Group.{hasHelper, isGroup, none, belongs}
+use Rattle.groups.specs.Group.{hasHelper, none, belongs}
 use Rattle.groups.specs.Groups.{groupsAnswer, groupsAfter, entryIn}
 use Rattle.groups.proofs.Distances.{distance-root, distance-is}
 use Rattle.groups.proofs.Owners.{has-helper}
