@@ -3,10 +3,9 @@ use mathlib.Core.Path.{_≡_, sym, ap, _∙_}
 use mathlib.Core.Logic.{_≢_, _⊎_, inl, inr}
 use mathlib.Core.Bool.{true}
 use mathlib.Core.List.{List}
-use Prim.Native.Nat.{ℕ, zero, suc, _<_, _≤_, _%_}
+use Prim.Native.Nat.{ℕ, zero, suc, _<_, _≤_}
 use native.Mathlib.Decide.{ℕ-discrete}
 use native.Mathlib.Omega.{arith}
-use borrow.Author.Tests.{eq-eqb}
 use lib.ListN.{length}
 use Rattle.fold.proofs.Tests.{and-both}
 use Rattle.arrays.specs.Arrays.{at}
@@ -17,21 +16,15 @@ use Rattle.plan.proofs.AcceptedTree.{accepted-tree}
 use Rattle.plan.proofs.Trees.{walk-none, walk-suc, walk-inside, tree-alone}
 use Rattle.tree.proofs.Families.{helps-yes, helps-helpand}
 use Rattle.groups.specs.declared.colour.Colour.{Colour}
-use Rattle.groups.specs.declared.colour.Colour.the-variants.{Even, Odd}
+use Rattle.groups.specs.declared.colour.Colour.the-variants.{Even}
 use Rattle.groups.specs.Colour.{distance, coloured}
 use Rattle.groups.specs.Group.{hasHelper, none, belongs}
 use Rattle.groups.specs.Groups.{groupsAnswer, groupsAfter, entryIn}
 use Rattle.groups.proofs.Distances.{distance-root, distance-is}
+use Rattle.groups.proofs.Entries.{some-colour}
 use Rattle.groups.proofs.Owners.{has-helper}
 use Rattle.groups.proofs.Together.{belongs-owner, belongs-helpand}
 use Rattle.groups.proofs.ReadBack.{plan-fine, groups-message}
-
--- every family has a colour
-some-colour : (d : ℕ) → (c : Colour) × (coloured c d ≡ true)
-some-colour d = elim (ℕ-discrete (d % 2) 0) [
-  | yes e ↦ (Even, eq-eqb (d % 2) 0 e)
-  | no c ↦ (Odd, eq-eqb (d % 2) 1 (omega arith))
-]
 
 -- a chain that leads to the root has a last node before it, which helps it
 module _ {n : ℕ} {h : ℕ → ℕ} {r : ℕ} (t : Tree n h r) where

@@ -44,23 +44,34 @@ module _ {n : ℕ} {h : ℕ → ℕ} (t : Rooted n h) (c : Colour) where
     abbrev entry : ℕ
     entry = groupIn n h c k
 
+    -- the own family is the group, or the helpand's, or there is none
+    abbrev Cases : Type 0
+    Cases = ((isGroup n h c k ≡ true) × (entry ≡ k)) ⊎ (((isGroup n h c (h k) ≡ true) × (entry ≡ h k)) ⊎ (entry ≡ none))
+
+    entry-is : Cases
+    entry-is = own (either (isGroup n h c k)) (either (isGroup n h c (h k)))
+      where
+        own : (isGroup n h c k ≡ true) ⊎ (isGroup n h c k ≡ false) → (isGroup n h c (h k) ≡ true) ⊎ (isGroup n h c (h k) ≡ false) → Cases
+        own (inl y) x = inl (y, rw y)
+        own (inr f) (inl y) = inr (inl (y, rw (f, y)))
+        own (inr f) (inr g) = inr (inr (rw (f, g)))
+
+    pub entry-node : (entry < n) ⊎ (entry ≡ none)
+    entry-node = by entry-is
+      where
+        by : Cases → (entry < n) ⊎ (entry ≡ none)
+        by (inl w) = inl (omega (arith, w .1))
+        by (inr (inl w)) = inl (omega (arith, w .1, t .inside k l))
+        by (inr (inr z)) = inr z
+
     -- the group that an entry names
     names : (m : ℕ) → m < n → entry ≡ m → inGroup n h c m k ≡ true
-    names m b e = own (either (isGroup n h c k))
+    names m b e = by entry-is
       where
-        helped : isGroup n h c k ≡ false → (isGroup n h c (h k) ≡ true) ⊎ (isGroup n h c (h k) ≡ false) → inGroup n h c m k ≡ true
-        helped f (inl y) =
-            let q : h k ≡ m = rw (f, y) at e in
-            rw (← q) (and-both (isGroup n h c (h k)) (belongs h (h k) k) y (belongs-helpand h k))
-        helped f (inr g) =
-            let q : none ≡ m = rw (f, g) at e in
-            absurd (omega (arith, t .few))
-
-        own : (isGroup n h c k ≡ true) ⊎ (isGroup n h c k ≡ false) → inGroup n h c m k ≡ true
-        own (inl y) =
-            let q : k ≡ m = rw y at e in
-            rw (← q) (and-both (isGroup n h c k) (belongs h k k) y (belongs-owner h k))
-        own (inr f) = helped f (either (isGroup n h c (h k)))
+        by : Cases → inGroup n h c m k ≡ true
+        by (inl w) = rw (sym e ∙ w .1) (and-both (isGroup n h c k) (belongs h k k) (w .0) (belongs-owner h k))
+        by (inr (inl w)) = rw (sym e ∙ w .1) (and-both (isGroup n h c (h k)) (belongs h (h k) k) (w .0) (belongs-helpand h k))
+        by (inr (inr z)) = absurd (omega (arith, e, z, t .few))
 
     -- the entry of a group's member
     named : (m : ℕ) → inGroup n h c m k ≡ true → entry ≡ m
@@ -74,22 +85,11 @@ module _ {n : ℕ} {h : ℕ → ℕ} (t : Rooted n h) (c : Colour) where
         by (inr y) =
             let q = helps-of h m k y in
             let colour = and-right (hasHelper n h m) (coloured c (distance n h m)) group in
-            let other = group-not t c k (helper-other t c k l (helper-below h m k y) (rw q colour)) in
+            let other = group-not n h c k (helper-other t c k l (helper-below h m k y) (rw q colour)) in
             rw (other, q, group)
 
     alone : (i m : ℕ) → inGroup n h c i k ≡ true → inGroup n h c m k ≡ true → i ≡ m
     alone i m e f = sym (named i e) ∙ named m f
-
-    pub entry-node : (entry < n) ⊎ (entry ≡ none)
-    entry-node = own (either (isGroup n h c k))
-      where
-        helped : isGroup n h c k ≡ false → (isGroup n h c (h k) ≡ true) ⊎ (isGroup n h c (h k) ≡ false) → (entry < n) ⊎ (entry ≡ none)
-        helped f (inl y) = inl (rw (f, y) (t .inside k l))
-        helped f (inr g) = inr (rw (f, g))
-
-        own : (isGroup n h c k ≡ true) ⊎ (isGroup n h c k ≡ false) → (entry < n) ⊎ (entry ≡ none)
-        own (inl y) = inl (rw y l)
-        own (inr f) = helped f (either (isGroup n h c (h k)))
 
   -- ---- two nodes
 
@@ -126,7 +126,7 @@ module _ {n : ℕ} {h : ℕ → ℕ} (t : Rooted n h) (c : Colour) where
     sharing : j ≢ k → OneFamily n h c j k → ShareEntry (groupIn n h c) j k
     sharing d o =
         let m = o .owner in
-        let group : isGroup n h c m ≡ true = group-has t c m (o .colour) ∙ pair-helped m d (o .first) (o .second) in
+        let group : isGroup n h c m ≡ true = group-has n h c m (o .colour) ∙ pair-helped m d (o .first) (o .second) in
         let first = named j lj m (and-both (isGroup n h c m) (belongs h m j) group (o .first)) in
         let second = named k lk m (and-both (isGroup n h c m) (belongs h m k) group (o .second)) in
         record { same = first ∙ sym second; some = λ z. omega (arith, first, o .node, t .few) }
@@ -143,6 +143,6 @@ message-groups {n} {h} t entry is = record {
   );
   named = λ c m k lm lk. (λ e. names t c k lk m lm (sym (is c k lk) ∙ e), λ g. is c k lk ∙ named t c k lk m g);
   alone = λ c i m k l. alone t c k l i m;
-  owner = λ c m l y e. is c m l ∙ rw (group-has t c m e, y);
+  owner = λ c m l y e. is c m l ∙ rw (group-has n h c m e, y);
   node = λ c k l. rw (is c k l) (entry-node t c k l);
 }

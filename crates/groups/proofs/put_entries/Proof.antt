@@ -28,9 +28,6 @@ loop-holds c =
 
 -- ---- a turn: the even entry is stored, then the odd one
 
-abbrev turn : tie.After-entries-of Inv-loop μ-loop → tie.In-loop Inv-loop μ-loop
-turn c = c .before
-
 abbrev start : tie.In-loop Inv-loop μ-loop → tie.Start Inv-loop μ-loop
 start c = c .before .before .before
 
