@@ -24,8 +24,9 @@ use Rattle.tree.proofs.Families.{helpers-eq}
 use Rattle.tree.proofs.Weighing.{least-is}
 use Rattle.tree.proofs.Keeping.{holds-at}
 use Rattle.shares.specs.Shares.{keptShare}
+use Rattle.shares.specs.Hold.{OwnInPlace}
 use Rattle.shares.specs.Levelled.{RestLevelled}
-use Rattle.shares.proofs.KeptShares.{KeptWithin, table-shares, table-levelled}
+use Rattle.shares.proofs.KeptShares.{KeptWithin, table-shares, table-levelled, table-in-place}
 use Rattle.rebuild.specs.Target.{targetOf}
 use Rattle.rebuild.proofs.TargetSums.{targets-within-limit, WithinTargets}
 use Rattle.rebuild.proofs.Rebuilding.{NewTree, rebuilt-on-target}
@@ -64,9 +65,11 @@ pub record KeptFine (nodes limit : ℕ) (totals old : List ℕ) (d : Decision) :
       let own = ownOf nodes (at (d .helpands)) (at totals) (at (d .shares)) in
       WithinLimit nodes (at (d .helpands)) (at totals) limit own (at (d .shares))
 
--- request 2026-03: the rest of each family is levelled; nothing stands behind the shares of the nodes
-pub record KeptLevelled (nodes limit : ℕ) (table totals old : List ℕ) (d : Decision) : Type 0 where
+-- requests 2026-03 and 2026-07: the rest of each family is levelled, and helpers' own particles are in place; nothing stands behind the
+-- shares of the nodes
+pub record KeptFamilies (nodes limit : ℕ) (table totals old : List ℕ) (d : Decision) : Type 0 where
   pub levelled : RestLevelled nodes (at old) limit (at (leastsOf nodes old totals limit)) (at totals) (held table) (at (d .shares))
+  pub in-place : OwnInPlace nodes (at old) limit (at (leastsOf nodes old totals limit)) (at totals) (held table) (at (d .shares))
   pub shares-end : at (take nodes (d .shares)) ≡ at (d .shares)
 
 -- kind 2 has a tree, and its shares are a division with every load equal to the node's target
@@ -157,10 +160,11 @@ module _ (nodes p t : ℕ) (table totals : List ℕ) (tree : Bool) (old : List �
           enough = kept-shares .enough;
         }
 
-    kept-levelled : KeptLevelled nodes limit table totals old (keptPlan nodes limit table totals old)
-    kept-levelled =
+    kept-families : KeptFamilies nodes limit table totals old (keptPlan nodes limit table totals old)
+    kept-families =
         record {
           levelled = table-levelled nodes r limit old leasts totals table rooted (g .counted) leasts-are leasts-hold;
+          in-place = table-in-place nodes r limit old leasts totals table rooted (g .counted) leasts-are leasts-hold;
           shares-end = take-at-tabulate nodes (keptShare nodes (at old) limit (at leasts) (at totals) (held table));
         }
 
@@ -208,14 +212,14 @@ module _ (nodes p t : ℕ) (table totals : List ℕ) (tree : Bool) (old : List �
   unfolding decided
   decided-rebuilt f h = simp (f, h) rebuilt-way
 
-  -- THEOREM. Where a tree is needed and the old one is kept, the rest of each family is levelled.
-  pub decided-levelled : primary nodes (at totals) limit ≡ false → tree ≡ true → decision .kind ≡ 1
-      → KeptLevelled nodes limit table totals old decision
-  decided-levelled f e k = by (either (holds nodes (at old) (at totals) limit))
+  -- THEOREM. Where a tree is needed and the old one is kept, the rest of each family is levelled, and helpers' own particles are in place.
+  pub decided-families : primary nodes (at totals) limit ≡ false → tree ≡ true → decision .kind ≡ 1
+      → KeptFamilies nodes limit table totals old decision
+  decided-families f e k = by (either (holds nodes (at old) (at totals) limit))
     where
       by : (holds nodes (at old) (at totals) limit ≡ true) ⊎ (holds nodes (at old) (at totals) limit ≡ false)
-          → KeptLevelled nodes limit table totals old decision
-      by (inl h) = unfold decided in let r = g .rooted e in simp (f, e, h) (kept-levelled (r .0) (r .1) h)
+          → KeptFamilies nodes limit table totals old decision
+      by (inl h) = unfold decided in let r = g .rooted e in simp (f, e, h) (kept-families (r .0) (r .1) h)
       by (inr h) = absurd (omega (arith, k, decided-rebuilt f (simp (e, h)) .kind))
 
   -- THEOREM. Whichever way it went, the plan is read back as what was written, and no owner's helpers are given more than there is.

@@ -19,7 +19,8 @@ use Rattle.arrays.specs.Arrays.{tabulate}
 use Rattle.tree.specs.Least.{leastWithin}
 use Rattle.tree.specs.Down.{down}
 use Rattle.shares.specs.Fill.{chosen, fill}
-use Rattle.shares.specs.Shares.{inFamily, space, beside, amount}
+use Rattle.shares.specs.Hold.{affords, reserve}
+use Rattle.shares.specs.Shares.{inFamily, space, beside, divided, amount}
 use Rattle.rebuild.specs.Target.{targetOf}
 use Rattle.rebuild.specs.Rebuild.{turnOf, startOf, runOf, finishOf, rebuiltOf}
 use Rattle.transfer.specs.Due.{dueWith}
@@ -31,7 +32,7 @@ use Rattle.planner.specs.Worked.{steps, expected, outcome}
 -- THEOREM. On steps A to K the definitions of *plan a step* give the answers, the plans and the moves of the list.
 pub steps-worked : map outcome steps ≡ map expected steps
 unfolding steps readSheet readHeader words encode rising runningSum limitOf readOld readPlan headAnswer arraysAnswer all sum reaches
-    tableOf countsFrom countAt tabulate collect decided leastWithin down amount space inFamily beside chosen fill rebuiltOf startOf runOf
-    turnOf finishOf targetOf best decisionIn planIn planBytes movesIn movesBytes dueWith matched writtenAnswer
+    tableOf countsFrom countAt tabulate collect decided leastWithin down amount affords reserve space inFamily beside divided chosen fill
+    rebuiltOf startOf runOf turnOf finishOf targetOf best decisionIn planIn planBytes movesIn movesBytes dueWith matched writtenAnswer
     stepAnswer
 steps-worked = refl

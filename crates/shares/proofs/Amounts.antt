@@ -1,29 +1,44 @@
--- What the members of one family get: laws of `amount`. They rest on what `fill` promises, in whatever order it fills. Assumes
--- nothing.
+-- What the members of one family get: laws of `divided` and of `amount`. They rest on what `fill` promises, in whatever order it fills.
+-- Assumes nothing.
 use mathlib.Core.Path.{_≡_}
-use mathlib.Core.Bool.{true}
+use mathlib.Core.Bool.{Bool, true, false, cond}
 use Prim.Native.Nat.{ℕ, _+_, _-_, _≤_, _<_, min}
 use native.Mathlib.Omega.{arith}
+use lib.Dec.{eqb}
 use Rattle.fold.specs.Sum.{only, sum}
 use Rattle.fold.proofs.Sums.{sum-le, sum-eq, sum-add, sum-fewer}
 use Rattle.tree.specs.Family.{helps, overHelpers}
-use Rattle.tree.proofs.Families.{helpers-eq, helpers-more}
+use Rattle.tree.proofs.Families.{helpers-more}
 use Rattle.shares.specs.Fill.{room}
-use Rattle.shares.specs.Shares.{space, beside, kept, rest, amount}
-use Rattle.shares.proofs.Spaces.{space-own, space-helper, family-part}
-use Rattle.shares.proofs.Levelled.{Levelled}
+use Rattle.shares.specs.Hold.{reserve}
+use Rattle.shares.specs.Shares.{inFamily, space, beside, kept, rest, divided, memberSpace, memberBeside, amount}
+use Rattle.shares.proofs.Spaces.{family-part, space-sum}
+use Rattle.shares.proofs.Levelled.{Levelled, levelled-one, levelled-eq}
+use Rattle.shares.proofs.LevelForm.{UpTo}
 use Rattle.shares.proofs.FillLaws.{levelled, fill-space, fill-keeps, fill-none, fill-sum}
 
-module _ (h : ℕ → ℕ) (limit : ℕ) (least holding : ℕ → ℕ) (r n : ℕ) where
+-- "L − Rn at n itself, and L − least at each helper", or L − hold: whoever has space is at the limit once it is full
+pub family-up-to : (nodes : ℕ) (h : ℕ → ℕ) (limit : ℕ) (reserve : ℕ → ℕ) (r n : ℕ)
+    → UpTo limit nodes (beside reserve r n) (space h limit reserve r n)
+unfolding space inFamily beside
+family-up-to nodes h limit reserve r n k l = each (eqb k n) (helps h n k)
+  where
+    each : (own help : Bool) → 0 < cond own (limit - r) (only help (limit - reserve k))
+        → cond own r (reserve k) + cond own (limit - r) (only help (limit - reserve k)) ≡ limit
+    each true help g = omega arith
+    each false true g = omega arith
+    each false false g = absurd (omega arith)
+
+module _ (h : ℕ → ℕ) (limit : ℕ) (reserve holding : ℕ → ℕ) (r n : ℕ) where
   abbrev spaces : ℕ → ℕ
-  spaces = space h limit least r n
+  spaces = space h limit reserve r n
 
   abbrev keeps : ℕ → ℕ
-  keeps = kept (space h limit least r n) holding
+  keeps = kept (space h limit reserve r n) holding
 
   -- what all members keep
   pub kept-sum : (nodes : ℕ) → n < nodes → sum nodes keeps ≡ keeps n + overHelpers nodes h n keeps
-  kept-sum = family-part h limit least r n keeps (λ k. omega arith)
+  kept-sum = family-part h limit reserve r n keeps (λ k. omega arith)
 
   -- what one helper more keeps is still there
   pub kept-left : (nodes k : ℕ) → n < nodes → k < nodes → helps h n k ≡ true
@@ -39,54 +54,105 @@ module _ (h : ℕ → ℕ) (limit : ℕ) (least holding : ℕ → ℕ) (r n : �
 
   -- what is kept and the rooms make up the spaces
   rooms-sum : (nodes : ℕ) → n < nodes
-      → sum nodes (room spaces keeps) + sum nodes keeps ≡ limit - r + overHelpers nodes h n (λ k. limit - least k)
+      → sum nodes (room spaces keeps) + sum nodes keeps ≡ limit - r + overHelpers nodes h n (λ k. limit - reserve k)
   rooms-sum nodes l =
       omega (
         arith,
         sum-add nodes (room spaces keeps) keeps,
         sum-eq nodes (λ k. room spaces keeps k + keeps k) spaces (λ k b. omega arith),
-        family-part h limit least r n spaces (λ k. omega arith) nodes l,
-        space-own h limit least r n,
-        helpers-eq nodes h n spaces (λ k. limit - least k) (λ k b y. space-helper h limit least r n k y),
+        space-sum h limit reserve r n nodes l,
       )
+
+-- ---- any spaces
+
+module _ (nodes : ℕ) (beside spaces : ℕ → ℕ) (total : ℕ) (holding : ℕ → ℕ) where
+  abbrev parts : ℕ → ℕ
+  parts = divided nodes beside spaces total holding
+
+  abbrev keep : ℕ → ℕ
+  keep = kept spaces holding
+
+  -- nobody gets more than its space, or less than it keeps
+  divided-space : (k : ℕ) → parts k ≤ spaces k
+  unfolding divided
+  divided-space k = fill-space nodes beside spaces keep (rest nodes total keep) k (omega arith)
+
+  divided-keeps : (k : ℕ) → k < nodes → min (spaces k) (holding k) ≤ parts k
+  unfolding divided
+  divided-keeps k l = fill-keeps nodes beside spaces keep (rest nodes total keep) k l
+
+  -- the parts are levelled
+  divided-levelled : Levelled nodes beside spaces keep (rest nodes total keep) parts
+  unfolding divided
+  divided-levelled = levelled nodes beside spaces keep (rest nodes total keep)
+
+  -- where there is no rest, each has what it keeps
+  pub divided-kept : rest nodes total keep ≡ 0 → (k : ℕ) → k < nodes → parts k ≡ keep k
+  unfolding divided
+  divided-kept e k l = rw e (fill-none nodes beside spaces keep k l)
+
+  -- and all is given, where there is room for it
+  divided-sum : rest nodes total keep ≤ sum nodes (room spaces keep) → sum nodes parts ≡ sum nodes keep + rest nodes total keep
+  unfolding divided
+  divided-sum = fill-sum nodes beside spaces keep (rest nodes total keep)
+
+-- only the spaces of the nodes matter, and what they have beside their amounts
+pub divided-same : (nodes : ℕ) (beside beside′ spaces spaces′ : ℕ → ℕ) (total : ℕ) (holding : ℕ → ℕ)
+    → ((k : ℕ) → k < nodes → beside k ≡ beside′ k) → ((k : ℕ) → k < nodes → spaces k ≡ spaces′ k)
+    → (k : ℕ) → k < nodes → divided nodes beside spaces total holding k ≡ divided nodes beside′ spaces′ total holding k
+divided-same nodes beside beside′ spaces spaces′ total holding b s =
+    levelled-one (rw same at (levelled-eq (divided-levelled nodes beside spaces total holding) b s keeps-same))
+    (divided-levelled nodes beside′ spaces′ total holding)
+  where
+    keeps-same : (k : ℕ) → k < nodes → kept spaces holding k ≡ kept spaces′ holding k
+    keeps-same k l = omega (arith, s k l)
+
+    same : rest nodes total (kept spaces holding) ≡ rest nodes total (kept spaces′ holding)
+    same = omega (arith, sum-eq nodes (kept spaces holding) (kept spaces′ holding) keeps-same)
+
+-- ---- the family of n
 
 module _ (nodes : ℕ) (h : ℕ → ℕ) (limit : ℕ) (least total : ℕ → ℕ) (held : ℕ → ℕ → ℕ) (r n : ℕ) where
   abbrev given : ℕ → ℕ
   given = amount nodes h limit least total held r n
 
   abbrev spaced : ℕ → ℕ
-  spaced = space h limit least r n
+  spaced = memberSpace nodes h limit least total held r n
+
+  abbrev besides : ℕ → ℕ
+  besides = memberBeside nodes h limit least total held r n
 
   abbrev keeping : ℕ → ℕ
-  keeping = kept (space h limit least r n) (λ j. held j n)
+  keeping = kept spaced (λ j. held j n)
+
+  -- a member that has space is at the limit once it is full
+  pub amount-up-to : UpTo limit nodes besides spaced
+  amount-up-to = family-up-to nodes h limit (reserve nodes h limit least total held r n) r n
 
   -- no member gets more than its space, or less than it keeps
   pub amount-space : (k : ℕ) → given k ≤ spaced k
   unfolding amount
-  amount-space k = fill-space nodes (beside least r n) spaced keeping (rest nodes (total n) keeping) k (omega arith)
+  amount-space = divided-space nodes besides spaced (total n) (λ j. held j n)
 
   pub amount-keeps : (k : ℕ) → k < nodes → min (spaced k) (held k n) ≤ given k
   unfolding amount
-  amount-keeps k l = fill-keeps nodes (beside least r n) spaced keeping (rest nodes (total n) keeping) k l
+  amount-keeps = divided-keeps nodes besides spaced (total n) (λ j. held j n)
 
   -- they are levelled
-  pub amount-levelled : Levelled nodes (beside least r n) spaced keeping (rest nodes (total n) keeping) given
+  pub amount-levelled : Levelled nodes besides spaced keeping (rest nodes (total n) keeping) given
   unfolding amount
-  amount-levelled = levelled nodes (beside least r n) spaced keeping (rest nodes (total n) keeping)
-
-  -- where there is no rest, each has what it keeps
-  pub amount-kept : rest nodes (total n) keeping ≡ 0 → (k : ℕ) → k < nodes → given k ≡ keeping k
-  unfolding amount
-  amount-kept e k l = rw e (fill-none nodes (beside least r n) spaced keeping k l)
+  amount-levelled = divided-levelled nodes besides spaced (total n) (λ j. held j n)
 
   -- and the members get all, where they have space for it
-  pub amount-whole : n < nodes → sum nodes (λ k. held k n) ≡ total n → total n ≤ limit - r + overHelpers nodes h n (λ k. limit - least k)
+  pub amount-whole : n < nodes → sum nodes (λ k. held k n) ≡ total n
+      → total n ≤ limit - r + overHelpers nodes h n (λ k. limit - reserve nodes h limit least total held r n k)
       → given n + overHelpers nodes h n given ≡ total n
   amount-whole l e f =
+      let reserves = reserve nodes h limit least total held r n in
       let under = sum-le nodes keeping (λ k. held k n) (λ k b. omega arith) in
-      let room = rooms-sum h limit least (λ j. held j n) r n nodes l in
-      omega (arith, family-part h limit least r n given amount-space nodes l, summed (omega arith), under)
+      let room = rooms-sum h limit reserves (λ j. held j n) r n nodes l in
+      omega (arith, family-part h limit reserves r n given amount-space nodes l, summed (omega arith), under)
     where
       summed : rest nodes (total n) keeping ≤ sum nodes (room spaced keeping)
           → sum nodes given ≡ sum nodes keeping + rest nodes (total n) keeping
-      summed = unfold amount in fill-sum nodes (beside least r n) spaced keeping (rest nodes (total n) keeping)
+      summed = unfold amount in divided-sum nodes besides spaced (total n) (λ j. held j n)

@@ -10,6 +10,7 @@ use Rattle.tree.specs.Down.{Descends}
 use Rattle.tree.specs.Division.{ownOf}
 use Rattle.tree.proofs.Families.{helps-helpand, helpers-eq, family-sum}
 use Rattle.shares.specs.Fill.{room}
+use Rattle.shares.specs.Hold.{reserve}
 use Rattle.shares.specs.Shares.{space, beside, kept, rest, amount, keptShare}
 use Rattle.shares.specs.Levelled.{partOf, RestLevelled}
 use Rattle.shares.proofs.Levelled.{Levelled, levelled-one}
@@ -26,8 +27,11 @@ module _ {nodes : ℕ} {h : ℕ → ℕ} {limit : ℕ} {least total : ℕ → �
     abbrev part : ℕ → ℕ
     part = partOf nodes h total share n
 
+    abbrev reserves : ℕ → ℕ
+    reserves = reserve nodes h limit least total held (share n) n
+
     abbrev spaces : ℕ → ℕ
-    spaces = space h limit least (share n) n
+    spaces = space h limit reserves (share n) n
 
     abbrev keeps : ℕ → ℕ
     keeps = kept spaces (λ j. held j n)
@@ -38,23 +42,23 @@ module _ {nodes : ℕ} {h : ℕ → ℕ} {limit : ℕ} {least total : ℕ → �
     part-keeps : (k : ℕ) → k < nodes → keeps k ≤ part k
     part-keeps =
         each-node h n (λ k. k < nodes → keeps k ≤ part k)
-        (λ b. omega (arith, own-is, space-own h limit least (share n) n, w .own-keeps n l))
+        (λ b. omega (arith, own-is, space-own h limit reserves (share n) n, w .own-keeps n l))
         (λ k y b. omega (
           arith,
           family-helper h n (ownOf nodes h total share n) share k y,
-          space-helper h limit least (share n) n k y,
+          space-helper h limit reserves (share n) n k y,
           w .helper-keeps n k b y,
         ))
-        (λ k d y b. omega (arith, space-other h limit least (share n) n k d y))
+        (λ k d y b. omega (arith, space-other h limit reserves (share n) n k d y))
 
     part-space : (k : ℕ) → k < nodes → part k ≤ spaces k
     part-space =
         each-node h n (λ k. k < nodes → part k ≤ spaces k)
-        (λ b. omega (arith, own-is, space-own h limit least (share n) n, w .own-space n l))
+        (λ b. omega (arith, own-is, space-own h limit reserves (share n) n, w .own-space n l))
         (λ k y b. omega (
           arith,
           family-helper h n (ownOf nodes h total share n) share k y,
-          space-helper h limit least (share n) n k y,
+          space-helper h limit reserves (share n) n k y,
           w .helper-space n k b y,
         ))
         (λ k d y b. omega (arith, family-other h n (ownOf nodes h total share n) share k d y))
@@ -70,7 +74,7 @@ module _ {nodes : ℕ} {h : ℕ → ℕ} {limit : ℕ} {least total : ℕ → �
           w .enough n l,
         )
 
-    part-levelled : Levelled nodes (beside least (share n) n) spaces keeps (rest nodes (total n) keeps) part
+    part-levelled : Levelled nodes (beside reserves (share n) n) spaces keeps (rest nodes (total n) keeps) part
     part-levelled =
         record {
           keeps = part-keeps;

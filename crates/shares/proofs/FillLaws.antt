@@ -1,6 +1,6 @@
 -- Laws of `fill`, all that is used of it elsewhere: no member gets more than its space or less than it keeps, all of the rest is given
 -- where there is room for it, the amounts are levelled, and the level form is the same. Assumes nothing.
-use mathlib.Core.Path.{_≡_}
+use mathlib.Core.Path.{_≡_, refl}
 use Prim.Native.Nat.{ℕ, _+_, _-_, _≤_, _<_}
 use native.Mathlib.Decide.{decLt}
 use native.Mathlib.Omega.{arith}
@@ -23,7 +23,8 @@ module _ (nodes : ℕ) (beside space kept : ℕ → ℕ) (rest : ℕ) where
 
   pub levelled : Levelled nodes beside space kept rest filled
   levelled =
-      levelled-eq (fill-levelled nodes beside space (tabulate nodes kept) rest (tabulate-long nodes kept)) (tabulate-at nodes kept)
+      levelled-eq (fill-levelled nodes beside space (tabulate nodes kept) rest (tabulate-long nodes kept)) (λ k l. refl) (λ k l. refl)
+      (tabulate-at nodes kept)
 
   pub fill-space : (k : ℕ) → kept k ≤ space k → filled k ≤ space k
   fill-space k h = elim (decLt k nodes) [

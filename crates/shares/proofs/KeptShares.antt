@@ -1,12 +1,15 @@
 -- Theorem 3: the shares in a tree that holds are a division within the limit, whoever held the particles before. An owner's share leaves
--- it space for its least, so its family has space for all of its subdomain, and all of the rest is given. Assumes nothing.
+-- it space for its least, so its family has space for all of its subdomain, with holds where it can afford them and with leasts otherwise,
+-- and all of the rest is given. Assumes nothing.
 use mathlib.Core.Path.{_≡_, refl, sym, ap, _∙_}
-use mathlib.Core.Bool.{true}
+use mathlib.Core.Logic.{_⊎_, inl, inr}
+use mathlib.Core.Bool.{Bool, true, false}
 use mathlib.Core.List.{List}
 use Prim.Native.Nat.{ℕ, _+_, _-_, _≤_, _<_, min}
 use native.Mathlib.Decide.{decLt}
 use native.Mathlib.Omega.{arith}
 use Rattle.fold.specs.Sum.{sum}
+use Rattle.fold.proofs.Tests.{either}
 use Rattle.plan.specs.Tree.{Tree}
 use Rattle.sheet.specs.Table.{held}
 use Rattle.tree.specs.Family.{helps, overHelpers}
@@ -14,10 +17,13 @@ use Rattle.tree.specs.Down.{Descends}
 use Rattle.tree.specs.Division.{WithinLimit, ownOf}
 use Rattle.arrays.specs.Arrays.{at}
 use Rattle.tree.proofs.Filling.{Fills, family-room, share-spare, helpers-most, own-filled, descends-within, down-descends, descends-only, descends-at, descends-same}
-use Rattle.shares.specs.Shares.{amount, keptShare, keptShares}
+use Rattle.tree.proofs.Families.{helpers-eq}
+use Rattle.shares.specs.Hold.{hold, affords, reserve, OwnInPlace}
+use Rattle.shares.specs.Shares.{space, amount, keptShare, keptShares}
 use Rattle.shares.specs.Levelled.{partOf, RestLevelled}
-use Rattle.shares.proofs.Spaces.{family-own, family-helper, family-other, each-node, space-own, space-helper, space-other, beside-own, beside-helper}
-use Rattle.shares.proofs.Amounts.{amount-space, amount-keeps, amount-levelled, amount-whole}
+use Rattle.shares.proofs.Spaces.{family-own, family-helper, family-other, each-node, space-own, space-helper, space-other, space-sum}
+use Rattle.shares.proofs.Holds.{reserve-hold, reserve-least, reserve-more, hold-suffices}
+use Rattle.shares.proofs.Amounts.{amount-up-to, amount-space, amount-keeps, amount-levelled, amount-whole}
 use Rattle.arrays.proofs.Tabulate.{tabulate-at}
 use Rattle.sheet.specs.Totals.{totalOf, totalsOf}
 
@@ -53,19 +59,67 @@ pub record KeptWithin (nodes : ℕ) (h : ℕ → ℕ) (limit : ℕ) (least total
   -- no member gets more than its space, and what it holds already it keeps, up to its space
   pub own-space : (n : ℕ) → n < nodes → ownOf nodes h total share n ≤ limit - share n
   pub own-keeps : (n : ℕ) → n < nodes → min (limit - share n) (held n n) ≤ ownOf nodes h total share n
-  pub helper-space : (n k : ℕ) → k < nodes → helps h n k ≡ true → share k ≤ limit - least k
-  pub helper-keeps : (n k : ℕ) → k < nodes → helps h n k ≡ true → min (limit - least k) (held k n) ≤ share k
+  pub helper-space : (n k : ℕ) → k < nodes → helps h n k ≡ true → share k ≤ limit - reserve nodes h limit least total held (share n) n k
+  pub helper-keeps : (n k : ℕ) → k < nodes → helps h n k ≡ true
+      → min (limit - reserve nodes h limit least total held (share n) n k) (held k n) ≤ share k
 
 module _ {nodes : ℕ} {h : ℕ → ℕ} {limit : ℕ} {least total : ℕ → ℕ} {held : ℕ → ℕ → ℕ} (t : Holding nodes h limit least total held) where
+  -- THEOREM. A helper whose share is at most the limit less its hold can still keep its own family within the limit, by the leasts: hold is
+  -- at least least.
+  pub hold-leaves : (k r : ℕ) → k < nodes → r ≤ limit - hold limit least held k → total k ≤ sum nodes (space h limit least r k)
+  hold-leaves k r l s =
+      omega (
+        arith,
+        family-room nodes h total limit least k r (t .leasts k l) (t .holds k l) (omega arith),
+        space-sum h limit least r k nodes l,
+      )
+
+  -- a family has space for all of its subdomain, with holds or with leasts
+  family-space : (n r : ℕ) → n < nodes → r ≤ limit - least n
+      → total n ≤ limit - r + overHelpers nodes h n (λ k. limit - reserve nodes h limit least total held r n k)
+  family-space n r l s = by (either afforded)
+    where
+      reserves : ℕ → ℕ
+      reserves = reserve nodes h limit least total held r n
+
+      afforded : Bool
+      afforded = affords nodes h limit (hold limit least held) total r n
+
+      by : (afforded ≡ true) ⊎ (afforded ≡ false) → total n ≤ limit - r + overHelpers nodes h n (λ k. limit - reserves k)
+      by (inl e) =
+          omega (
+            arith,
+            hold-suffices nodes h limit least total held r n l (t .holds) (omega arith) e,
+            space-sum h limit (hold limit least held) r n nodes l,
+            helpers-eq nodes h n (λ k. limit - reserves k) (λ k. limit - hold limit least held k)
+                (λ k b y. ap (λ (x : ℕ). limit - x) (reserve-hold nodes h limit least total held r n e k)),
+          )
+      by (inr e) =
+          omega (
+            arith,
+            family-room nodes h total limit least n r (t .leasts n l) (t .holds n l) s,
+            helpers-eq nodes h n (λ k. limit - reserves k) (λ k. limit - least k)
+                (λ k b y. ap (λ (x : ℕ). limit - x) (reserve-least nodes h limit least total held r n e k)),
+          )
+
   -- the amounts fill each family
   fills : Fills nodes h total limit least (amount nodes h limit least total held)
   fills =
       record {
-        owner = λ r n. omega (arith, amount-space nodes h limit least total held r n n, space-own h limit least r n);
-        helper = λ r n k y. omega (arith, amount-space nodes h limit least total held r n k, space-helper h limit least r n k y);
-        whole = λ r n l s.
-            amount-whole nodes h limit least total held r n l (t .adds n l)
-            (family-room nodes h total limit least n r (t .leasts n l) (t .holds n l) s);
+        owner = λ r n.
+            omega (
+              arith,
+              amount-space nodes h limit least total held r n n,
+              space-own h limit (reserve nodes h limit least total held r n) r n,
+            );
+        helper = λ r n k y.
+            omega (
+              arith,
+              amount-space nodes h limit least total held r n k,
+              space-helper h limit (reserve nodes h limit least total held r n) r n k y,
+              reserve-more nodes h limit least total held r n k,
+            );
+        whole = λ r n l s. amount-whole nodes h limit least total held r n l (t .adds n l) (family-space n r l s);
       }
 
   -- THEOREM 3. Shares from the root down in a tree that holds are a division within the limit, and keep in place what they can.
@@ -83,17 +137,30 @@ module _ {nodes : ℕ} {h : ℕ → ℕ} {limit : ℕ} {least total : ℕ → �
               arith,
               own-filled fills s n l,
               amount-keeps nodes h limit least total held (share n) n n l,
-              space-own h limit least (share n) n,
+              space-own h limit (reserve nodes h limit least total held (share n) n) (share n) n,
             );
-        helper-space = λ n k l y. share-spare fills s k l;
+        helper-space = λ n k l y.
+            omega (
+              arith,
+              descends-at s n k (share n) l y refl,
+              amount-space nodes h limit least total held (share n) n k,
+              space-helper h limit (reserve nodes h limit least total held (share n) n) (share n) n k y,
+            );
         helper-keeps = λ n k l y.
             omega (
               arith,
               descends-at s n k (share n) l y refl,
               amount-keeps nodes h limit least total held (share n) n k l,
-              space-helper h limit least (share n) n k y,
+              space-helper h limit (reserve nodes h limit least total held (share n) n) (share n) n k y,
             );
       }
+
+  -- ---- request 2026-07, by the shares alone
+
+  -- THEOREM. Each helper of a family that can afford the holds has of its own subdomain at least what it held already, capped at the limit.
+  pub own-in-place : (share : ℕ → ℕ) → KeptWithin nodes h limit least total held share → OwnInPlace nodes h limit least total held share
+  own-in-place share w n k l b y e =
+      omega (arith, w .own-keeps k b, w .helper-space n k b y, reserve-hold nodes h limit least total held (share n) n e k)
 
   -- ---- request 2026-03, by the shares alone
 
@@ -110,7 +177,7 @@ module _ {nodes : ℕ} {h : ℕ → ℕ} {limit : ℕ} {least total : ℕ → �
           arith,
           family-other h n own share k d y,
           amount-space nodes h limit least total held (share n) n k,
-          space-other h limit least (share n) n k d y,
+          space-other h limit (reserve nodes h limit least total held (share n) n) (share n) n k d y,
         ))
 
     -- THEOREM. No member that was given a particle stands more than one above a member that still has space, nor at all above one of
@@ -160,20 +227,26 @@ module _ (nodes root limit : ℕ) (helpands leasts totals table : List ℕ) (t :
   pub table-levelled : RestLevelled nodes (at helpands) limit (at leasts) (at totals) (held table) (at arrayed)
   table-levelled = rest-levelled counted (at arrayed) descended
 
+  -- and helpers' own particles are in place
+  pub table-in-place : OwnInPlace nodes (at helpands) limit (at leasts) (at totals) (held table) (at arrayed)
+  table-in-place = own-in-place counted (at arrayed) table-shares
+
 -- ---- "owners sit at the limit while their helpers idle": no more
 
 module _ {nodes : ℕ} {h : ℕ → ℕ} {limit : ℕ} {least total : ℕ → ℕ} {held : ℕ → ℕ → ℕ} {share : ℕ → ℕ} where
   -- THEOREM. Where an owner was given a particle of the rest and is at the limit, each of its helpers stands at most one below it.
   pub helpers-level : RestLevelled nodes h limit least total held share → (n k : ℕ) → n < nodes → k < nodes → helps h n k ≡ true
       → min (limit - share n) (held n n) < ownOf nodes h total share n → share n + ownOf nodes h total share n ≡ limit
-      → limit ≤ least k + share k + 1
+      → limit ≤ reserve nodes h limit least total held (share n) n k + share k + 1
   helpers-level p n k l b y g e =
       let own = ownOf nodes h total share n in
+      let reserves = reserve nodes h limit least total held (share n) n in
+      let up = amount-up-to nodes h limit least total held (share n) n in
       let part = family-own h n own share in
       let part-k = family-helper h n own share k y in
-      let space = space-own h limit least (share n) n in
-      let space-k = space-helper h limit least (share n) n k y in
-      elim (decLt (share k) (limit - least k)) [
+      let space = space-own h limit reserves (share n) n in
+      let space-k = space-helper h limit reserves (share n) n k y in
+      elim (decLt (share k) (limit - reserves k)) [
         | yes d ↦
             omega (
               arith,
@@ -186,8 +259,10 @@ module _ {nodes : ℕ} {h : ℕ → ℕ} {limit : ℕ} {least total : ℕ → �
               }),
               part,
               part-k,
-              beside-own least (share n) n,
-              beside-helper h least (share n) n k y,
+              space,
+              space-k,
+              up n l (omega (arith, space)),
+              up k b (omega (arith, space-k)),
             )
         | no d ↦ omega arith
       ]

@@ -62,22 +62,27 @@ module _ {nodes : ℕ} {beside space kept : ℕ → ℕ} {rest : ℕ} where
       → (k : ℕ) → k < nodes → a k ≡ b k
   levelled-one p q k l = omega (arith, not-above p q k l, not-above q p k l)
 
--- only what the nodes keep matters
-pub levelled-eq : {nodes : ℕ} {beside space kept kept′ : ℕ → ℕ} {rest : ℕ} {a : ℕ → ℕ} → Levelled nodes beside space kept rest a
-    → ((k : ℕ) → k < nodes → kept k ≡ kept′ k) → Levelled nodes beside space kept′ rest a
-levelled-eq {nodes} {beside} {space} {kept} {kept′} p e =
+-- only what is true of the nodes matters
+pub levelled-eq : {nodes : ℕ} {beside beside′ space space′ kept kept′ : ℕ → ℕ} {rest : ℕ} {a : ℕ → ℕ}
+    → Levelled nodes beside space kept rest a → ((k : ℕ) → k < nodes → beside k ≡ beside′ k)
+    → ((k : ℕ) → k < nodes → space k ≡ space′ k) → ((k : ℕ) → k < nodes → kept k ≡ kept′ k)
+    → Levelled nodes beside′ space′ kept′ rest a
+levelled-eq {nodes} {beside} {beside′} {space} {space′} {kept} {kept′} p b s e =
     record {
       keeps = λ k l. omega (arith, p .keeps k l, e k l);
-      fits = λ k l. omega (arith, p .fits k l, e k l);
+      fits = λ k l. omega (arith, p .fits k l, s k l, e k l);
       adds =
           omega (
             arith,
             p .adds,
             sum-eq nodes kept kept′ e,
-            sum-eq nodes (room space kept) (room space kept′) (λ k l. ap (λ (x : ℕ). space k - x) (e k l)),
+            sum-eq nodes (room space kept) (room space′ kept′) (λ k l. omega (arith, s k l, e k l)),
           );
-      near = λ j k lj lk g h. p .near j k lj lk (omega (arith, e j lj)) h;
-      ties = λ j k lj b g h. p .ties j k lj b (omega (arith, e j lj)) h;
+      near = λ j k lj lk g h.
+          omega (arith, p .near j k lj lk (omega (arith, e j lj)) (omega (arith, s k lk)), b j lj, b k lk);
+      ties = λ j k lj c g h.
+          let lk : k < nodes = omega arith in
+          omega (arith, p .ties j k lj c (omega (arith, e j lj)) (omega (arith, s k lk)), b j lj, b k lk);
     }
 
 -- ---- one particle after another leads to it

@@ -1,4 +1,5 @@
 pub mod Spaces
+pub mod Holds
 pub mod Levelled
 pub mod LevelForm
 pub mod Raising
@@ -7,6 +8,7 @@ pub mod Amounts
 pub mod Filling
 pub mod Summing
 pub mod Noting
+pub mod Dividing
 pub mod KeptShares
 pub mod Determined
 pub mod Vectors

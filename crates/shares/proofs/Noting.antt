@@ -51,6 +51,11 @@ module _ {h : ℕ → ℕ} {n : ℕ} {amount : ℕ → ℕ} {before : List ℕ} 
         ];
       }
 
+-- the same amounts are noted
+pub noted-eq : {nodes : ℕ} {h : ℕ → ℕ} {n : ℕ} {amount amount′ : ℕ → ℕ} {before after : List ℕ} → Noted h n amount nodes before after
+    → ((k : ℕ) → k < nodes → amount k ≡ amount′ k) → Noted h n amount′ nodes before after
+noted-eq p e = record { helper = λ k l y. p .helper k l y ∙ e k l; other = p .other }
+
 -- ---- a loop that notes the helpers of n, and takes a part of something for each: those below k are noted
 
 pub record NotedSoFar (nodes : ℕ) (h : ℕ → ℕ) (n : ℕ) (amount part : ℕ → ℕ) (x : ℕ) (before out : List ℕ) (left k : ℕ) : Type 0 where

@@ -14,20 +14,21 @@ use Rattle.fold.proofs.Tests.{either, only-is, only-not, only-max}
 use Rattle.tree.specs.Family.{helps, overHelpers}
 use Rattle.tree.proofs.Families.{helpers-none, helpers-next, helpers-more, family-sum}
 
-pub record Summed (nodes : ℕ) (h : ℕ → ℕ) (n : ℕ) (part : ℕ → ℕ) (total k : ℕ) : Type 0 where
+-- the owner has this, and each helper its part
+pub record Summed (nodes : ℕ) (h : ℕ → ℕ) (n own : ℕ) (part : ℕ → ℕ) (total k : ℕ) : Type 0 where
   pub k-le : k ≤ nodes
   pub helper : k < nodes → helps h n k ≡ true
-  pub total-is : total ≡ part n + overHelpers k h n part
+  pub total-is : total ≡ own + overHelpers k h n part
 
-module _ {nodes : ℕ} {h : ℕ → ℕ} {n : ℕ} {part : ℕ → ℕ} where
+module _ {nodes : ℕ} {h : ℕ → ℕ} {n own : ℕ} {part : ℕ → ℕ} where
   -- the owner alone
-  pub summed-first : {total k : ℕ} → total ≡ part n → FirstFrom nodes (helps h n) 0 k → Summed nodes h n part total k
+  pub summed-first : {total k : ℕ} → total ≡ own → FirstFrom nodes (helps h n) 0 k → Summed nodes h n own part total k
   summed-first e y =
       record { k-le = y .to-le; helper = y .passes; total-is = omega (arith, e, helpers-none h n part, helpers-next h n part y) }
 
   -- helper k too
-  pub summed-next : {total k more to : ℕ} → Summed nodes h n part total k → k < nodes → more ≡ part k
-      → FirstFrom nodes (helps h n) (k + 1) to → Summed nodes h n part (total + more) to
+  pub summed-next : {total k more to : ℕ} → Summed nodes h n own part total k → k < nodes → more ≡ part k
+      → FirstFrom nodes (helps h n) (k + 1) to → Summed nodes h n own part (total + more) to
   summed-next {k = k} p l e y =
       record {
         k-le = y .to-le;
@@ -35,24 +36,26 @@ module _ {nodes : ℕ} {h : ℕ → ℕ} {n : ℕ} {part : ℕ → ℕ} where
         total-is = omega (arith, p .total-is, e, helpers-more h n part k (p .helper l), helpers-next h n part y);
       }
 
-  -- the whole family, where other nodes have no part
-  pub summed-all : {total k : ℕ} → Summed nodes h n part total k → nodes ≤ k → n < nodes
-      → ((j : ℕ) → j ≢ n → helps h n j ≡ false → part j ≡ 0) → total ≡ sum nodes part
-  summed-all {total} {k} p l b other =
+  -- all helpers
+  pub summed-end : {total k : ℕ} → Summed nodes h n own part total k → nodes ≤ k → total ≡ own + overHelpers nodes h n part
+  summed-end {total} {k} p l =
       let e : k ≡ nodes = omega (arith, p .k-le) in
-      let t : total ≡ part n + overHelpers nodes h n part = rw e at (p .total-is) in
-      omega (arith, t, family-sum h n part nodes b other)
+      rw e at (p .total-is)
 
   -- a sum of small parts is small
-  pub summed-most : {total k : ℕ} (most : ℕ) → Summed nodes h n part total k → ((j : ℕ) → part j ≤ most) → total ≤ k * most + most
+  pub summed-most : {total k : ℕ} (most : ℕ) → Summed nodes h n own part total k → ((j : ℕ) → part j ≤ most) → total ≤ k * most + own
   summed-most {total} {k} most p b =
       omega (
         arith,
         p .total-is,
-        b n,
         sum-le k (λ j. only (helps h n j) (part j)) (λ j. most) (λ j l. omega (arith, only-max (helps h n j) (part j), b j)),
         sum-const k most,
       )
+
+-- the whole family, where other nodes have no part
+pub summed-all : {nodes : ℕ} {h : ℕ → ℕ} {n : ℕ} {part : ℕ → ℕ} {total k : ℕ} → Summed nodes h n (part n) part total k → nodes ≤ k
+    → n < nodes → ((j : ℕ) → j ≢ n → helps h n j ≡ false → part j ≡ 0) → total ≡ sum nodes part
+summed-all {nodes} {h} {n} {part} p l b other = omega (arith, summed-end p l, family-sum h n part nodes b other)
 
 -- ---- members in the order of their numbers: what those below k add up to
 

@@ -10,21 +10,30 @@ use Rattle.arrays.specs.Arrays.{at, tabulate}
 use Rattle.sheet.specs.Table.{held}
 use Rattle.tree.specs.Family.{helps}
 use Rattle.shares.specs.Fill.{room, fill}
-use Rattle.shares.specs.Shares.{inFamily, space, beside, kept, rest, amount, keptShare}
+use Rattle.shares.specs.Hold.{hold}
+use Rattle.shares.specs.Shares.{inFamily, space, beside, kept, rest, divided, amount, keptShare}
 
--- ---- the terms of 'Shares in a kept tree' for the arrays of a step: r is the share of n
+-- ---- the terms of 'Shares in a kept tree' for the arrays of a step: r is the share of n, and each helper's hold or least is its reserve
 
 abbrev pub spacesIn : ℕ → List ℕ → List ℕ → ℕ → ℕ → ℕ → ℕ
-spacesIn limit helpands leasts r n = space (at helpands) limit (at leasts) r n
+spacesIn limit helpands reserves r n = space (at helpands) limit (at reserves) r n
 
 abbrev pub keepsIn : ℕ → List ℕ → List ℕ → List ℕ → ℕ → ℕ → ℕ → ℕ
-keepsIn limit helpands leasts table r n = kept (spacesIn limit helpands leasts r n) (λ j. held table j n)
+keepsIn limit helpands reserves table r n = kept (spacesIn limit helpands reserves r n) (λ j. held table j n)
 
 abbrev pub roomsIn : ℕ → List ℕ → List ℕ → List ℕ → ℕ → ℕ → ℕ → ℕ
-roomsIn limit helpands leasts table r n = room (spacesIn limit helpands leasts r n) (keepsIn limit helpands leasts table r n)
+roomsIn limit helpands reserves table r n = room (spacesIn limit helpands reserves r n) (keepsIn limit helpands reserves table r n)
 
 abbrev pub restIn : ℕ → ℕ → List ℕ → List ℕ → List ℕ → List ℕ → ℕ → ℕ → ℕ
-restIn nodes limit helpands leasts totals table r n = rest nodes (at totals n) (keepsIn limit helpands leasts table r n)
+restIn nodes limit helpands reserves totals table r n = rest nodes (at totals n) (keepsIn limit helpands reserves table r n)
+
+abbrev pub dividedIn : ℕ → ℕ → List ℕ → List ℕ → List ℕ → List ℕ → ℕ → ℕ → ℕ → ℕ
+dividedIn nodes limit helpands reserves totals table r n =
+    divided nodes (beside (at reserves) r n) (spacesIn limit helpands reserves r n) (at totals n) (λ j. held table j n)
+
+-- the holds of all nodes
+abbrev pub holdsOf : ℕ → ℕ → List ℕ → List ℕ → List ℕ
+holdsOf nodes limit leasts table = tabulate nodes (hold limit (at leasts) (held table))
 
 abbrev pub amountsIn : ℕ → ℕ → List ℕ → List ℕ → List ℕ → List ℕ → ℕ → ℕ → ℕ → ℕ
 amountsIn nodes limit helpands leasts totals table r n = amount nodes (at helpands) limit (at leasts) (at totals) (held table) r n
@@ -44,12 +53,13 @@ abbrev pub amountsNow : List ℕ → ℕ → ℕ → List ℕ → ℕ → ℕ
 amountsNow helpands n own noted = inFamily (at helpands) n own (at noted)
 
 abbrev pub roomsNow : ℕ → List ℕ → List ℕ → ℕ → ℕ → List ℕ → ℕ → ℕ
-roomsNow limit helpands leasts n own noted = inFamily (at helpands) n own (λ k. limit - at leasts k - at noted k)
+roomsNow limit helpands reserves n own noted = inFamily (at helpands) n own (λ k. limit - at reserves k - at noted k)
 
 -- what each node has once a rest is filled in
 abbrev pub filledIn : ℕ → ℕ → List ℕ → List ℕ → ℕ → ℕ → ℕ → ℕ → List ℕ → ℕ → ℕ
-filledIn nodes limit helpands leasts r own rest n noted =
-    at (fill nodes (beside (at leasts) r n) (spacesIn limit helpands leasts r n) (tabulate nodes (amountsNow helpands n own noted)) rest)
+filledIn nodes limit helpands reserves r own rest n noted =
+    at
+    (fill nodes (beside (at reserves) r n) (spacesIn limit helpands reserves r n) (tabulate nodes (amountsNow helpands n own noted)) rest)
 
 -- ---- the level: rooms are brought down to it together
 

@@ -3,7 +3,7 @@
 use Prim.Native.Nat.{ℕ, _+_, _≤_, _<_}
 use Rattle.tree.specs.Division.{ownOf}
 use Rattle.shares.specs.Fill.{standingLoad}
-use Rattle.shares.specs.Shares.{inFamily, space, beside, kept}
+use Rattle.shares.specs.Shares.{inFamily, kept, memberSpace, memberBeside}
 
 -- what each node has of subdomain n: the owner Pn less its helpers' shares, a helper its share, and any other node nothing
 abbrev pub partOf : ℕ → (ℕ → ℕ) → (ℕ → ℕ) → (ℕ → ℕ) → ℕ → ℕ → ℕ
@@ -14,16 +14,17 @@ pub record Compared (nodes : ℕ) (h : ℕ → ℕ) (limit : ℕ) (least total :
   pub owner : n < nodes
   pub one : j < nodes
   pub other : k < nodes
-  pub given : kept (space h limit least (share n) n) (λ i. held i n) j < partOf nodes h total share n j
-  pub has-space : partOf nodes h total share n k < space h limit least (share n) n k
+  pub given : kept (memberSpace nodes h limit least total held (share n) n) (λ i. held i n) j < partOf nodes h total share n j
+  pub has-space : partOf nodes h total share n k < memberSpace nodes h limit least total held (share n) n k
 
 -- the standing load of member k of the family of n
-abbrev pub standsAt : ℕ → (ℕ → ℕ) → (ℕ → ℕ) → (ℕ → ℕ) → (ℕ → ℕ) → ℕ → ℕ → ℕ
-standsAt nodes h least total share n = standingLoad (beside least (share n) n) (partOf nodes h total share n)
+abbrev pub standsAt : ℕ → (ℕ → ℕ) → ℕ → (ℕ → ℕ) → (ℕ → ℕ) → (ℕ → ℕ → ℕ) → (ℕ → ℕ) → ℕ → ℕ → ℕ
+standsAt nodes h limit least total held share n =
+    standingLoad (memberBeside nodes h limit least total held (share n) n) (partOf nodes h total share n)
 
 -- whoever was given a particle stands at most one above a member that still has space, and not above one of lower number
 pub record RestLevelled (nodes : ℕ) (h : ℕ → ℕ) (limit : ℕ) (least total : ℕ → ℕ) (held : ℕ → ℕ → ℕ) (share : ℕ → ℕ) : Type 0 where
   pub near : (n j k : ℕ) → Compared nodes h limit least total held share n j k
-      → standsAt nodes h least total share n j ≤ standsAt nodes h least total share n k + 1
+      → standsAt nodes h limit least total held share n j ≤ standsAt nodes h limit least total held share n k + 1
   pub ties : (n j k : ℕ) → Compared nodes h limit least total held share n j k → k < j
-      → standsAt nodes h least total share n j ≤ standsAt nodes h least total share n k
+      → standsAt nodes h limit least total held share n j ≤ standsAt nodes h limit least total held share n k

@@ -1,4 +1,5 @@
--- Document 01, 'Shares in a kept tree', "from the root down. Rn is n's share, 0 for the root." Request 2026-03 replaced its last sentence.
+-- Document 01, 'Shares in a kept tree', "from the root down. Rn is n's share, 0 for the root." Request 2026-03 replaced its last sentence,
+-- and 2026-07 has hold in place of least where a family can afford it.
 use mathlib.Core.Bool.{cond}
 use mathlib.Core.List.{List}
 use Prim.Native.Nat.{ℕ, _-_, min}
@@ -8,6 +9,7 @@ use Rattle.arrays.specs.Arrays.{at, tabulate}
 use Rattle.tree.specs.Family.{helps}
 use Rattle.tree.specs.Down.{down}
 use Rattle.shares.specs.Fill.{fill}
+use Rattle.shares.specs.Hold.{reserve}
 
 -- ---- one family
 
@@ -15,14 +17,14 @@ use Rattle.shares.specs.Fill.{fill}
 unfoldable pub inFamily : (ℕ → ℕ) → ℕ → ℕ → (ℕ → ℕ) → ℕ → ℕ
 inFamily h n own helper k = cond (eqb k n) own (only (helps h n k) (helper k))
 
--- "The space for subdomain n is L − Rn at n itself, and L − least at each helper." Space is document 01's term for the most that a member
--- may have of a subdomain; a node that is no member has none. r is Rn.
+-- "The space for subdomain n is L − Rn at n itself, and L − least at each helper", or L − hold: `reserve` is which of the two. Space is
+-- document 01's term for the most that a member may have of a subdomain; a node that is no member has none. r is Rn.
 unfoldable pub space : (ℕ → ℕ) → ℕ → (ℕ → ℕ) → ℕ → ℕ → ℕ → ℕ
-space h limit least r n = inFamily h n (limit - r) (λ k. limit - least k)
+space h limit reserve r n = inFamily h n (limit - r) (λ k. limit - reserve k)
 
--- what a member has beside its amount, in the request's words: "R .. for the owner, and least .. for a helper"
+-- what a member has beside its amount, in the words of 2026-03: "R .. for the owner, and least .. for a helper", or hold
 unfoldable pub beside : (ℕ → ℕ) → ℕ → ℕ → ℕ → ℕ
-beside least r n k = cond (eqb k n) r (least k)
+beside reserve r n k = cond (eqb k n) r (reserve k)
 
 -- "Each member first keeps the smaller of its space and what it already holds of subdomain n."
 abbrev pub kept : (ℕ → ℕ) → (ℕ → ℕ) → ℕ → ℕ
@@ -32,12 +34,25 @@ kept spaces holding k = min (spaces k) (holding k)
 abbrev pub rest : ℕ → ℕ → (ℕ → ℕ) → ℕ
 rest nodes total keeps = total - sum nodes keeps
 
--- what node k gets of subdomain n: "What a member already keeps is unchanged", and the rest is given on top of it
+-- what each node gets of so many particles, with these spaces and holdings, and with this beside its amount: "What a member already keeps
+-- is unchanged", and the rest is given on top of it
+unfoldable pub divided : ℕ → (ℕ → ℕ) → (ℕ → ℕ) → ℕ → (ℕ → ℕ) → ℕ → ℕ
+divided nodes beside spaces total holding =
+    let keeps = kept spaces holding in
+    at (fill nodes beside spaces (tabulate nodes keeps) (rest nodes total keeps))
+
+-- the space of each member of the family of n, and what it has beside its amount, by hold or by least
+abbrev pub memberSpace : ℕ → (ℕ → ℕ) → ℕ → (ℕ → ℕ) → (ℕ → ℕ) → (ℕ → ℕ → ℕ) → ℕ → ℕ → ℕ → ℕ
+memberSpace nodes h limit least total held r n = space h limit (reserve nodes h limit least total held r n) r n
+
+abbrev pub memberBeside : ℕ → (ℕ → ℕ) → ℕ → (ℕ → ℕ) → (ℕ → ℕ) → (ℕ → ℕ → ℕ) → ℕ → ℕ → ℕ → ℕ
+memberBeside nodes h limit least total held r n = beside (reserve nodes h limit least total held r n) r n
+
+-- what each node gets of subdomain n
 unfoldable pub amount : ℕ → (ℕ → ℕ) → ℕ → (ℕ → ℕ) → (ℕ → ℕ) → (ℕ → ℕ → ℕ) → ℕ → ℕ → ℕ → ℕ
-amount nodes h limit least total held r n k =
-    let spaces = space h limit least r n in
-    let keeps = kept spaces (λ j. held j n) in
-    at (fill nodes (beside least r n) spaces (tabulate nodes keeps) (rest nodes (total n) keeps)) k
+amount nodes h limit least total held r n =
+    let spaces = memberSpace nodes h limit least total held r n in
+    divided nodes (memberBeside nodes h limit least total held r n) spaces (total n) (λ j. held j n)
 
 -- ---- the tree
 

@@ -13,7 +13,7 @@ ghost use Rattle.tree.specs.Inner.{LinkedTree};
 ghost use Rattle.shares.specs.Inner.{keepsIn, roomsIn, restIn, Noted, Somewhere};
 ghost use Rattle.sheet.specs.Totals.{totalsOf};
 
-// What a member has space for beyond its amount. Beside it an owner has its share, and a helper its least.
+// What a member has space for beyond its amount. Beside it an owner has its share, and a helper its reserve.
 pub fn room(limit: u32, beside: u32, amount: u32) -> u32
     ensures { λ r. ⌜ (r ≡ limit - beside - amount) × (amount + r < 4294967296) ⌝ }
 {
@@ -32,7 +32,7 @@ fn keeps(table: &[u32; TABLE_SIZE], limit: u32, beside: u32, k: usize, n: usize)
 }
 
 // The larger of two numbers.
-fn larger(a: u32, b: u32) -> u32
+pub fn larger(a: u32, b: u32) -> u32
     ensures { λ r. ⌜ r ≡ max a b ⌝ }
 {
     if a < b { b } else { a }
@@ -49,7 +49,7 @@ pub struct Kept {
 pub fn keep(
     table: &[u32; TABLE_SIZE],
     totals: &[u32; 64],
-    leasts: &[u32; 64],
+    reserves: &[u32; 64],
     helpands: &[u32; 64],
     links: &[usize; 128],
     nodes: usize,
@@ -62,12 +62,12 @@ pub fn keep(
         (LinkedTree nodes (at (now helpands)) (now links)) × (n < nodes) × (now totals ≡ totalsOf nodes (now table))
         × (length (now shares) ≡ 64) ⌝ }
     ensures { λ r. ⌜
-        (r .own ≡ keepsIn limit (now (helpands .entry)) (now (leasts .entry)) (now (table .entry)) share n n)
-        × (r .rest ≡ restIn nodes limit (now (helpands .entry)) (now (leasts .entry)) (now (totals .entry)) (now (table .entry)) share n)
-        × (Somewhere nodes (roomsIn limit (now (helpands .entry)) (now (leasts .entry)) (now (table .entry)) share n) (r .most))
+        (r .own ≡ keepsIn limit (now (helpands .entry)) (now (reserves .entry)) (now (table .entry)) share n n)
+        × (r .rest ≡ restIn nodes limit (now (helpands .entry)) (now (reserves .entry)) (now (totals .entry)) (now (table .entry)) share n)
+        × (Somewhere nodes (roomsIn limit (now (helpands .entry)) (now (reserves .entry)) (now (table .entry)) share n) (r .most))
         × (length (now (shares .exit)) ≡ 64)
         × Noted (at (now (helpands .entry))) n
-        (keepsIn limit (now (helpands .entry)) (now (leasts .entry)) (now (table .entry)) share n)
+        (keepsIn limit (now (helpands .entry)) (now (reserves .entry)) (now (table .entry)) share n)
         nodes (now (shares .entry)) (now (shares .exit)) ⌝ }
 {
     let own = keeps(table, limit, share, n, n);
@@ -75,9 +75,9 @@ pub fn keep(
     let mut most = room(limit, share, own);
     let mut k = links::first(links, n);
     while k < nodes {
-        let amount = keeps(table, limit, leasts[k], k, n);
+        let amount = keeps(table, limit, reserves[k], k, n);
         rest -= amount;
-        most = larger(most, room(limit, leasts[k], amount));
+        most = larger(most, room(limit, reserves[k], amount));
         shares[k] = amount;
         k = links::next(links, k);
     }

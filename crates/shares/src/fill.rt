@@ -48,7 +48,7 @@ fn raised(amount: u32, room: u32, level: u32, extra: u32) -> u32
 
 // Brings the rooms of all helpers of n down to a level, and gives one each of what is left to the first members that reach it.
 fn spread(
-    leasts: &[u32; 64],
+    reserves: &[u32; 64],
     helpands: &[u32; 64],
     links: &[usize; 128],
     nodes: usize,
@@ -64,14 +64,14 @@ fn spread(
         (length (now (shares .exit)) ≡ 64)
         × Noted (at (now (helpands .entry))) n
         (λ k. at (now (shares .entry)) k
-        + gets (roomsNow limit (now (helpands .entry)) (now (leasts .entry)) n own (now (shares .entry))) level left k)
+        + gets (roomsNow limit (now (helpands .entry)) (now (reserves .entry)) n own (now (shares .entry))) level left k)
         nodes (now (shares .entry)) (now (shares .exit)) ⌝ }
 {
     let owner = unit(own, level);
     let mut some = left;
     let mut k = links::first(links, n);
     while k < nodes {
-        let room = family::room(limit, leasts[k], shares[k]);
+        let room = family::room(limit, reserves[k], shares[k]);
         let one = unit(room, level);
         let extra = numbers::min(left_for(k, n, some, owner), one);
         shares[k] = raised(shares[k], room, level, extra);
@@ -83,7 +83,7 @@ fn spread(
 // Fills the rest of subdomain n into the rooms of the family of n, and notes what its helpers have. What they keep is noted already; the
 // owner has this share, and keeps so much; some member has a room of this size.
 pub fn fill(
-    leasts: &[u32; 64],
+    reserves: &[u32; 64],
     helpands: &[u32; 64],
     links: &[usize; 128],
     nodes: usize,
@@ -97,16 +97,16 @@ pub fn fill(
 )
     requires { ⌜
         (LinkedTree nodes (at (now helpands)) (now links)) × (n < nodes) × (length (now shares) ≡ 64)
-        × (Somewhere nodes (roomsNow limit (now helpands) (now leasts) n (limit - share - keeps) (now shares)) most) ⌝ }
+        × (Somewhere nodes (roomsNow limit (now helpands) (now reserves) n (limit - share - keeps) (now shares)) most) ⌝ }
     ensures { λ _. ⌜
         (length (now (shares .exit)) ≡ 64)
         × Noted (at (now (helpands .entry))) n
-        (filledIn nodes limit (now (helpands .entry)) (now (leasts .entry)) share keeps rest n (now (shares .entry)))
+        (filledIn nodes limit (now (helpands .entry)) (now (reserves .entry)) share keeps rest n (now (shares .entry)))
         nodes (now (shares .entry)) (now (shares .exit)) ⌝ }
 {
     let own = family::room(limit, share, keeps);
     let reached = level::lowest(
-        leasts,
+        reserves,
         helpands,
         links,
         nodes,
@@ -118,7 +118,7 @@ pub fn fill(
         rest,
     );
     spread(
-        leasts,
+        reserves,
         helpands,
         links,
         nodes,

@@ -33,7 +33,7 @@ fn one_above(room: u32, level: u32) -> u64
 
 // The family of n, whose owner has this room, above a level.
 fn above(
-    leasts: &[u32; 64],
+    reserves: &[u32; 64],
     helpands: &[u32; 64],
     links: &[usize; 128],
     nodes: usize,
@@ -45,15 +45,15 @@ fn above(
 ) -> Excess
     requires { ⌜ (LinkedTree nodes (at (now helpands)) (now links)) × (n < nodes) ⌝ }
     ensures { λ r. ⌜
-        (r .particles ≡ over nodes (roomsNow limit (now (helpands .entry)) (now (leasts .entry)) n own (now (noted .entry))) level)
+        (r .particles ≡ over nodes (roomsNow limit (now (helpands .entry)) (now (reserves .entry)) n own (now (noted .entry))) level)
         × (r .members
-        ≡ countAbove nodes (roomsNow limit (now (helpands .entry)) (now (leasts .entry)) n own (now (noted .entry))) level) ⌝ }
+        ≡ countAbove nodes (roomsNow limit (now (helpands .entry)) (now (reserves .entry)) n own (now (noted .entry))) level) ⌝ }
 {
     let mut particles = over(own, level);
     let mut members = one_above(own, level);
     let mut k = links::first(links, n);
     while k < nodes {
-        let room = family::room(limit, leasts[k], noted[k]);
+        let room = family::room(limit, reserves[k], noted[k]);
         particles += over(room, level);
         members += one_above(room, level);
         k = links::next(links, k);
@@ -79,7 +79,7 @@ pub struct Reached {
 // The lowest level that the rest reaches, where some member has a room of this size: all of the rest would bring that room down to the
 // level where the search begins. Each turn leaves fewer members above the level, so there are no more turns than members.
 pub fn lowest(
-    leasts: &[u32; 64],
+    reserves: &[u32; 64],
     helpands: &[u32; 64],
     links: &[usize; 128],
     nodes: usize,
@@ -92,15 +92,25 @@ pub fn lowest(
 ) -> Reached
     requires { ⌜
         (LinkedTree nodes (at (now helpands)) (now links)) × (n < nodes)
-        × (Somewhere nodes (roomsNow limit (now helpands) (now leasts) n own (now noted)) most) ⌝ }
+        × (Somewhere nodes (roomsNow limit (now helpands) (now reserves) n own (now noted)) most) ⌝ }
     ensures { λ r. ⌜
-        (Lowest nodes (roomsNow limit (now (helpands .entry)) (now (leasts .entry)) n own (now (noted .entry))) rest (r .level))
+        (Lowest nodes (roomsNow limit (now (helpands .entry)) (now (reserves .entry)) n own (now (noted .entry))) rest (r .level))
         × (r .left
-        ≡ rest - over nodes (roomsNow limit (now (helpands .entry)) (now (leasts .entry)) n own (now (noted .entry))) (r .level)) ⌝ }
+        ≡ rest - over nodes (roomsNow limit (now (helpands .entry)) (now (reserves .entry)) n own (now (noted .entry))) (r .level)) ⌝ }
 {
     let mut level = numbers::saturating_sub(most, rest);
     loop {
-        let high = above(leasts, helpands, links, nodes, limit, own, n, noted, level);
+        let high = above(
+            reserves,
+            helpands,
+            links,
+            nodes,
+            limit,
+            own,
+            n,
+            noted,
+            level,
+        );
         if high.particles <= rest as u64 {
             let left = rest - high.particles as u32;
             return Reached { level, left };

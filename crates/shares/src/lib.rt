@@ -2,6 +2,7 @@
 // helper; the helpands are there for the contracts.
 mod family;
 mod fill;
+mod hold;
 mod level;
 
 use limit::TABLE_SIZE;
@@ -15,19 +16,20 @@ ghost use Rattle.sheet.specs.Table.{held};
 ghost use Rattle.tree.specs.Links.{Linked};
 ghost use Rattle.tree.specs.Inner.{LinkedTree, Shallow, Descended};
 ghost use Rattle.shares.specs.Shares.{keptShares};
-ghost use Rattle.shares.specs.Inner.{amountsIn, shareIn, Noted};
+ghost use Rattle.shares.specs.Inner.{dividedIn, holdsOf, amountsIn, shareIn, Noted};
 ghost use Rattle.arrays.specs.Arrays.{at};
 ghost use Rattle.sheet.specs.Totals.{totalsOf};
 
-// Divides the family of n, whose share stands already, and notes the shares of its helpers.
-fn divide_family(
+// Divides the family of n, whose share is this one, with these reserves, and notes the shares of its helpers.
+fn divide_with(
     table: &[u32; TABLE_SIZE],
     totals: &[u32; 64],
-    leasts: &[u32; 64],
+    reserves: &[u32; 64],
     helpands: &[u32; 64],
     links: &[usize; 128],
     nodes: usize,
     limit: u32,
+    share: u32,
     n: usize,
     shares: &mut [u32; 64],
 )
@@ -37,15 +39,13 @@ fn divide_family(
     ensures { λ _. ⌜
         (length (now (shares .exit)) ≡ 64)
         × Noted (at (now (helpands .entry))) n
-        (amountsIn nodes limit (now (helpands .entry)) (now (leasts .entry)) (now (totals .entry)) (now (table .entry))
-        (at (now (shares .entry)) n) n)
+        (dividedIn nodes limit (now (helpands .entry)) (now (reserves .entry)) (now (totals .entry)) (now (table .entry)) share n)
         nodes (now (shares .entry)) (now (shares .exit)) ⌝ }
 {
-    let share = shares[n];
     let kept = family::keep(
         table,
         totals,
-        leasts,
+        reserves,
         helpands,
         links,
         nodes,
@@ -58,7 +58,7 @@ fn divide_family(
         return;
     }
     fill::fill(
-        leasts,
+        reserves,
         helpands,
         links,
         nodes,
@@ -72,6 +72,60 @@ fn divide_family(
     );
 }
 
+// Divides the family of n, whose share stands already, and notes the shares of its helpers: with their holds if the family can afford
+// them, and with their leasts otherwise.
+fn divide_family(
+    table: &[u32; TABLE_SIZE],
+    totals: &[u32; 64],
+    leasts: &[u32; 64],
+    holds: &[u32; 64],
+    helpands: &[u32; 64],
+    links: &[usize; 128],
+    nodes: usize,
+    limit: u32,
+    n: usize,
+    shares: &mut [u32; 64],
+)
+    requires { ⌜
+        (LinkedTree nodes (at (now helpands)) (now links)) × (n < nodes) × (now totals ≡ totalsOf nodes (now table))
+        × (now holds ≡ holdsOf nodes limit (now leasts) (now table)) × (length (now shares) ≡ 64) ⌝ }
+    ensures { λ _. ⌜
+        (length (now (shares .exit)) ≡ 64)
+        × Noted (at (now (helpands .entry))) n
+        (amountsIn nodes limit (now (helpands .entry)) (now (leasts .entry)) (now (totals .entry)) (now (table .entry))
+        (at (now (shares .entry)) n) n)
+        nodes (now (shares .entry)) (now (shares .exit)) ⌝ }
+{
+    let share = shares[n];
+    if hold::affords(holds, totals, helpands, links, nodes, limit, share, n) {
+        divide_with(
+            table,
+            totals,
+            holds,
+            helpands,
+            links,
+            nodes,
+            limit,
+            share,
+            n,
+            shares,
+        );
+        return;
+    }
+    divide_with(
+        table,
+        totals,
+        leasts,
+        helpands,
+        links,
+        nodes,
+        limit,
+        share,
+        n,
+        shares,
+    );
+}
+
 // Divides the families of n and of all below it, and notes the shares. The share of n stands already.
 fn divide_below(
     depth: usize,
@@ -79,6 +133,7 @@ fn divide_below(
     table: &[u32; TABLE_SIZE],
     totals: &[u32; 64],
     leasts: &[u32; 64],
+    holds: &[u32; 64],
     helpands: &[u32; 64],
     links: &[usize; 128],
     nodes: usize,
@@ -87,7 +142,8 @@ fn divide_below(
 )
     requires { ⌜
         (LinkedTree nodes (at (now helpands)) (now links)) × (n < nodes) × (Shallow nodes (at (now helpands)) depth n)
-        × (now totals ≡ totalsOf nodes (now table)) × (length (now shares) ≡ 64)
+        × (now totals ≡ totalsOf nodes (now table)) × (now holds ≡ holdsOf nodes limit (now leasts) (now table))
+        × (length (now shares) ≡ 64)
         × (at (now shares) n ≡ shareIn nodes limit (now helpands) (now leasts) (now totals) (now table) n) ⌝ }
     ensures { λ _. ⌜
         (length (now (shares .exit)) ≡ 64)
@@ -106,6 +162,7 @@ fn divide_below(
         table,
         totals,
         leasts,
+        holds,
         helpands,
         links,
         nodes,
@@ -120,6 +177,7 @@ fn divide_below(
             table,
             totals,
             leasts,
+            holds,
             helpands,
             links,
             nodes,
@@ -147,6 +205,7 @@ pub fn shares(
     ensures { λ r. ⌜ r ≡ keptShares nodes (at helpands) limit (at leasts) (at totals) (held (now (table .entry))) ⌝ }
 {
     let levels = nodes + 1;
+    let holds = hold::holds(table, &leasts, nodes, limit);
     let mut out = [0u32; 64];
     divide_below(
         levels,
@@ -154,6 +213,7 @@ pub fn shares(
         table,
         &totals,
         &leasts,
+        &holds,
         &helpands,
         links,
         nodes,

@@ -30,15 +30,15 @@ use Rattle.shares.proofs.+divide_below.Lts-divide_below as lts
 use Rattle.shares.proofs.+divide_below.{statement}
 use Rattle.shares.proofs.+divide_below.Tie.{close}
 
-abbrev μ-divide-below : Measures 6 kinds.ps ℕ
+abbrev μ-divide-below : Measures 7 kinds.ps ℕ
 μ-divide-below κs a = a .0
 
 -- a call at depth t, and the calls that it makes
-abbrev Here : ℕ → In 6 kinds.ps
-Here t = and 6 kinds.ps (is 6 kinds.ps μ-divide-below t) reads.Pre
+abbrev Here : ℕ → In 7 kinds.ps
+Here t = and 7 kinds.ps (is 7 kinds.ps μ-divide-below t) reads.Pre
 
-abbrev Deeper : ℕ → In 6 kinds.ps
-Deeper t = and 6 kinds.ps (falls 6 kinds.ps _<_ μ-divide-below t) reads.Pre
+abbrev Deeper : ℕ → In 7 kinds.ps
+Deeper t = and 7 kinds.ps (falls 7 kinds.ps _<_ μ-divide-below t) reads.Pre
 
 abbrev claims : ℕ → lts.Claims
 claims t = (first.Asked, first.Learnt, family.Asked, family.Learnt, Deeper t, reads.Post, next.Asked, next.Learnt)
@@ -51,11 +51,11 @@ record DividedSoFar (nodes : ℕ) (h share : ℕ → ℕ) (n : ℕ) (noted out :
   passed : HelpersPassed nodes h share n noted k out
 
 abbrev Inv : lts.InvT-loop
-Inv depth n table totals leasts helpands links nodes limit noted k₀ out k =
+Inv depth n table totals leasts holds helpands links nodes limit noted k₀ out k =
     DividedSoFar nodes (at helpands) (shareIn nodes limit helpands leasts totals table) n noted out k
 
 abbrev μ : lts.MeasureT-loop
-μ depth n table totals leasts helpands links nodes limit noted k₀ out k = nodes - k
+μ depth n table totals leasts holds helpands links nodes limit noted k₀ out k = nodes - k
 
 module _ (t : ℕ) where
   -- the depth is not used up
@@ -68,7 +68,7 @@ module _ (t : ℕ) where
       let f = c .before in
       let p = f .before .before .pre .1 in
       let x = rw (c .if2 .taken) at (link-first (p .0 .linked) _ (p .1) (f .first .ensures)) in
-      (p .4, passed-all (p .0 .rooted .1) (passed-next passed-none x) (p .5))
+      (p .5, passed-all (p .0 .rooted .1) (passed-next passed-none x) (p .6))
 
   -- the family of n is divided
   module _ (c : lts.After-divide-family (claims t) (Here t) reads.Post Inv μ) where
@@ -119,9 +119,9 @@ module _ (t : ℕ) where
       let k = i .before .loop .k in
       let b = i .loop-test .taken in
       let v = i .before .loop .inv in
-      let n = noted-right (described d) (p .5) (d .divide-family .ensures .1) in (
+      let n = noted-right (described d) (p .6) (d .divide-family .ensures .1) in (
         omega (arith, start d .pre .0, shallow-some _ _ _ _ (p .2)),
-        (p .0, b, shallow-helper _ _ _ _ (p .2) k b (helps-n i), p .3, v .long, v .passed .kept k b (n .0 k b (helps-n i))),
+        (p .0, b, shallow-helper _ _ _ _ (p .2) k b (helps-n i), p .3, p .4, v .long, v .passed .kept k b (n .0 k b (helps-n i))),
       )
 
   less : lts.Need-loop-less (claims t) (Here t) reads.Post Inv μ
@@ -147,8 +147,8 @@ module _ (t : ℕ) where
       let p = start d .pre .1 in
       let v = c .before .loop .inv in
       let e : c .before .loop .k ≡ start d .args .nodes = omega (arith, v .k-le) in
-      let n = noted-right (described d) (p .5) (d .divide-family .ensures .1) in
-      let own = v .passed .kept (start d .args .n) (p .1) (n .1 .kept (start d .args .n) (p .1) (p .5)) in
+      let n = noted-right (described d) (p .6) (d .divide-family .ensures .1) in
+      let own = v .passed .kept (start d .args .n) (p .1) (n .1 .kept (start d .args .n) (p .1) (p .6)) in
       (v .long, descended-after (n .1) (passed-all (p .0 .rooted .1) (rw e at (v .passed)) own))
 
 pub +divide-below-spec : {M : Type 1} → statement M

@@ -1,44 +1,33 @@
--- `shares::divide_family` meets its contract: the amounts are those of the rest that was worked out, or of what is kept if there is none.
+-- `shares::divide_family` meets its contract: the family is divided with the holds if it can afford them, and with the leasts otherwise.
 -- Assumes nothing.
 use borrow.Author.Needs.{needs}
 use mathlib.Core.Path.{sym, _∙_}
 use denote.Ref.{now}
 use Rattle.arrays.specs.Arrays.{at}
-use Rattle.shares.proofs.Filling.{kept-somewhere, kept-noted, filled-noted}
+use Rattle.shares.proofs.Dividing.{holds-noted, leasts-noted}
 use Rattle.shares.proofs.divide_family.Statement.{statement}
 use Rattle.shares.proofs.divide_family.Tie as tie
 
 returns : tie.Need-returns
 returns c =
-    let k = c .before .before in
-    let a = k .before .before .before .args in
-    let share = at (now (a .shares)) (a .n) in (
-      k .keep .ensures .3,
-      kept-noted (a .nodes) (a .limit) (now (a .helpands)) (now (a .leasts)) (now (a .totals)) (now (a .table)) share (a .n)
-          (now (a .shares)) _ (k .keep .ensures .4) (sym (k .keep .ensures .1) ∙ c .if1 .taken),
-    )
-
-fill-requires : tie.Need-fill-requires
-fill-requires c κs =
-    let k = c .before .before .before in
-    let b = k .before .before .before in
-    let a = b .args in
-    let share = at (now (a .shares)) (a .n) in (
-      b .pre .0,
-      b .pre .1,
-      k .keep .ensures .3,
-      kept-somewhere (a .nodes) (a .limit) (now (a .helpands)) (now (a .leasts)) (now (a .totals)) (now (a .table)) share (a .n)
-          (now (a .shares)) _ (k .keep .ensures .4) (k .keep .ensures .0) (k .keep .ensures .2),
+    let t = c .before .before in
+    let b = t .before .before .before in
+    let a = b .args in (
+      c .divide-with .ensures .0,
+      holds-noted (a .nodes) (a .limit) (now (a .helpands)) (now (a .leasts)) (now (a .totals)) (now (a .table))
+          (at (now (a .shares)) (a .n)) (a .n) (now (a .holds)) (b .pre .3) (sym (t .before .affords .ensures) ∙ t .if1 .taken)
+          (c .divide-with .ensures .1),
     )
 
 returns-2 : tie.Need-returns-2
 returns-2 c =
-    let k = c .before .before .before .before in
-    let a = k .before .before .before .args in
-    let share = at (now (a .shares)) (a .n) in (
-      c .fill .ensures .0,
-      filled-noted (a .nodes) (a .limit) (now (a .helpands)) (now (a .leasts)) (now (a .totals)) (now (a .table)) share (a .n)
-          (now (a .shares)) _ (k .keep .ensures .4) (k .keep .ensures .0) (k .keep .ensures .1) (c .fill .ensures .1),
+    let t = c .before .before in
+    let b = t .before .before .before in
+    let a = b .args in (
+      c .divide-with2 .ensures .0,
+      leasts-noted (a .nodes) (a .limit) (now (a .helpands)) (now (a .leasts)) (now (a .totals)) (now (a .table))
+          (at (now (a .shares)) (a .n)) (a .n) (now (a .holds)) (b .pre .3) (sym (t .before .affords .ensures) ∙ t .if1 .left)
+          (c .divide-with2 .ensures .1),
     )
 
 pub divide-family-spec : {M : Type 1} → statement M
@@ -47,7 +36,8 @@ divide-family-spec =
     (tie.spec
     (λ c. search needs)  -- mul-share
     (λ c. search needs)  -- element-copy-out-share
-    (λ c κs. search needs)  -- keep-requires
+    (λ c κs. search needs)  -- affords-requires
+    (λ c κs. search needs)  -- divide-with-requires
     returns
-    fill-requires
+    (λ c κs. search needs)  -- divide-with-requires-2
     returns-2)

@@ -24,13 +24,13 @@ use Rattle.shares.proofs.family.keep.Statement.{statement}
 use Rattle.shares.proofs.family.keep.Tie as tie
 
 abbrev Inv-loop : tie.InvT-loop
-Inv-loop table totals leasts helpands links nodes limit share n shares₀ own rest₀ most₀ k₀ shares rest most k =
-    let keeps = keepsIn limit helpands leasts table share n in
+Inv-loop table totals reserves helpands links nodes limit share n shares₀ own rest₀ most₀ k₀ shares rest most k =
+    let keeps = keepsIn limit helpands reserves table share n in
     (NotedSoFar nodes (at helpands) n keeps keeps (at totals n - keeps n) shares₀ shares rest k)
-    × (Somewhere nodes (roomsIn limit helpands leasts table share n) most)
+    × (Somewhere nodes (roomsIn limit helpands reserves table share n) most)
 
 abbrev μ-loop : tie.MeasureT-loop
-μ-loop table totals leasts helpands links nodes limit share n shares₀ own rest₀ most₀ k₀ shares rest most k = nodes - k
+μ-loop table totals reserves helpands links nodes limit share n shares₀ own rest₀ most₀ k₀ shares rest most k = nodes - k
 
 -- ---- the owner
 
@@ -39,7 +39,7 @@ module _ (c : tie.Start Inv-loop μ-loop) where
   holding k = held (now (c .args .table)) k (c .args .n)
 
   abbrev keeps : ℕ → ℕ
-  keeps = keepsIn (c .args .limit) (now (c .args .helpands)) (now (c .args .leasts)) (now (c .args .table)) (c .args .share) (c .args .n)
+  keeps = keepsIn (c .args .limit) (now (c .args .helpands)) (now (c .args .reserves)) (now (c .args .table)) (c .args .share) (c .args .n)
 
   -- the total is the table's
   total-is : at (now (c .args .totals)) (c .args .n) ≡ totalOf (c .args .nodes) (now (c .args .table)) (c .args .n)
@@ -50,7 +50,7 @@ module _ (c : tie.Start Inv-loop μ-loop) where
 own-keeps : (c : tie.After-keeps Inv-loop μ-loop) → c .keeps .result ≡ keeps (c .before) (c .before .args .n)
 own-keeps c =
     let a = c .before .args in
-    omega (arith, c .keeps .ensures, space-own (at (now (a .helpands))) (a .limit) (at (now (a .leasts))) (a .share) (a .n))
+    omega (arith, c .keeps .ensures, space-own (at (now (a .helpands))) (a .limit) (at (now (a .reserves))) (a .share) (a .n))
 
 sub-rest : tie.Need-sub-rest Inv-loop μ-loop
 sub-rest c =
@@ -74,7 +74,7 @@ loop-holds c =
               arith,
               r .room .ensures .0,
               own-keeps o,
-              space-own (at (now (a .helpands))) (a .limit) (at (now (a .leasts))) (a .share) (a .n),
+              space-own (at (now (a .helpands))) (a .limit) (at (now (a .reserves))) (a .share) (a .n),
             );
       },
     )
@@ -100,7 +100,7 @@ module _ (c : tie.After-keeps2 Inv-loop μ-loop) where
   keeps-is : c .keeps2 .result ≡ keeps start k
   keeps-is =
       let a = start .args in
-      let e = space-helper (at (now (a .helpands))) (a .limit) (at (now (a .leasts))) (a .share) (a .n) k helps-n in
+      let e = space-helper (at (now (a .helpands))) (a .limit) (at (now (a .reserves))) (a .share) (a .n) k helps-n in
       c .keeps2 .ensures ∙ ap (λ (x : ℕ). min x (holding start k)) (sym e)
 
   still-there : c .keeps2 .result ≤ loop .loop .rest
@@ -111,7 +111,7 @@ module _ (c : tie.After-keeps2 Inv-loop μ-loop) where
         keeps-is,
         total-is start,
         loop .loop .inv .0 .taken .left-is,
-        kept-left (at (now (a .helpands))) (a .limit) (at (now (a .leasts))) (holding start) (a .share) (a .n) (a .nodes) k
+        kept-left (at (now (a .helpands))) (a .limit) (at (now (a .reserves))) (holding start) (a .share) (a .n) (a .nodes) k
             (start .pre .1) k-lt helps-n,
       )
 
@@ -126,7 +126,7 @@ loop-again c =
     let r = g .before in
     let m = r .before .before in
     let a = start m .args in
-    let e = space-helper (at (now (a .helpands))) (a .limit) (at (now (a .leasts))) (a .share) (a .n) (k m) (helps-n m) in (
+    let e = space-helper (at (now (a .helpands))) (a .limit) (at (now (a .reserves))) (a .share) (a .n) (k m) (helps-n m) in (
       so-far-more (loop m .loop .inv .0) (start m .pre .0 .few) (k-lt m) (keeps-is m)
           (ap (λ (x : ℕ). loop m .loop .rest - x) (keeps-is m)) (next-first m (c .next .ensures)),
       rw (g .larger .ensures)
@@ -144,7 +144,7 @@ returns c =
       omega (
         arith,
         left-all (l .loop .inv .0 .taken) (c .loop-test .left) .1,
-        kept-sum (at (now (a .helpands))) (a .limit) (at (now (a .leasts))) (holding b) (a .share) (a .n) (a .nodes) (b .pre .1),
+        kept-sum (at (now (a .helpands))) (a .limit) (at (now (a .reserves))) (holding b) (a .share) (a .n) (a .nodes) (b .pre .1),
       ),
       l .loop .inv .1,
       all .0,

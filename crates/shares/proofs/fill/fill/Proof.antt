@@ -12,7 +12,7 @@ returns c =
     let r = l .before .before in
     let a = r .before .args in (
       c .spread .ensures .0,
-      level-noted (a .nodes) (a .limit) (now (a .helpands)) (now (a .leasts)) (a .share) (a .keeps) (a .rest) (a .n) (now (a .shares)) _
+      level-noted (a .nodes) (a .limit) (now (a .helpands)) (now (a .reserves)) (a .share) (a .keeps) (a .rest) (a .n) (now (a .shares)) _
           (l .lowest .result .level) (l .lowest .result .left) (r .room .ensures .0) (l .lowest .ensures .0) (l .lowest .ensures .1)
           (c .spread .ensures .1),
     )

@@ -11,7 +11,7 @@ use lib.Dec.{ltb}
 use Rattle.fold.specs.Sum.{only, sum}
 use Rattle.fold.specs.First.{FirstFrom}
 use Rattle.arrays.specs.Arrays.{at}
-use Rattle.tree.specs.Family.{helps, overHelpers}
+use Rattle.tree.specs.Family.{helps}
 use Rattle.tree.proofs.Linking.{link-first, link-next}
 use Rattle.shares.specs.Inner.{roomsNow, unit, gets}
 use Rattle.shares.proofs.LevelForm.{gets-turn}
@@ -22,24 +22,24 @@ use Rattle.shares.proofs.fill.spread.Statement.{statement}
 use Rattle.shares.proofs.fill.spread.Tie as tie
 
 abbrev Inv-loop : tie.InvT-loop
-Inv-loop leasts helpands links nodes limit own n level left shares₀ owner some₀ k₀ shares some k =
-    let rooms = roomsNow limit helpands leasts n own shares₀ in
+Inv-loop reserves helpands links nodes limit own n level left shares₀ owner some₀ k₀ shares some k =
+    let rooms = roomsNow limit helpands reserves n own shares₀ in
     NotedSoFar nodes (at helpands) n (λ j. at shares₀ j + gets rooms level left j) (unit rooms level) left shares₀ shares some k
 
 abbrev μ-loop : tie.MeasureT-loop
-μ-loop leasts helpands links nodes limit own n level left shares₀ owner some₀ k₀ shares some k = nodes - k
+μ-loop reserves helpands links nodes limit own n level left shares₀ owner some₀ k₀ shares some k = nodes - k
 
 module _ (c : tie.Start Inv-loop μ-loop) where
   abbrev h : ℕ → ℕ
   h = at (now (c .args .helpands))
 
   abbrev room : ℕ → ℕ
-  room k = c .args .limit - at (now (c .args .leasts)) k - at (now (c .args .shares)) k
+  room k = c .args .limit - at (now (c .args .reserves)) k - at (now (c .args .shares)) k
 
   abbrev rooms : ℕ → ℕ
   rooms =
       let a = c .args in
-      roomsNow (a .limit) (now (a .helpands)) (now (a .leasts)) (a .n) (a .own) (now (a .shares))
+      roomsNow (a .limit) (now (a .helpands)) (now (a .reserves)) (a .n) (a .own) (now (a .shares))
 
   -- nobody else reaches a level above 0
   none-other : (j : ℕ) → j ≢ c .args .n → helps h (c .args .n) j ≡ false → unit rooms (c .args .level) j ≡ 0
@@ -89,7 +89,7 @@ module _ (c : tie.After-raised-arg Inv-loop μ-loop) where
   room-is : one .before .room .result ≡ rooms start k
   room-is =
       one .before .room .ensures .0
-      ∙ ap (λ (x : ℕ). start .args .limit - at (now (start .args .leasts)) k - x) amount-is
+      ∙ ap (λ (x : ℕ). start .args .limit - at (now (start .args .reserves)) k - x) amount-is
       ∙ sym (family-helper (h start) (start .args .n) (start .args .own) (room start) k helps-n)
 
   one-is : one .unit2 .result ≡ unit (rooms start) (start .args .level) k

@@ -28,21 +28,22 @@ abbrev one : (ℕ → ℕ) → ℕ → ℕ → ℕ
 one rooms level k = only (ltb level (rooms k)) 1
 
 abbrev Inv-loop : tie.InvT-loop
-Inv-loop leasts helpands links nodes limit own n noted level particles₀ members₀ k₀ particles members k =
-    let rooms = roomsNow limit helpands leasts n own noted in
-    (Summed nodes (at helpands) n (excess rooms level) particles k) × (Summed nodes (at helpands) n (one rooms level) members k)
+Inv-loop reserves helpands links nodes limit own n noted level particles₀ members₀ k₀ particles members k =
+    let rooms = roomsNow limit helpands reserves n own noted in
+    (Summed nodes (at helpands) n (excess rooms level n) (excess rooms level) particles k)
+    × (Summed nodes (at helpands) n (one rooms level n) (one rooms level) members k)
 
 abbrev μ-loop : tie.MeasureT-loop
-μ-loop leasts helpands links nodes limit own n noted level particles₀ members₀ k₀ particles members k = nodes - k
+μ-loop reserves helpands links nodes limit own n noted level particles₀ members₀ k₀ particles members k = nodes - k
 
 module _ (c : tie.Start Inv-loop μ-loop) where
   abbrev rooms : ℕ → ℕ
   rooms =
       let a = c .args in
-      roomsNow (a .limit) (now (a .helpands)) (now (a .leasts)) (a .n) (a .own) (now (a .noted))
+      roomsNow (a .limit) (now (a .helpands)) (now (a .reserves)) (a .n) (a .own) (now (a .noted))
 
   abbrev left : ℕ → ℕ
-  left k = c .args .limit - at (now (c .args .leasts)) k - at (now (c .args .noted)) k
+  left k = c .args .limit - at (now (c .args .reserves)) k - at (now (c .args .noted)) k
 
   own-is : c .args .own ≡ rooms (c .args .n)
   own-is = sym (family-own (at (now (c .args .helpands))) (c .args .n) (c .args .own) left)
@@ -95,17 +96,19 @@ add-particles c =
     let a = start r .args in
     let few = start r .pre .0 .few in
     let most =
-    rooms-most (a .limit) (now (a .helpands)) (now (a .leasts)) (a .n) (a .own) (now (a .noted)) 4294967295 (search needs) (search needs)
+    rooms-most (a .limit) (now (a .helpands)) (now (a .reserves)) (a .n) (a .own) (now (a .noted)) 4294967295 (search needs) (search needs)
     in
     let all = summed-most 4294967295 (loop r .loop .inv .0) (λ j. omega (arith, most j)) in
-    omega (arith, all, k-lt r, few, c .over2 .ensures .1)
+    omega (arith, all, most (a .n), k-lt r, few, c .over2 .ensures .1)
 
 add-members : tie.Need-add-members Inv-loop μ-loop
 add-members c =
     let r = c .before .before in
     let few = start r .pre .0 .few in
-    let all = summed-most 1 (loop r .loop .inv .1) (λ j. only-max (ltb (start r .args .level) (rooms (start r) j)) 1) in
-    omega (arith, all, k-lt r, few, c .one-above2 .ensures .1)
+    let most : (j : ℕ) → one (rooms (start r)) (start r .args .level) j ≤ 1 = λ j.
+    only-max (ltb (start r .args .level) (rooms (start r) j)) 1 in
+    let all = summed-most 1 (loop r .loop .inv .1) most in
+    omega (arith, all, most (start r .args .n), k-lt r, few, c .one-above2 .ensures .1)
 
 loop-again : tie.Need-loop-again Inv-loop μ-loop
 loop-again c =

@@ -13,25 +13,25 @@ use Rattle.shares.proofs.level.lowest.Statement.{statement}
 use Rattle.shares.proofs.level.lowest.Tie as tie
 
 abbrev Inv-loop : tie.InvT-loop
-Inv-loop leasts helpands links nodes limit own n noted most rest level₀ level =
-    let rooms = roomsNow limit helpands leasts n own noted in
+Inv-loop reserves helpands links nodes limit own n noted most rest level₀ level =
+    let rooms = roomsNow limit helpands reserves n own noted in
     (level ≡ 0) ⊎ (rest < over nodes rooms (level - 1))
 
 -- there are no more turns than members
 abbrev μ-loop : tie.MeasureT-loop
-μ-loop leasts helpands links nodes limit own n noted most rest level₀ level =
-    turnsLeft nodes (roomsNow limit helpands leasts n own noted) rest level
+μ-loop reserves helpands links nodes limit own n noted most rest level₀ level =
+    turnsLeft nodes (roomsNow limit helpands reserves n own noted) rest level
 
 module _ (c : tie.Start Inv-loop μ-loop) where
   abbrev rooms : ℕ → ℕ
   rooms =
       let a = c .args in
-      roomsNow (a .limit) (now (a .helpands)) (now (a .leasts)) (a .n) (a .own) (now (a .noted))
+      roomsNow (a .limit) (now (a .helpands)) (now (a .reserves)) (a .n) (a .own) (now (a .noted))
 
   bound : (k : ℕ) → k < c .args .nodes → rooms k ≤ 4294967295
   bound k l =
       let a = c .args in
-      rooms-most (a .limit) (now (a .helpands)) (now (a .leasts)) (a .n) (a .own) (now (a .noted)) 4294967295
+      rooms-most (a .limit) (now (a .helpands)) (now (a .reserves)) (a .n) (a .own) (now (a .noted)) 4294967295
       (search needs) (search needs) k
 
 loop-holds : tie.Need-loop-holds Inv-loop μ-loop
