@@ -18,9 +18,9 @@
 extern "C" {
 #endif
 
-/* The version, 100 × major + minor: 1.6 is 106. CHANGELOG.md says what each brought. firrozka_version() is the library's own: where the
+/* The version, 100 × major + minor: 1.7 is 107. CHANGELOG.md says what each brought. firrozka_version() is the library's own: where the
  * two differ, a program was compiled with the header of another version. */
-#define FIRROZKA_VERSION 106
+#define FIRROZKA_VERSION 107
 uint32_t firrozka_version(void);
 
 /* Buffers of so many bytes are long enough for every call. FIRROZKA_ARCHIVE_BYTES is the length of every archive. */

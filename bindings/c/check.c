@@ -4,7 +4,7 @@
 #include <string.h>
 #include "firrozka.h"
 
-#if FIRROZKA_VERSION < 106
+#if FIRROZKA_VERSION < 107
 #error "the preprocessor can test the version"
 #endif
 

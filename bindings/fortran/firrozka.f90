@@ -16,8 +16,8 @@ module firrozka
     public :: firrozka_traffic_page, firrozka_write_archive, firrozka_read_archive, firrozka_groups, firrozka_tree_in_force
     public :: words_to_bytes, word_at
 
-    ! The version that this module was written for, 100 × major + minor: 1.6 is 106. firrozka_version() is the library's own.
-    integer(c_int32_t), parameter, public :: firrozka_module_version = 106
+    ! The version that this module was written for, 100 × major + minor: 1.7 is 107. firrozka_version() is the library's own.
+    integer(c_int32_t), parameter, public :: firrozka_module_version = 107
 
     ! Buffers of so many bytes are long enough for every call. firrozka_archive_bytes is the length of every archive.
     integer(c_size_t), parameter, public :: &

@@ -13,8 +13,8 @@ import struct
 from pathlib import Path
 from typing import NamedTuple
 
-# The version that this module was written for, 100 × major + minor: 1.6 is 106. version() is the library's own.
-VERSION = 106
+# The version that this module was written for, 100 × major + minor: 1.7 is 107. version() is the library's own.
+VERSION = 107
 
 # Buffers of so many bytes are long enough for every call. ARCHIVE_BYTES is the length of every archive.
 SHEET_BYTES = 32780
