@@ -1,5 +1,5 @@
 //! What must hold of a planned step, whoever planned it: demand 3, and rules of
-//! document 01 put in another way than in `reference`. Leasts are taken as
+//! documents 01 and 02 put in another way than in `reference`. Leasts are taken as
 //! *weigh* writes them; tests/rival.rs looks into these by flow.
 
 use crate::division::{members, Division};
@@ -119,16 +119,20 @@ fn has_rival(helpands: &[u32], totals: &[u64], limit: u64) -> Result<bool, Strin
 /// One member of a family and what it has to do with the subdomain.
 struct Member {
     node: usize,
-    /// R for the owner, least for a helper.
+    /// R for the owner, hold or least for a helper.
     base: u64,
     holding: u64,
     amount: u64,
 }
 
 impl Member {
+    fn space(&self, limit: u64) -> u64 {
+        limit.saturating_sub(self.base)
+    }
+
     /// "the smaller of its space and what it already holds"
     fn keeps(&self, limit: u64) -> u64 {
-        limit.saturating_sub(self.base).min(self.holding)
+        self.space(limit).min(self.holding)
     }
 
     fn standing_load(&self) -> u64 {
@@ -177,35 +181,53 @@ impl Judged {
         }
     }
 
-    /// "Shares in a kept tree", by what must be true at the end: nobody has more
-    /// than its space or less than it keeps, and whoever was given a particle had
-    /// its turn before all who still have space.
+    /// "Shares in a kept tree", by what must be true at the end of each family.
     fn kept_shares(&self, leasts: &[u32]) -> Result<(), String> {
+        let mut owners = 0..self.totals.len();
+        owners.try_for_each(|owner| self.kept_family(owner, leasts))
+    }
+
+    /// A family can afford its helpers' holds if all particles of its subdomain
+    /// have space beside them. Then helpers' own particles are left in place, up to
+    /// the limit.
+    fn kept_family(&self, owner: usize, leasts: &[u32]) -> Result<(), String> {
+        let least = |node: usize| u64::from(leasts[node]);
+        let own = |node: usize| self.held.counts[node][node].min(self.limit);
+        let with_holds = self.family(owner, |node| least(node).max(own(node)));
+        let spaces = with_holds.iter().map(|member| member.space(self.limit));
+        if spaces.sum::<u64>() < self.totals[owner] {
+            return self.levelled(&self.family(owner, least));
+        }
+        let mut helpers = with_holds.iter().filter(|member| member.node != owner);
+        let in_place = helpers.all(|helper| self.division.own[helper.node] >= own(helper.node));
+        ensure(in_place, "a helper's own particles leave")?;
+        self.levelled(&with_holds)
+    }
+
+    /// Nobody has more than its space or less than it keeps, and whoever was given a
+    /// particle had its turn before all who still have space.
+    fn levelled(&self, family: &[Member]) -> Result<(), String> {
         let limit = self.limit;
-        for owner in 0..self.totals.len() {
-            let family = self.family(owner, leasts);
-            let with_space = |member: &&Member| member.standing_load() < limit;
-            for member in &family {
-                let keeps = member.keeps(limit);
-                ensure(member.standing_load() <= limit, "more than the space")?;
-                ensure(member.amount >= keeps, "less than what is kept")?;
-                let mut others = family.iter().filter(with_space);
-                let in_turn =
-                    member.amount == keeps || others.all(|other| member.was_before(other));
-                ensure(in_turn, "given before a lower one")?;
-            }
+        let with_space = |member: &&Member| member.standing_load() < limit;
+        for member in family {
+            let keeps = member.keeps(limit);
+            ensure(member.standing_load() <= limit, "more than the space")?;
+            ensure(member.amount >= keeps, "less than what is kept")?;
+            let mut others = family.iter().filter(with_space);
+            let in_turn = member.amount == keeps || others.all(|other| member.was_before(other));
+            ensure(in_turn, "given before a lower one")?;
         }
         Ok(())
     }
 
-    /// The members of an owner's family.
-    fn family(&self, owner: usize, leasts: &[u32]) -> Vec<Member> {
+    /// The members of an owner's family, each helper having this beside its share.
+    fn family(&self, owner: usize, beside: impl Fn(usize) -> u64) -> Vec<Member> {
         let Division { own, share } = &self.division;
         let member = |node: usize| Member {
             node,
             base: match node == owner {
                 true => share[node],
-                false => u64::from(leasts[node]),
+                false => beside(node),
             },
             holding: self.held.counts[node][owner],
             amount: match node == owner {

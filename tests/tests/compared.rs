@@ -3,7 +3,7 @@
 #![forbid(unsafe_code)]
 
 use firrozka_tests::calls::MEASURED_CALLS;
-use firrozka_tests::implementations::{IN_PERCENT, OWNER_FIRST, REFERENCE};
+use firrozka_tests::implementations::{IN_PERCENT, LEAST_ALWAYS, OWNER_FIRST, REFERENCE};
 use firrozka_tests::records::plans::Form;
 use firrozka_tests::settings::SEED;
 use firrozka_tests::speed::compared::{agree, compare, follows, in_both, EARLIER, LATER};
@@ -116,15 +116,24 @@ fn sheets_of_another_unit_mean_the_same() {
     }
 }
 
-/// Before version 1.3 the rest of a kept tree's family went to the owner first.
+/// Before version 1.3 the rest of a kept tree's family went to the owner first, and
+/// before 1.7 least was used whatever helpers held of their own.
 #[test]
 fn each_version_has_its_rules() {
+    let versions = [
+        (102, &OWNER_FIRST),
+        (103, &LEAST_ALWAYS),
+        (106, &LEAST_ALWAYS),
+        (107, &REFERENCE),
+    ];
     for row in some_rows() {
         let (job, planned) = (row.job(64), row.measured == Measured::PlanStep);
-        assert!(follows(&job, &OWNER_FIRST, 102));
-        assert!(follows(&job, &REFERENCE, 103));
-        assert_eq!(follows(&job, &REFERENCE, 102), !planned);
-        assert_eq!(follows(&job, &OWNER_FIRST, 103), !planned);
+        for (version, rules) in versions {
+            for by in [&OWNER_FIRST, &LEAST_ALWAYS, &REFERENCE] {
+                let alike = by.name == rules.name || !planned;
+                assert_eq!(follows(&job, by, version), alike, "{version}, {}", by.name);
+            }
+        }
     }
 }
 

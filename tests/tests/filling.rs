@@ -1,13 +1,15 @@
 //! Request 2026-03 in the second implementation: level filling gives what one
 //! particle after another would give, in all small families, in random ones and
-//! in whole steps.
+//! in whole steps, among them steps in which request 2026-07 makes a difference.
 #![forbid(unsafe_code)]
 
 use firrozka_tests::bench_text;
 use firrozka_tests::implementations::{MOVES_BYTES, PLAN_BYTES, REFERENCE};
 use firrozka_tests::random::Random;
 use firrozka_tests::records::plans;
-use firrozka_tests::reference::keeping::{level_filling, one_after_another, Fill, Member};
+use firrozka_tests::reference::keeping::{
+    least_always, level_filling, one_after_another, Fill, Member, Rules, RULES,
+};
 use firrozka_tests::reference::plan_step_with;
 use firrozka_tests::reference::table::Table;
 use firrozka_tests::settings::SEED;
@@ -110,18 +112,45 @@ fn the_example() {
     assert!(expected == text, "it should be:\n{text}");
 }
 
-/// What *plan a step* writes with this filling.
-fn written(fill: Fill, sheet: &[u8], old: &[u8]) -> (u32, Vec<u8>) {
+/// What *plan a step* writes by these rules.
+fn written(rules: Rules, sheet: &[u8], old: &[u8]) -> (u32, Vec<u8>) {
     let (mut plan, mut moves) = (vec![0; PLAN_BYTES], vec![0; MOVES_BYTES]);
-    let answer = plan_step_with(fill, [sheet, old], &mut plan, &mut moves);
+    let answer = plan_step_with(rules, [sheet, old], &mut plan, &mut moves);
     (answer.kind, [plan, moves].concat())
+}
+
+/// How many steps were kept, and in how many of them least would lead elsewhere.
+#[derive(Debug, Default)]
+struct Tally {
+    kept: u32,
+    held: u32,
+}
+
+impl Tally {
+    /// Plans a step by today's filling and, if it is kept, by the rule itself.
+    fn note(&mut self, sheet: &[u8], old: &[u8]) {
+        let one_by_one = Rules {
+            fill: one_after_another,
+            ..RULES
+        };
+        let with_leasts = Rules {
+            keep: least_always,
+            ..RULES
+        };
+        let (kind, bytes) = written(RULES, sheet, old);
+        if kind == 1 {
+            assert!(bytes == written(one_by_one, sheet, old).1);
+            self.kept += 1;
+            self.held += u32::from(bytes != written(with_leasts, sheet, old).1);
+        }
+    }
 }
 
 /// All steps of three nodes and any tree, in which everybody holds none, one or
 /// three of what it may hold.
 #[test]
 fn all_small_steps() {
-    let mut kept = 0;
+    let mut tally = Tally::default();
     let trees = exhaustive::trees(3);
     for row in exhaustive::rows(9, 3) {
         let mut table = Table::empty(3);
@@ -130,22 +159,16 @@ fn all_small_steps() {
         }
         let sheet = table.sheet(worked::ONE_PERCENT).bytes();
         for helpands in &trees {
-            let old = worked::old(helpands);
-            let (kind, bytes) = written(level_filling, &sheet, &old);
-            if kind == 1 {
-                let (_, other) = written(one_after_another, &sheet, &old);
-                assert!(bytes == other, "{row:?} along {helpands:?}");
-                kept += 1;
-            }
+            tally.note(&sheet, &worked::old(helpands));
         }
     }
-    assert!(kept > 10_000, "{kept}");
+    assert!(tally.kept > 10_000 && tally.held > 1_000, "{tally:?}");
 }
 
 /// Steps of many nodes with a few thousand particles, held by anybody.
 #[test]
 fn random_steps() {
-    let mut kept = 0;
+    let mut tally = Tally::default();
     for index in 0..600 {
         let random = &mut Random::at(SEED, index);
         let n = random.between(2, 64);
@@ -156,12 +179,7 @@ fn random_steps() {
             table.counts[holder][subdomain] += random.amount(0, most);
         }
         let sheet = table.sheet(random.between(100, 999)).bytes();
-        let old = worked::old(&plans::tree(n, random));
-        let (kind, bytes) = written(level_filling, &sheet, &old);
-        if kind == 1 {
-            assert!(bytes == written(one_after_another, &sheet, &old).1);
-            kept += 1;
-        }
+        tally.note(&sheet, &worked::old(&plans::tree(n, random)));
     }
-    assert!(kept > 100, "{kept}");
+    assert!(tally.kept > 100 && tally.held > 50, "{tally:?}");
 }

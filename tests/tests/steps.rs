@@ -11,7 +11,9 @@ use firrozka_tests::implementations::{Implementation, IMPLEMENTATIONS};
 use firrozka_tests::random::Random;
 use firrozka_tests::records::plans::depth;
 use firrozka_tests::records::to_words;
-use firrozka_tests::reference::keeping::{families, level_filling, Family, Member};
+use firrozka_tests::reference::keeping::{
+    hold_or_least, in_families, level_filling, Family, Helper, Member, Undivided,
+};
 use firrozka_tests::reference::plan::{self, Plan};
 use firrozka_tests::reference::sheet;
 use firrozka_tests::reference::table::Table;
@@ -134,7 +136,8 @@ fn step_k() {
 
 /// Every step is judged: kept exactly when the flow finds a rival's division,
 /// kept shares are one, rebuilt loads are the targets, the moves lead to the due
-/// amounts, and all records are read back.
+/// amounts, and all records are read back. And in a kept tree a family affords its
+/// helpers' holds exactly when beside these it has space for all of its subdomain.
 #[test]
 fn seeded_steps() {
     let seed = seed();
@@ -147,8 +150,16 @@ fn seeded_steps() {
         let [judged, _] =
             IMPLEMENTATIONS.map(|implementation| judged(implementation, &step, &place));
         kinds[judged.plan.kind as usize] += 1;
+        let families = match judged.plan.kind {
+            1 => in_families(&judged.plan, &judged.held, Seen::of),
+            _ => Vec::new(),
+        };
+        for seen in &families {
+            let has_space = seen.space_beside_holds >= seen.total;
+            assert_eq!(seen.load <= seen.room, has_space, "{place}");
+        }
         for corner in &mut corners {
-            corner.times += u64::from((corner.met)(&judged));
+            corner.times += u64::from((corner.met)(&judged, &families));
         }
     }
     let [primary, kept, rebuilt] = kinds;
@@ -164,13 +175,16 @@ fn seeded_steps() {
 /// pass on easy steps.
 struct Corner {
     what: String,
-    met: Box<dyn Fn(&Judged) -> bool>,
+    met: Met,
     times: u64,
 }
 
+/// Whether a step is of some sort, or its families with helpers are, if it is kept.
+type Met = Box<dyn Fn(&Judged, &[Seen]) -> bool>;
+
 fn corners() -> Vec<Corner> {
     let mut all = Vec::new();
-    let mut add = |what: String, met: Box<dyn Fn(&Judged) -> bool>| {
+    let mut add = |what: String, met: Met| {
         let times = 0;
         all.push(Corner { what, met, times });
     };
@@ -188,25 +202,87 @@ fn corners() -> Vec<Corner> {
         }
     }
     for (what, met) in ONCE {
-        add(what.into(), Box::new(met));
+        add(what.into(), Box::new(move |step, _| met(step)));
     }
     for (what, met) in FILLED {
-        let what = format!("kind 1 and {what}");
-        let some = move |step: &Judged| {
-            let mut families = families(&step.plan, &step.held).into_iter();
-            families.any(|family| family.rest > 0 && met(&family))
-        };
-        add(what, of_kind(1, some));
+        let some = some_family(move |seen| seen.family.rest > 0 && met(&seen.family));
+        add(format!("kind 1 and {what}"), some);
     }
+    for (what, met) in HELD {
+        add(format!("kind 1 and {what}"), some_family(met));
+    }
+    let both = |_: &Judged, families: &[Seen]| {
+        let decided = |how| families.iter().any(|seen| seen.decision == Some(how));
+        decided(true) && decided(false)
+    };
+    let what = "kind 1 and holds that are afforded beside holds that are not";
+    add(what.into(), Box::new(both));
     all
 }
 
-fn of_kind(kind: u32, met: impl Fn(&Judged) -> bool + 'static) -> Box<dyn Fn(&Judged) -> bool> {
-    Box::new(move |step| step.plan.kind == kind && met(step))
+fn of_kind(kind: u32, met: impl Fn(&Judged) -> bool + 'static) -> Met {
+    Box::new(move |step, _| step.plan.kind == kind && met(step))
+}
+
+fn some_family(met: impl Fn(&Seen) -> bool + 'static) -> Met {
+    Box::new(move |_, families| families.iter().any(&met))
+}
+
+/// A family with helpers in a kept tree.
+struct Seen {
+    /// As it is before the rest is given.
+    family: Family,
+    helpers: Vec<Helper>,
+    /// Whether it affords holds that differ from leasts.
+    decision: Option<bool>,
+    /// P of its owner, and R.
+    total: u64,
+    share: u64,
+    /// "P of the family's owner plus its R plus its helpers' holds", and "L times the
+    /// family's size".
+    load: u64,
+    room: u64,
+    /// The load if holds were not capped at L, and if they were of all particles of a
+    /// helper's subdomain, whoever has them.
+    uncapped: u64,
+    whoever_holds: u64,
+    /// What the helpers themselves hold of their own, in their order.
+    own: Vec<u64>,
+    /// All members' space if each helper's is L less its hold.
+    space_beside_holds: u64,
+}
+
+impl Seen {
+    fn of(family: &Undivided) -> Seen {
+        let (limit, totals) = (family.weighing.limit, family.weighing.totals);
+        let own = |helper: &Helper| family.table.counts[helper.node][helper.node];
+        let load_with = |held: &dyn Fn(&Helper) -> u64| {
+            let holds = family
+                .helpers
+                .iter()
+                .map(|helper| helper.least.max(held(helper)));
+            family.total() + family.share() + holds.sum::<u64>()
+        };
+        let beside_holds = family.keeping(|helper| helper.hold).members.into_iter();
+        Seen {
+            family: hold_or_least(family),
+            helpers: family.helpers.clone(),
+            decision: family.decision(),
+            total: family.total(),
+            share: family.share(),
+            load: family.load_with_holds(),
+            room: family.room(),
+            uncapped: load_with(&own),
+            whoever_holds: load_with(&|helper| totals[helper.node].min(limit)),
+            own: family.helpers.iter().map(own).collect(),
+            space_beside_holds: beside_holds.map(|member| member.space).sum(),
+        }
+    }
 }
 
 type Named = (&'static str, fn(&Judged) -> bool);
 type NamedFamily = (&'static str, fn(&Family) -> bool);
+type NamedSeen = (&'static str, fn(&Seen) -> bool);
 
 /// What a run has to meet in each kind.
 const EACH_KIND: [Named; 9] = [
@@ -291,6 +367,45 @@ const FILLED: [NamedFamily; 9] = [
     }),
 ];
 
+/// What some family has to be in a kept tree whose helpers hold particles of their own.
+const HELD: [NamedSeen; 11] = [
+    ("holds that are afforded", |seen| {
+        seen.decision == Some(true)
+    }),
+    ("holds that are not afforded", |seen| {
+        seen.decision == Some(false)
+    }),
+    ("holds that are just afforded", |seen| {
+        seen.decision == Some(true) && seen.load == seen.room
+    }),
+    ("holds that are one particle too many", |seen| {
+        seen.load == seen.room + 1
+    }),
+    ("holds that are afforded as they are capped", |seen| {
+        seen.decision == Some(true) && seen.uncapped > seen.room
+    }),
+    ("holds that are not afforded beside R", |seen| {
+        seen.decision == Some(false) && seen.load - seen.share <= seen.room
+    }),
+    ("holds that are afforded as others hold the rest", |seen| {
+        seen.decision == Some(true) && seen.whoever_holds > seen.room
+    }),
+    ("holds of which one is least, above what is held", |seen| {
+        let mut helpers = seen.helpers.iter().zip(&seen.own);
+        seen.decision.is_some() && helpers.any(|(helper, &own)| own < helper.least)
+    }),
+    ("holds that are afforded, and a rest", |seen| {
+        seen.decision == Some(true) && seen.family.rest > 0
+    }),
+    ("holds that are afforded below the root", |seen| {
+        seen.decision == Some(true) && seen.share > 0
+    }),
+    ("a hold of a hundred million above its least", |seen| {
+        let mut helpers = seen.helpers.iter();
+        helpers.any(|helper| helper.hold >= helper.least + 100_000_000)
+    }),
+];
+
 fn owner(family: &Family) -> Member {
     let mut members = family.members.iter();
     *members
@@ -352,6 +467,37 @@ fn pairs_of_steps() {
             }
         }
     }
+}
+
+/// One particle decides whether a family leaves its helpers' own particles in place,
+/// at every N that allows a helper with helpers.
+#[test]
+fn pairs_of_holds() {
+    let seed = seed();
+    for (n, index) in (3..=64).flat_map(|n| (0..PAIRS).map(move |index| (n, index))) {
+        let pair = pairs::holds(Size::Of(n), &mut Random::at(seed, index));
+        let name = format!("FIRROZKA_SEED={seed}, N {n}, pair {index}");
+        for implementation in IMPLEMENTATIONS {
+            just_decided(implementation, &pair, &name);
+        }
+    }
+}
+
+/// Both steps are kept and differ in who holds one particle, which some family affords
+/// in the first and not in the second.
+fn just_decided(implementation: &Implementation, pair: &Pair, name: &str) {
+    let both = [&pair.within, &pair.above].map(|step| judged(implementation, step, name));
+    let [within, above] = &both;
+    assert_eq!([within.plan.kind, above.plan.kind], [1, 1], "{name}");
+    assert_eq!(within.totals, above.totals, "{name}");
+    let rows = within.held.counts.iter().zip(&above.held.counts);
+    let cells = rows.flat_map(|(a, b)| a.iter().zip(b));
+    let apart: u64 = cells.map(|(a, b)| a.abs_diff(*b)).sum();
+    assert_eq!(apart, 2, "{name}");
+    let [within, above] = both.map(|step| in_families(&step.plan, &step.held, Seen::of));
+    let mut families = within.iter().zip(&above);
+    let decided = families.any(|(a, b)| a.load == a.room && b.load == b.room + 1);
+    assert!(decided, "{name}");
 }
 
 /// The kinds of both steps, which differ in one particle and nothing else.

@@ -6,18 +6,25 @@
 use firrozka_tests::calls::PLAN_STEP;
 use firrozka_tests::demands::must_judge;
 use firrozka_tests::implementations::{Implementation, OWNER_FIRST, REFERENCE};
-use firrozka_tests::reference::keeping::{level_filling, Member};
+use firrozka_tests::reference::keeping::{level_filling, Member, Rules, RULES};
 use firrozka_tests::reference::plan_step_with;
 use firrozka_tests::settings::SEED;
+
+/// Planners with other rules for the shares in a kept tree.
+macro_rules! planners {
+    ($($name:literal, $rules:expr;)*) => {
+        [$(Implementation {
+            name: $name,
+            plan_step: |sheet, old, plan, moves| plan_step_with($rules, [sheet, old], plan, moves),
+            ..REFERENCE
+        }),*]
+    };
+}
 
 /// Planners with other fillings.
 macro_rules! filling {
     ($($name:literal, $fill:expr;)*) => {
-        [$(Implementation {
-            name: $name,
-            plan_step: |sheet, old, plan, moves| plan_step_with($fill, [sheet, old], plan, moves),
-            ..REFERENCE
-        }),*]
+        planners! { $($name, Rules { fill: $fill, ..RULES };)* }
     };
 }
 

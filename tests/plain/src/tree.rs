@@ -37,6 +37,34 @@ pub fn leasts(totals: &Nodes, helpands: &Nodes, order: &[usize], limit: u32) -> 
     leasts
 }
 
+/// What helpers leave in place where their family affords it.
+struct Holds {
+    /// The hold of every node.
+    of: Nodes,
+    /// The sum over each owner's helpers.
+    sums: [u64; 64],
+    /// The size of each owner's family.
+    sizes: [u64; 64],
+}
+
+fn holds(table: &Table, leasts: &Nodes, helpands: &Nodes, n: usize, limit: u32) -> Holds {
+    let mut holds = Holds {
+        of: [0; 64],
+        sums: [0; 64],
+        sizes: [1; 64],
+    };
+    for node in 0..n {
+        let own = table[64 * node + node];
+        holds.of[node] = leasts[node].max(own.min(limit));
+        let helpand = helpands[node] as usize;
+        if helpand != node {
+            holds.sums[helpand] += u64::from(holds.of[node]);
+            holds.sizes[helpand] += 1;
+        }
+    }
+    holds
+}
+
 /// The shares in a kept tree, from the root down.
 pub fn shares(
     table: &Table,
@@ -47,8 +75,12 @@ pub fn shares(
     limit: u32,
 ) -> Nodes {
     let n = order.len();
+    let holds = holds(table, leasts, helpands, n, limit);
     let mut shares = [0; 64];
     for &owner in order {
+        let load = u64::from(totals[owner]) + u64::from(shares[owner]) + holds.sums[owner];
+        let affords = load <= u64::from(limit) * holds.sizes[owner];
+        let beside = if affords { &holds.of } else { leasts };
         // first what each member keeps, in its standing load
         let (mut nodes, mut standing, mut members) = ([0; 64], [0; 64], 0);
         let mut rest = totals[owner];
@@ -57,7 +89,7 @@ pub fn shares(
                 let base = if node == owner {
                     shares[node]
                 } else {
-                    leasts[node]
+                    beside[node]
                 };
                 let keeps = (limit - base).min(table[64 * node + owner]);
                 nodes[members] = node;
@@ -72,7 +104,7 @@ pub fn shares(
         }
         for at in 0..members {
             if nodes[at] != owner {
-                shares[nodes[at]] = standing[at] - leasts[nodes[at]];
+                shares[nodes[at]] = standing[at] - beside[nodes[at]];
             }
         }
     }

@@ -1,6 +1,6 @@
 //! "Deciding": which of the three kinds of plan a step gets.
 
-use super::keeping::{self, Fill};
+use super::keeping::{self, Rules};
 use super::plan::Plan;
 use super::rebuilding::rebuild;
 use super::sheet::Sheet;
@@ -8,8 +8,8 @@ use super::table::Table;
 use super::weighing::Weighing;
 use super::words::to_word;
 
-/// The plan for a sheet and an old tree, which is filled in this way if it is kept.
-pub fn plan(sheet: &Sheet, old_tree: Option<&[u32]>, fill: Fill) -> Plan {
+/// The plan for a sheet and an old tree, with shares by these rules if it is kept.
+pub fn plan(sheet: &Sheet, old_tree: Option<&[u32]>, rules: Rules) -> Plan {
     let table = Table::of(sheet);
     let totals = table.totals();
     let limit = u64::from(sheet.limit());
@@ -25,7 +25,7 @@ pub fn plan(sheet: &Sheet, old_tree: Option<&[u32]>, fill: Fill) -> Plan {
             limit,
         };
         if weighing.holds() {
-            let shares = keeping::shares(&weighing, &table, fill);
+            let shares = keeping::shares(&weighing, &table, rules);
             return written(sheet, 1, helpands.to_vec(), &shares);
         }
     }

@@ -1,17 +1,37 @@
-//! "Shares in a kept tree, from the root down", and request 2026-03, "Level
-//! filling in a kept tree".
+//! "Shares in a kept tree, from the root down", with requests 2026-03, "Level
+//! filling in a kept tree", and 2026-07, "Leave helpers' own particles in place".
 
 use super::plan::Plan;
 use super::table::Table;
 use super::tree::{downwards, helpers};
 use super::weighing::Weighing;
 
+/// A helper in its helpand's family.
+#[derive(Clone, Copy, Debug, PartialEq, Eq)]
+pub struct Helper {
+    pub node: usize,
+    pub least: u64,
+    pub hold: u64,
+}
+
+/// A family whose subdomain n is to be divided, and all that is known by then.
+pub struct Undivided<'a> {
+    /// n.
+    pub owner: usize,
+    /// By rising number.
+    pub helpers: Vec<Helper>,
+    /// What was given so far: to the owner, and to the nodes above it.
+    pub shares: &'a [u64],
+    pub weighing: &'a Weighing<'a>,
+    pub table: &'a Table,
+}
+
 /// One member of a family, and subdomain n.
 #[derive(Clone, Copy, Debug, PartialEq, Eq)]
 pub struct Member {
     pub node: usize,
     pub is_owner: bool,
-    /// Its load beside subdomain n: R for the owner, least for a helper.
+    /// Its load beside subdomain n: R for the owner, hold or least for a helper.
     pub base: u64,
     /// The most that it takes of subdomain n.
     pub space: u64,
@@ -25,16 +45,33 @@ pub struct Family {
     pub rest: u64,
 }
 
+/// A way to find what the members of a family keep.
+pub type Keep = fn(family: &Undivided) -> Family;
+
 /// A way to give the rest to the members of a family, which stand by rising number.
 pub type Fill = fn(members: &mut [Member], rest: u64);
 
+/// How shares in a kept tree are found.
+#[derive(Clone, Copy)]
+pub struct Rules {
+    pub keep: Keep,
+    pub fill: Fill,
+}
+
+/// Today's rules.
+pub const RULES: Rules = Rules {
+    keep: hold_or_least,
+    fill: level_filling,
+};
+
 /// The shares of all nodes in a tree that holds.
-pub fn shares(weighing: &Weighing, table: &Table, fill: Fill) -> Vec<u64> {
+pub fn shares(weighing: &Weighing, table: &Table, rules: Rules) -> Vec<u64> {
     // "Rn is n's share, 0 for the root."
     let mut shares = vec![0; table.nodes()];
     for owner in downwards(weighing.helpands) {
-        let Family { mut members, rest } = family(owner, shares[owner], weighing, table);
-        fill(&mut members, rest);
+        let undivided = Undivided::new(owner, &shares, weighing, table);
+        let Family { mut members, rest } = (rules.keep)(&undivided);
+        (rules.fill)(&mut members, rest);
         for helper in members.iter().filter(|member| !member.is_owner) {
             shares[helper.node] = helper.amount;
         }
@@ -42,57 +79,128 @@ pub fn shares(weighing: &Weighing, table: &Table, fill: Fill) -> Vec<u64> {
     shares
 }
 
-/// The family of an owner with this share of its helpand's subdomain.
-fn family(owner: usize, share: u64, weighing: &Weighing, table: &Table) -> Family {
-    let mut nodes = helpers(weighing.helpands, owner);
-    nodes.push(owner);
-    nodes.sort_unstable();
-    let member = |node| {
-        let is_owner = node == owner;
-        let base = if is_owner {
-            share
-        } else {
-            weighing.least(node)
-        };
-        // "The space for subdomain n is L − Rn at n itself, and L − least at
-        // each helper."
-        let space = weighing.limit - base;
-        Member {
-            node,
-            is_owner,
-            base,
-            space,
-            // "Each member first keeps the smaller of its space and what it
-            // already holds of subdomain n."
-            amount: space.min(table.counts[node][owner]),
-        }
-    };
-    let members: Vec<Member> = nodes.into_iter().map(member).collect();
-    let kept: u64 = members.iter().map(|member| member.amount).sum();
-    Family {
-        rest: weighing.totals[owner] - kept,
-        members,
+/// "If P of the family's owner plus its R plus its helpers' holds is at most L
+/// times the family's size, space and standing load use hold in place of least.
+/// Otherwise they use least as before."
+pub fn hold_or_least(family: &Undivided) -> Family {
+    match family.affords_holds() {
+        true => family.keeping(|helper| helper.hold),
+        false => family.keeping(|helper| helper.least),
     }
 }
 
-/// The families that have helpers, as they are before the rest is given in this
-/// plan, which is kept.
-pub fn families(plan: &Plan, table: &Table) -> Vec<Family> {
+/// As before request 2026-07.
+pub fn least_always(family: &Undivided) -> Family {
+    family.keeping(|helper| helper.least)
+}
+
+/// What is found in those families of this plan, which is kept, that have helpers.
+pub fn in_families<T>(plan: &Plan, table: &Table, find: impl Fn(&Undivided) -> T) -> Vec<T> {
     let weighing = Weighing {
         helpands: &plan.helpands,
         totals: &table.totals(),
         limit: u64::from(plan.limit),
     };
     let shares = plan.shares.iter().map(|&share| u64::from(share));
-    let families = shares
-        .enumerate()
-        .map(|(owner, share)| family(owner, share, &weighing, table));
-    families.filter(|family| family.members.len() > 1).collect()
+    let shares: Vec<u64> = shares.collect();
+    (0..shares.len())
+        .map(|owner| Undivided::new(owner, &shares, &weighing, table))
+        .filter(|family| !family.helpers.is_empty())
+        .map(|family| find(&family))
+        .collect()
+}
+
+impl<'a> Undivided<'a> {
+    pub fn new(
+        owner: usize,
+        shares: &'a [u64],
+        weighing: &'a Weighing<'a>,
+        table: &'a Table,
+    ) -> Undivided<'a> {
+        let helper = |node: usize| {
+            let least = weighing.least(node);
+            // "A helper's hold is the larger of its least and its own-subdomain
+            // holding capped at L."
+            let hold = least.max(table.counts[node][node].min(weighing.limit));
+            Helper { node, least, hold }
+        };
+        let helpers = helpers(weighing.helpands, owner).into_iter();
+        Undivided {
+            owner,
+            helpers: helpers.map(helper).collect(),
+            shares,
+            weighing,
+            table,
+        }
+    }
+
+    /// "P of the family's owner".
+    pub fn total(&self) -> u64 {
+        self.weighing.totals[self.owner]
+    }
+
+    /// "its R".
+    pub fn share(&self) -> u64 {
+        self.shares[self.owner]
+    }
+
+    /// "P of the family's owner plus its R plus its helpers' holds".
+    pub fn load_with_holds(&self) -> u64 {
+        let holds: u64 = self.helpers.iter().map(|helper| helper.hold).sum();
+        self.total() + self.share() + holds
+    }
+
+    /// "L times the family's size", of which the owner is a part.
+    pub fn room(&self) -> u64 {
+        self.weighing.limit * (1 + self.helpers.len() as u64)
+    }
+
+    pub fn affords_holds(&self) -> bool {
+        self.load_with_holds() <= self.room()
+    }
+
+    /// The same; nothing if holds are leasts, so that it does not matter.
+    pub fn decision(&self) -> Option<bool> {
+        let mut helpers = self.helpers.iter();
+        let matters = helpers.any(|helper| helper.hold > helper.least);
+        matters.then(|| self.affords_holds())
+    }
+
+    /// What the members keep, each helper having this beside subdomain n; and the
+    /// rest.
+    pub fn keeping(&self, beside: impl Fn(&Helper) -> u64) -> Family {
+        let helpers = self.helpers.iter();
+        let mut members: Vec<Member> = helpers
+            .map(|helper| self.member(helper.node, beside(helper)))
+            .collect();
+        members.push(self.member(self.owner, self.share()));
+        members.sort_unstable_by_key(|member| member.node);
+        let kept: u64 = members.iter().map(|member| member.amount).sum();
+        Family {
+            rest: self.total() - kept,
+            members,
+        }
+    }
+
+    fn member(&self, node: usize, base: u64) -> Member {
+        // "The space for subdomain n is L − Rn at n itself, and L − least at
+        // each helper", or L − hold.
+        let space = self.weighing.limit - base;
+        Member {
+            node,
+            is_owner: node == self.owner,
+            base,
+            space,
+            // "Each member first keeps the smaller of its space and what it
+            // already holds of subdomain n."
+            amount: space.min(self.table.counts[node][self.owner]),
+        }
+    }
 }
 
 impl Member {
     /// "Standing load is R plus its amount for the owner, and least plus its
-    /// amount for a helper."
+    /// amount for a helper", or hold plus its amount.
     pub fn standing_load(&self) -> u64 {
         self.base + self.amount
     }

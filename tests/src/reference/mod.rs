@@ -12,7 +12,7 @@
 //! | `tree` | The bench's boundary, helpands and helpers |
 //! | `deciding` | Deciding, the three kinds |
 //! | `weighing` | Weighing |
-//! | `keeping` | Shares in a kept tree; request 2026-03 |
+//! | `keeping` | Shares in a kept tree; requests 2026-03 and 2026-07 |
 //! | `rebuilding` | Rebuilding |
 //! | `transfer` | Moves, and the sheet that follows |
 //! | `page` | Request 2026-04, the lines |

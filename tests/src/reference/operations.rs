@@ -2,7 +2,7 @@
 //! a refusal number, and the values named. A refusal's other values are all 0,
 //! and buffers are untouched. Checks run in the order written."
 
-use super::keeping::{level_filling, Fill};
+use super::keeping::{Rules, RULES};
 use super::moves::Moves;
 use super::page::page;
 use super::sheet::Sheet;
@@ -54,22 +54,22 @@ pub fn plan_step(
     plan_buffer: &mut [u8],
     moves_buffer: &mut [u8],
 ) -> StepAnswer {
-    plan_step_with(level_filling, [sheet, old], plan_buffer, moves_buffer)
+    plan_step_with(RULES, [sheet, old], plan_buffer, moves_buffer)
 }
 
-/// The same with this way to give the rest in a kept tree.
+/// The same with these rules for the shares in a kept tree.
 pub fn plan_step_with(
-    fill: Fill,
+    rules: Rules,
     records: [&[u8]; 2],
     plan_buffer: &mut [u8],
     moves_buffer: &mut [u8],
 ) -> StepAnswer {
-    try_plan_step(fill, records, plan_buffer, moves_buffer)
+    try_plan_step(rules, records, plan_buffer, moves_buffer)
         .map_or_else(Answer::refused, answers::planned)
 }
 
 fn try_plan_step(
-    fill: Fill,
+    rules: Rules,
     [sheet, old]: [&[u8]; 2],
     plan_buffer: &mut [u8],
     moves_buffer: &mut [u8],
@@ -84,7 +84,7 @@ fn try_plan_step(
     if old.as_ref().map_or(false, |old| old.n != sheet.n) {
         return Err(21);
     }
-    let plan = deciding::plan(&sheet, old_tree(old.as_ref()), fill);
+    let plan = deciding::plan(&sheet, old_tree(old.as_ref()), rules);
     let held = Table::of(&sheet);
     let moves = transfer::moves(&held, &transfer::due(&plan, &held.totals()));
     let (plan_bytes, moves_bytes) = (plan.bytes(), moves.bytes());

@@ -7,7 +7,7 @@
 use super::jobs::{Job, Measured};
 use super::table::Row;
 use super::timing::in_turn;
-use crate::implementations::{Implementation, OWNER_FIRST, REFERENCE};
+use crate::implementations::{Implementation, LEAST_ALWAYS, OWNER_FIRST, REFERENCE};
 use firrozka_loaded as loaded;
 use std::io::{self, Write};
 use std::path::{Path, PathBuf};
@@ -154,10 +154,11 @@ pub fn agree(row: &Row) -> bool {
 
 /// Whether somebody of this version writes what the second implementation writes
 /// by the rules of that version: before request 2026-03 the rest went to the owner
-/// first.
+/// first, and before 2026-07 no family left helpers' own particles in place.
 pub fn follows(job: &Job, by: &Implementation, version: u32) -> bool {
     let rules = match version {
         100..=102 => &OWNER_FIRST,
+        103..=106 => &LEAST_ALWAYS,
         _ => &REFERENCE,
     };
     for_version(job, version).written(by) == job.written(rules)

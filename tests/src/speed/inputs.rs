@@ -5,9 +5,9 @@ use super::kept::{self, Rest};
 use crate::implementations::REFERENCE;
 use crate::random::Random;
 use crate::records::plans::{self, Form};
-use crate::reference::keeping::families;
+use crate::reference::keeping::{hold_or_least, Undivided};
+use crate::reference::plan;
 use crate::reference::table::Table;
-use crate::reference::{plan, sheet};
 use crate::steps::Step;
 
 /// The tolerance of all sheets, in tenths of a percent.
@@ -99,13 +99,14 @@ pub fn step(n: usize, filling: Filling, outcome: Outcome, random: &mut Random) -
 fn is_met(outcome: Outcome, step: &Step) -> bool {
     let planned = REFERENCE.plan(step);
     let plan = plan::read(&planned.plan).expect("the plan is accepted");
-    let rest_is_met = |rest: Rest| {
-        let sheet = sheet::read(&step.sheet).expect("the sheet is accepted");
-        rest.is_met(&families(&plan, &Table::of(&sheet)))
-    };
     plan.kind == outcome.kind()
         && match outcome {
-            Outcome::Kept(_, rest) => rest_is_met(rest),
+            Outcome::Kept(form, rest) => {
+                let decision = |family: &Undivided| (hold_or_least(family), family.decision());
+                let families = step.in_kept_families(decision);
+                let (families, decisions): (Vec<_>, Vec<_>) = families.into_iter().unzip();
+                rest.is_met(&families) && kept::are_met(form, &decisions)
+            }
             _ => true,
         }
 }

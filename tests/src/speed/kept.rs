@@ -1,8 +1,10 @@
-//! Sheets for which an old tree is kept, with a small or a large rest.
+//! Sheets for which an old tree is kept, with a small or a large rest, and with
+//! families that afford their helpers' holds beside families that do not.
 
 use super::inputs::{level, Filling, TOLERANCE};
 use crate::division::members;
 use crate::random::Random;
+use crate::records::plans::Form;
 use crate::reference::keeping::Family;
 use crate::reference::sheet;
 use crate::reference::table::Table;
@@ -40,6 +42,13 @@ impl Rest {
     }
 }
 
+/// Whether some of these families afford holds and some do not. In a star no helper
+/// has helpers, so that all holds are leasts.
+pub fn are_met(form: Form, decisions: &[Option<bool>]) -> bool {
+    let both = [true, false].map(Some);
+    form == Form::Star || both.iter().all(|decision| decisions.contains(decision))
+}
+
 /// The particles of one subdomain in a division along a tree.
 struct Divided {
     owner: usize,
@@ -52,7 +61,9 @@ struct Divided {
 
 /// The sheet of a division along the tree with loads within a few percent of each
 /// other, in which each node has a part of its helpand's subdomain. The members
-/// hold what it gives them, but for what is to be the rest.
+/// hold what it gives them, but for what is to be the rest. So much every family
+/// affords. Of those who help and have helpers, one in sixteen holds nearly all of
+/// its own subdomain, which its helpand's family often does not afford.
 pub fn divided(helpands: &[u32], filling: Filling, rest: Rest, random: &mut Random) -> Table {
     let n = helpands.len();
     let loads = level(n, random);
@@ -73,6 +84,10 @@ pub fn divided(helpands: &[u32], filling: Filling, rest: Rest, random: &mut Rand
         };
         let rest = total * rest.part(random) / 1000;
         divided.spread(rest, limit, &mut table, random);
+        let inner = !divided.shares.is_empty() && helpands[owner] as usize != owner;
+        if inner && random.chance(1, 16) {
+            gather(owner, &mut table);
+        }
     }
     table
 }
@@ -87,6 +102,19 @@ fn others(owner: usize, helpands: &[u32], filling: Filling, random: &mut Random)
         Filling::Sparse if !others.is_empty() => vec![random.one_of(&others)],
         _ => others,
     }
+}
+
+/// Leaves the other holders of a subdomain one particle each.
+fn gather(owner: usize, table: &mut Table) {
+    let total: u64 = table.counts.iter().map(|held| held[owner]).sum();
+    let mut others = 0;
+    for (holder, held) in table.counts.iter_mut().enumerate() {
+        if holder != owner && held[owner] > 0 {
+            held[owner] = 1;
+            others += 1;
+        }
+    }
+    table.counts[owner][owner] = total - others;
 }
 
 impl Divided {
@@ -104,7 +132,8 @@ impl Divided {
             left -= count;
         };
         for &(helper, share) in &self.shares {
-            hold(helper, (share - share * missing / shared).max(1));
+            // Nothing may be shared at all.
+            hold(helper, (share - share * missing / shared.max(1)).max(1));
         }
         for &other in &self.others {
             let most = rest / self.others.len() as u64;

@@ -6,9 +6,11 @@
 //! | `totals` | how many particles each subdomain has |
 //! | `tight` | totals that fill a part of a tree to the last place |
 //! | `holders` | who holds them |
+//! | `afforded` | what a helper holds of its own, seen from what its helpand's family affords |
 //! | `pairs` | two steps on either side of a bound, one particle apart |
 //! | `walk` | steps that follow from steps |
 
+mod afforded;
 mod holders;
 pub mod pairs;
 mod setting;
@@ -16,9 +18,12 @@ mod tight;
 pub mod totals;
 mod walk;
 
+use crate::implementations::REFERENCE;
 use crate::random::Random;
 use crate::records::{plans, sheets, shown};
+use crate::reference::keeping::{in_families, Undivided};
 use crate::reference::table::Table;
+use crate::reference::{plan, sheet};
 use setting::Setting;
 use std::fmt;
 
@@ -35,6 +40,16 @@ impl Step {
     /// or nothing".
     pub fn input(&self) -> Vec<u8> {
         [&self.sheet[..], &self.old].concat()
+    }
+
+    /// What is found in the families with helpers, if the step is kept.
+    pub fn in_kept_families<T>(&self, find: impl Fn(&Undivided) -> T) -> Vec<T> {
+        let plan = plan::read(&REFERENCE.plan(self).plan).expect("the plan is accepted");
+        let sheet = sheet::read(&self.sheet).expect("the sheet is accepted");
+        match plan.kind {
+            1 => in_families(&plan, &Table::of(&sheet), find),
+            _ => Vec::new(),
+        }
     }
 }
 
@@ -65,13 +80,15 @@ pub fn at(seed: u64, index: u64, size: Size) -> Step {
 
 /// Some step.
 pub fn some(size: Size, random: &mut Random) -> Step {
-    match random.below(12) {
+    match random.below(15) {
         0 | 1 => scattered(size, random),
         2 => level(size, random),
         3 => tied(size, random),
         4 | 5 => fitting(size, random),
         6 | 7 => pairs::tree(size, random).either(random),
         8 => pairs::primary(size, random).either(random),
+        9 | 10 => pairs::holds(size, random).either(random),
+        11 => capped(size, random),
         _ => walk::walk(size, random),
     }
 }
@@ -113,12 +130,61 @@ fn tied(size: Size, random: &mut Random) -> Step {
 /// A division along the old tree with every load at most L, often with little
 /// room left: kept or primary.
 fn fitting(size: Size, random: &mut Random) -> Step {
-    let setting = Setting::of_many(size, random);
-    let helpands = plans::tree(setting.n as u32, random);
-    let loads = totals::share_out(setting.p, setting.n, setting.limit(), random);
-    let totals = totals::around(&loads, &helpands, &[], random);
-    let table = holders::spread(&totals, &helpands, size, random);
-    step(&table, setting.t, &some_tree_plan(&helpands, random))
+    let fitted = Fitted::some(size, random);
+    fitted.holding(&fitted.table, random)
+}
+
+/// The same with a helper that holds more than L of its own, which its helpand's
+/// family affords since it is capped: kept.
+fn capped(size: Size, random: &mut Random) -> Step {
+    until(|| {
+        let fitted = Fitted::some(size, random);
+        let table = afforded::capped(&fitted, random)?;
+        Some(fitted.holding(&table, random))
+    })
+}
+
+/// A setting, a tree, and the table of a division along it with every load at most L,
+/// whoever holds the particles.
+struct Fitted {
+    setting: Setting,
+    helpands: Vec<u32>,
+    table: Table,
+}
+
+impl Fitted {
+    fn some(size: Size, random: &mut Random) -> Fitted {
+        let setting = Setting::of_many(size, random);
+        let helpands = plans::tree(setting.n as u32, random);
+        let loads = totals::share_out(setting.p, setting.n, setting.limit(), random);
+        let totals = totals::around(&loads, &helpands, &[], random);
+        let table = holders::spread(&totals, &helpands, size, random);
+        Fitted {
+            setting,
+            helpands,
+            table,
+        }
+    }
+
+    fn limit(&self) -> u64 {
+        self.setting.limit()
+    }
+
+    /// The step with this table, which has the same totals.
+    fn holding(&self, table: &Table, random: &mut Random) -> Step {
+        step(
+            table,
+            self.setting.t,
+            &some_tree_plan(&self.helpands, random),
+        )
+    }
+}
+
+/// The first success of many tries.
+fn until<T>(mut attempt: impl FnMut() -> Option<T>) -> T {
+    (0..10_000)
+        .find_map(|_| attempt())
+        .expect("one of many tries succeeds")
 }
 
 /// A step with any old plan: none, without a tree, or with any tree.

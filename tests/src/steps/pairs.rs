@@ -1,11 +1,13 @@
-//! Two steps with the same old plan that differ in one particle, which one node
-//! holds of one subdomain in the first and of another in the second. The first
-//! is just within a bound, the second just above.
+//! Two steps with the same old plan that differ in one particle. It is of one
+//! subdomain in the first and of another in the second, or one node holds it in the
+//! first and another in the second. The first is just within a bound, the second
+//! just above.
 
+use super::afforded::just_afforded;
 use super::setting::Setting;
 use super::tight::tight_set;
 use super::totals::share_out;
-use super::{holders, some_tree_plan, step, Size, Step};
+use super::{holders, some_tree_plan, step, until, Fitted, Size, Step};
 use crate::random::Random;
 use crate::records::plans;
 use crate::reference::table::Table;
@@ -36,11 +38,7 @@ pub fn tree(size: Size, random: &mut Random) -> Pair {
         }
         let table = holders::spread(&tight.totals, &helpands, size, random);
         let next = with_one_more(&table, &tight.subdomains, random)?;
-        let old = some_tree_plan(&helpands, random);
-        Some(Pair {
-            within: step(&table, setting.t, &old),
-            above: step(&next, setting.t, &old),
-        })
+        Some(along(&helpands, [table, next], setting.t, random))
     })
 }
 
@@ -57,19 +55,26 @@ pub fn primary(size: Size, random: &mut Random) -> Pair {
         let helpands = plans::tree(setting.n as u32, random);
         let table = holders::spread(&totals, &helpands, size, random);
         let next = with_one_more(&table, &[full], random)?;
-        let old = some_tree_plan(&helpands, random);
-        Some(Pair {
-            within: step(&table, setting.t, &old),
-            above: step(&next, setting.t, &old),
-        })
+        Some(along(&helpands, [table, next], setting.t, random))
     })
 }
 
-/// The first success of many tries.
-fn until<T>(mut attempt: impl FnMut() -> Option<T>) -> T {
-    (0..10_000)
-        .find_map(|_| attempt())
-        .expect("one of many tries succeeds")
+/// Both are kept. Some family affords its helpers' holds in the first, with nothing
+/// to spare, and not in the second, in which a helper itself holds one particle more
+/// of its own subdomain.
+pub fn holds(size: Size, random: &mut Random) -> Pair {
+    until(|| {
+        let fitted = Fitted::some(size, random);
+        let tables = just_afforded(&fitted, random)?;
+        Some(along(&fitted.helpands, tables, fitted.setting.t, random))
+    })
+}
+
+/// The steps with these tables and an old plan of this tree.
+fn along(helpands: &[u32], tables: [Table; 2], t: u32, random: &mut Random) -> Pair {
+    let old = some_tree_plan(helpands, random);
+    let [within, above] = tables.map(|table| step(&table, t, &old));
+    Pair { within, above }
 }
 
 /// The table with one particle of some other subdomain in one of these.
