@@ -10,6 +10,9 @@ pub const ONE_PERCENT: u32 = 10;
 /// Its t 10.
 pub const TEN_PERCENT: u32 = 100;
 
+/// For steps with more room.
+pub const FIFTY_PERCENT: u32 = 500;
+
 /// All of them, with their letters.
 pub fn all() -> [(char, Step); 11] {
     [
@@ -70,6 +73,21 @@ fn e_held(held: [u32; 3]) -> Step {
     Step {
         sheet: sheets::sheet(3, TEN_PERCENT, &cells, &counts).bytes(),
         old: d_plan(),
+    }
+}
+
+/// Request 2026-07, a step with L 35: node 1 helps node 0 and is helped by node 2. Of
+/// subdomain 0 node 0 holds 20 and node 1 30. Of subdomain 1, which has 21 particles,
+/// node 1 holds this many and node 2 the others.
+pub fn with_own(held: u32) -> Step {
+    let cells = [(0, 0, 20), (1, 0, 30), (1, 1, held), (2, 1, 21 - held)];
+    let cells: Vec<_> = cells
+        .into_iter()
+        .filter(|&(_, _, count)| count > 0)
+        .collect();
+    Step {
+        sheet: sheets::held(3, FIFTY_PERCENT, &cells).bytes(),
+        old: old(&[0, 0, 1]),
     }
 }
 

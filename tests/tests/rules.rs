@@ -4,11 +4,14 @@
 
 use firrozka_tests::demands::{judged, Judged};
 use firrozka_tests::implementations::IMPLEMENTATIONS;
+use firrozka_tests::records::moves::route;
 use firrozka_tests::records::plans::plan;
-use firrozka_tests::records::sheets::{cell, sheet};
+use firrozka_tests::records::sheets::{cell, held, sheet};
 use firrozka_tests::records::to_words;
 use firrozka_tests::steps::Step;
-use firrozka_tests::worked::{e_levelled, old, own, ONE_PERCENT, TEN_PERCENT};
+use firrozka_tests::worked::{
+    e_levelled, old, own, with_own, FIFTY_PERCENT, ONE_PERCENT, TEN_PERCENT,
+};
 
 /// The step leads to this kind, these helpands and these shares.
 fn leads_to<const N: usize>(step: &Step, kind: u32, helpands: [u32; N], shares: [u32; N]) {
@@ -17,6 +20,17 @@ fn leads_to<const N: usize>(step: &Step, kind: u32, helpands: [u32; N], shares: 
         assert_eq!(plan.kind, kind);
         assert_eq!(plan.helpands, helpands);
         assert_eq!(plan.shares, shares);
+    }
+}
+
+/// The step's moves, each given as subdomain, sender, receiver and count.
+fn moves_are(step: &Step, expected: &[[u32; 4]]) {
+    for implementation in IMPLEMENTATIONS {
+        let Judged { moves, .. } = judged(implementation, step, "worked by hand");
+        let routes = expected.iter().map(|&[n, from, to, _]| route(n, from, to));
+        assert_eq!(moves.routes, routes.collect::<Vec<_>>());
+        let counts = expected.iter().map(|&[.., count]| count);
+        assert_eq!(moves.counts, counts.collect::<Vec<_>>());
     }
 }
 
@@ -180,15 +194,17 @@ fn a_full_member_of_the_lowest_number() {
 
 /// Four nodes with L 27, given as an owner, its two helpers, and one that helps the
 /// first of these. The owner has 55 particles, and the helpers' leasts are
-/// 20 − (27 − 20) and 5. Together the family comes to 55 + 13 + 5 = 3 × 24 + 1.
-/// The last node holds those of the 55 that the family does not hold.
+/// 20 − (27 − 20) and 5. The first helper holds 13 of its own 20, so that its hold is
+/// its least. Together the family comes to 55 + 13 + 5 = 3 × 24 + 1. The last node
+/// holds those of the 55 that the family does not hold.
 fn coming_to_73([owner, first, second, last]: [u32; 4], held: [u32; 3]) -> Step {
     let mut counts = vec![
         (cell(owner, owner), held[0]),
         (cell(first, owner), held[1]),
         (cell(second, owner), held[2]),
         (cell(last, owner), 55 - held.iter().sum::<u32>()),
-        (cell(first, first), 20),
+        (cell(first, first), 13),
+        (cell(last, first), 7),
         (cell(second, second), 5),
         (cell(last, last), 20),
     ];
@@ -212,20 +228,20 @@ fn tie_leads_to(nodes: [u32; 4], helpands: [u32; 4], shares: [u32; 4]) {
 }
 
 /// "lowest node number on ties": the owner has no precedence before a helper of a
-/// lower number. The first helper, with 12 or 11 of the 55, keeps 15 or 16 of its
-/// own 20, and the last node has the others.
+/// lower number. The first helper, with 12 or 11 of the 55, keeps its 13 of its own
+/// 20, and the last node keeps the others.
 #[test]
 fn a_tie_goes_to_a_helper() {
-    tie_leads_to([1, 0, 2, 3], [1, 1, 1, 0], [12, 0, 19, 5]);
-    tie_leads_to([1, 2, 0, 3], [1, 1, 1, 2], [20, 0, 11, 4]);
-    tie_leads_to([3, 1, 2, 0], [1, 3, 3, 3], [5, 12, 19, 0]);
+    tie_leads_to([1, 0, 2, 3], [1, 1, 1, 0], [12, 0, 19, 7]);
+    tie_leads_to([1, 2, 0, 3], [1, 1, 1, 2], [20, 0, 11, 7]);
+    tie_leads_to([3, 1, 2, 0], [1, 3, 3, 3], [7, 12, 19, 0]);
 }
 
 /// Nor is it last: here it has the lowest number.
 #[test]
 fn a_tie_goes_to_the_owner() {
-    tie_leads_to([0, 1, 2, 3], [0, 0, 0, 1], [0, 11, 19, 4]);
-    tie_leads_to([1, 2, 3, 0], [2, 1, 1, 1], [4, 0, 11, 19]);
+    tie_leads_to([0, 1, 2, 3], [0, 0, 0, 1], [0, 11, 19, 7]);
+    tie_leads_to([1, 2, 3, 0], [2, 1, 1, 1], [7, 0, 11, 19]);
 }
 
 /// R counts: node 1 keeps 20 of subdomain 0, so it and node 2, whose least is 20,
@@ -275,6 +291,183 @@ fn nothing_left_over() {
         old: old(&[0, 0, 0]),
     };
     leads_to(&step, 1, [0, 0, 0], [0, 24, 6]);
+}
+
+// Request 2026-07, helpers' own particles. "A helper's hold is the larger of its least
+// and its own-subdomain holding capped at L." A family affords its holds "if P of the
+// family's owner plus its R plus its helpers' holds is at most L times the family's
+// size". In the comments nodes come with what they have beside a subdomain, R or hold
+// or least, and then with what they get of it.
+
+/// A step with this old tree, its cells given as holder, subdomain and count.
+fn along<const N: usize>(helpands: [u32; N], t: u32, cells: &[(u32, u32, u32)]) -> Step {
+    Step {
+        sheet: held(N as u32, t, cells).bytes(),
+        old: old(&helpands),
+    }
+}
+
+/// L is 35. Node 1 has a least of 0 and holds 20 of its own subdomain, and
+/// 50 + 0 + 20 = 35 × 2: its space for subdomain 0 is 35 − 20. Of its 30 it keeps 15,
+/// node 0 takes the others, and its own stay where they are. With least it would keep
+/// 30, and 15 of its own would go to node 2.
+#[test]
+fn own_particles_stay() {
+    let cells = [(0, 0, 20), (1, 0, 30), (1, 1, 20)];
+    let step = along([0, 0, 1], FIFTY_PERCENT, &cells);
+    leads_to(&step, 1, [0, 0, 1], [0, 15, 0]);
+    moves_are(&step, &[[0, 1, 0, 15]]);
+}
+
+/// The same with one particle more, of subdomain 1, and L still 35. If node 2 holds it,
+/// the family of node 0 has nothing to spare:
+///
+///     50 + 0 + 20 = 35 × 2
+///     subdomain 0: node 0 has 0, keeps 20, and gets 15; node 1 has 20 and keeps 15
+///     subdomain 1: node 1 has 15 and keeps 20; node 2 has 0 and keeps 1
+#[test]
+fn holds_that_are_just_afforded() {
+    leads_to(&with_own(20), 1, [0, 0, 1], [0, 15, 1]);
+    moves_are(&with_own(20), &[[0, 1, 0, 15]]);
+}
+
+/// If node 1 holds it, that is one too many, and least is used:
+///
+///     50 + 0 + 21 = 35 × 2 + 1
+///     subdomain 0: node 0 has 0 and keeps 20; node 1 has 0 and keeps 30
+///     subdomain 1: node 1 has 30 and keeps 5; node 2 has 0 and gets 16
+#[test]
+fn holds_that_are_one_too_many() {
+    leads_to(&with_own(21), 1, [0, 0, 1], [0, 30, 16]);
+    moves_are(&with_own(21), &[[1, 1, 2, 16]]);
+}
+
+/// "its own-subdomain holding": what it holds itself. Of subdomain 1, which has 20
+/// particles, node 1 holds 5. So it has space for all of its 30, and nothing moves.
+#[test]
+fn what_others_hold_is_no_hold() {
+    let cells = [(0, 0, 20), (1, 0, 30), (1, 1, 5), (2, 1, 15)];
+    let step = along([0, 0, 1], FIFTY_PERCENT, &cells);
+    leads_to(&step, 1, [0, 0, 1], [0, 30, 15]);
+    moves_are(&step, &[]);
+}
+
+/// "capped at L": node 1 holds 70 of its own, and L is 36. 30 + 0 + 36 is afforded,
+/// where 30 + 0 + 70 would not be. Node 1 has no space for subdomain 0. With least, 34,
+/// it would keep 2 of its 10, and node 2 would be at the limit.
+#[test]
+fn hold_is_capped() {
+    let cells = [(0, 0, 20), (1, 0, 10), (1, 1, 70)];
+    let step = along([0, 0, 1], TEN_PERCENT, &cells);
+    leads_to(&step, 1, [0, 0, 1], [0, 0, 34]);
+}
+
+/// "the larger of its least": node 1 holds 10 of its own subdomain, of which 24 cannot
+/// go to node 2. Its space for subdomain 0 is 36 − 24, so that it keeps 12 of its 30.
+#[test]
+fn least_above_what_is_held() {
+    let cells = [(0, 0, 10), (1, 0, 30), (1, 1, 10), (2, 1, 50)];
+    let step = along([0, 0, 1], TEN_PERCENT, &cells);
+    leads_to(&step, 1, [0, 0, 1], [0, 12, 36]);
+}
+
+/// "plus its R": L is 30 in a chain. In the family of node 1, R is what node 1 keeps of
+/// subdomain 0, 5 or 6, and 25 + 5 + 30 = 30 × 2. Without R both would be afforded.
+///
+/// With 5, node 2 has no space for subdomain 1, which goes to node 1, and keeps its own
+/// 30. With 6 it has its least, 10, and keeps the 20 that it holds of subdomain 1; so
+/// 20 of its own go to node 3.
+#[test]
+fn the_owners_share_counts() {
+    let with = |held: u32| {
+        let upper = [(0, 0, 35 - held), (1, 0, held), (1, 1, 5)];
+        let lower = [(2, 1, 20), (2, 2, 30), (3, 3, 10)];
+        along([0, 0, 1, 2], 200, &[upper, lower].concat())
+    };
+    leads_to(&with(5), 1, [0, 0, 1, 2], [0, 5, 0, 0]);
+    leads_to(&with(6), 1, [0, 0, 1, 2], [0, 6, 20, 20]);
+}
+
+/// "the family's size": its owner counts, too. L is 30, and 50 + 0 + 20 + 10 is more
+/// than 30 × 2 and at most 30 × 3. Nodes 1 and 2 have space for 10 and 20 of subdomain
+/// 0. With least, 10, node 1 would keep its 20.
+#[test]
+fn the_owner_counts_in_the_size() {
+    let root = [(0, 0, 10), (1, 0, 20), (1, 1, 20)];
+    let others = [(2, 0, 20), (2, 2, 10), (3, 3, 20)];
+    let step = along([0, 0, 0, 1], 200, &[root, others].concat());
+    leads_to(&step, 1, [0, 0, 0, 1], [0, 10, 20, 0]);
+}
+
+/// Each family decides by itself. L is 30:
+///
+///     family of 0: 45 + 0 + 5 is at most 30 × 2. Node 0 has 0, keeps 15 and gets 5;
+///                  node 1 has 5 and keeps 25
+///     family of 1: 25 + 25 + 30 is more. Node 1 has 25 and keeps 5; node 2 has 0 and
+///                  keeps 20
+///     family of 2: 30 + 20 + 0 is at most 30 × 2. Node 2 has 20 and keeps 10; node 3
+///                  has 0 and gets 20
+#[test]
+fn afforded_above_and_not_below() {
+    let upper = [(0, 0, 15), (1, 0, 30), (1, 1, 5)];
+    let lower = [(2, 1, 20), (2, 2, 30)];
+    let step = along([0, 0, 1, 2], 200, &[&upper[..], &lower].concat());
+    leads_to(&step, 1, [0, 0, 1, 2], [0, 25, 20, 20]);
+}
+
+/// The other way round, with two helpers below. L is 30:
+///
+///     family of 0: 45 + 0 + 20 is more than 30 × 2. Node 0 has 0 and keeps 25; node 1
+///                  has 0 and keeps 20
+///     family of 1: 20 + 20 + 20 + 0 is at most 30 × 3. Node 1 has 20 and keeps 10;
+///                  node 2 has 20; node 3 has 0 and gets 10
+///     family of 2: 20 + 0 + 15 is at most 30 × 2. Node 2 has 0 and keeps 20
+#[test]
+fn afforded_below_and_not_above() {
+    let upper = [(0, 0, 25), (1, 0, 20), (1, 1, 20)];
+    let lower = [(2, 2, 20), (4, 4, 15)];
+    let step = along(
+        [0, 0, 1, 1, 2],
+        FIFTY_PERCENT,
+        &[&upper[..], &lower].concat(),
+    );
+    leads_to(&step, 1, [0, 0, 1, 1, 2], [0, 20, 0, 10, 0]);
+}
+
+/// A billion particles, and L is 499,666,666. Of subdomain 1 node 1 holds 299,333,332,
+/// and 700,000,000 + 0 + 299,333,332 = 499,666,666 × 2; or it holds one more.
+#[test]
+fn holds_of_hundreds_of_millions() {
+    let with = |own: u32| {
+        let upper = [(0, 0, 300_000_000), (1, 0, 400_000_000)];
+        let lower = [(1, 1, own), (2, 1, 300_000_000 - own)];
+        along([0, 0, 1], 499, &[upper, lower].concat())
+    };
+    // Node 1 keeps 499,666,666 − 299,333,332 of subdomain 0.
+    let shares = [0, 200_333_334, 666_668];
+    leads_to(&with(299_333_332), 1, [0, 0, 1], shares);
+    // It keeps all, and 99,666,666 of its own.
+    let shares = [0, 400_000_000, 200_333_334];
+    leads_to(&with(299_333_333), 1, [0, 0, 1], shares);
+}
+
+/// A billion particles and the largest tolerance: L is 31,234,375, and the family of
+/// node 0 has all nodes but the last, which helps node 1. So L times its size is
+/// 1,967,765,625. Nodes 1 to 62 have 7 million each, the last one 30 million and node 0
+/// the others. Of these node 0 keeps 31,234,375, and 504,765,625 = 62 × 8,141,381 + 3
+/// go to the helpers, who all stand at 7 million. With least node 1 would stand lower.
+#[test]
+fn the_largest_family() {
+    let million = 1_000_000;
+    let mut counts = [7 * million; 64];
+    counts[0] = 536 * million;
+    counts[63] = 30 * million;
+    let (mut helpands, mut shares) = ([0; 64], [8_141_381; 64]);
+    helpands[63] = 1;
+    (shares[0], shares[63]) = (0, 0);
+    shares[1..4].fill(8_141_382);
+    let step = own(999, &counts, old(&helpands));
+    leads_to(&step, 1, helpands, shares);
 }
 
 // Rebuilding.
