@@ -2,11 +2,12 @@
 //! runs.
 #![forbid(unsafe_code)]
 
-use firrozka_tests::bench_text::{bench, text};
+use firrozka_tests::bench_text::{bench, split, text};
 use firrozka_tests::calls::{Call, TREE_IN_FORCE};
 use firrozka_tests::coverage::Coverage;
 use firrozka_tests::implementations::{ARCHIVE, PLAN_BYTES};
 use firrozka_tests::records::{to_bytes, to_words};
+use firrozka_tests::steps::Step;
 use firrozka_tests::{cases, damaged, refused, stretches, worked};
 
 /// "Sheet D below prints all of this".
@@ -180,6 +181,23 @@ fn other_steps_in_the_files() {
     let (case, text) = &others[others.len() - 1];
     assert_eq!(case.len(), cases::MOST_BYTES);
     assert!(text.starts_with("kind 1 "));
+}
+
+/// They hold steps in which a family affords its helpers' holds, where these are above
+/// leasts, and steps in which one does not.
+#[test]
+fn holds_in_the_files() {
+    let [_, _, _, others] = cases_written();
+    let mut times = [0, 0];
+    for (case, _) in others {
+        let (sheet, old) = split(&case).expect("the header is accepted");
+        let [sheet, old] = [sheet, old].map(<[u8]>::to_vec);
+        let decisions = Step { sheet, old }.in_kept_families(|family| family.decision());
+        for (times, how) in times.iter_mut().zip([true, false]) {
+            *times += usize::from(decisions.contains(&Some(how)));
+        }
+    }
+    assert!(times.iter().all(|&times| times >= 40), "{times:?}");
 }
 
 /// The pairs of plans as they stand in the file.
