@@ -6,7 +6,7 @@ use crate::answers::{
 };
 use crate::bounds::NODES;
 use crate::records::{to_bytes, to_words};
-use crate::reference::keeping::{least_always, owner_first, Rules, RULES};
+use crate::reference::keeping;
 use crate::steps::Step;
 use crate::{boundary, plain, reference};
 
@@ -118,25 +118,17 @@ pub const IN_PERCENT: Implementation = Implementation {
 pub const OWNER_FIRST: Implementation = Implementation {
     name: "the owner first",
     plan_step: |sheet, old, plan, moves| {
-        let rules = Rules {
-            keep: least_always,
-            fill: owner_first,
-        };
-        reference::plan_step_with(rules, [sheet, old], plan, moves)
+        reference::plan_step_with(keeping::OWNER_FIRST, [sheet, old], plan, moves)
     },
     ..REFERENCE
 };
 
 /// The second implementation as it was before request 2026-07: space and standing
 /// load use least, whatever helpers hold of their own.
-pub const LEAST_ALWAYS: Implementation = Implementation {
-    name: "least always",
+pub const WITH_LEAST: Implementation = Implementation {
+    name: "with least",
     plan_step: |sheet, old, plan, moves| {
-        let rules = Rules {
-            keep: least_always,
-            ..RULES
-        };
-        reference::plan_step_with(rules, [sheet, old], plan, moves)
+        reference::plan_step_with(keeping::WITH_LEAST, [sheet, old], plan, moves)
     },
     ..REFERENCE
 };

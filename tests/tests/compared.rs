@@ -3,7 +3,7 @@
 #![forbid(unsafe_code)]
 
 use firrozka_tests::calls::MEASURED_CALLS;
-use firrozka_tests::implementations::{IN_PERCENT, LEAST_ALWAYS, OWNER_FIRST, REFERENCE};
+use firrozka_tests::implementations::{IN_PERCENT, OWNER_FIRST, REFERENCE, WITH_LEAST};
 use firrozka_tests::records::plans::Form;
 use firrozka_tests::settings::SEED;
 use firrozka_tests::speed::compared::{agree, compare, follows, in_both, EARLIER, LATER};
@@ -122,14 +122,14 @@ fn sheets_of_another_unit_mean_the_same() {
 fn each_version_has_its_rules() {
     let versions = [
         (102, &OWNER_FIRST),
-        (103, &LEAST_ALWAYS),
-        (106, &LEAST_ALWAYS),
+        (103, &WITH_LEAST),
+        (106, &WITH_LEAST),
         (107, &REFERENCE),
     ];
     for row in some_rows() {
         let (job, planned) = (row.job(64), row.measured == Measured::PlanStep);
         for (version, rules) in versions {
-            for by in [&OWNER_FIRST, &LEAST_ALWAYS, &REFERENCE] {
+            for by in [&OWNER_FIRST, &WITH_LEAST, &REFERENCE] {
                 let alike = by.name == rules.name || !planned;
                 assert_eq!(follows(&job, by, version), alike, "{version}, {}", by.name);
             }

@@ -8,7 +8,7 @@ use firrozka_tests::implementations::{MOVES_BYTES, PLAN_BYTES, REFERENCE};
 use firrozka_tests::random::Random;
 use firrozka_tests::records::plans;
 use firrozka_tests::reference::keeping::{
-    least_always, level_filling, one_after_another, Fill, Member, Rules, RULES,
+    level_filling, one_after_another, Fill, Member, Rules, RULES, WITH_LEAST,
 };
 use firrozka_tests::reference::plan_step_with;
 use firrozka_tests::reference::table::Table;
@@ -133,15 +133,11 @@ impl Tally {
             fill: one_after_another,
             ..RULES
         };
-        let with_leasts = Rules {
-            keep: least_always,
-            ..RULES
-        };
         let (kind, bytes) = written(RULES, sheet, old);
         if kind == 1 {
             assert!(bytes == written(one_by_one, sheet, old).1);
             self.kept += 1;
-            self.held += u32::from(bytes != written(with_leasts, sheet, old).1);
+            self.held += u32::from(bytes != written(WITH_LEAST, sheet, old).1);
         }
     }
 }

@@ -7,7 +7,7 @@
 use firrozka_tests::bounds::NODES;
 use firrozka_tests::calls::PLAN_STEP;
 use firrozka_tests::demands::{judge, must_judge};
-use firrozka_tests::implementations::{Implementation, LEAST_ALWAYS, OWNER_FIRST, REFERENCE};
+use firrozka_tests::implementations::{Implementation, OWNER_FIRST, REFERENCE, WITH_LEAST};
 use firrozka_tests::reference::keeping::{
     least_always, level_filling, Family, Helper, Member, Rules, Undivided, RULES,
 };
@@ -306,7 +306,7 @@ fn other_holds() {
 
 #[test]
 fn other_conditions() {
-    reported(&[LEAST_ALWAYS]);
+    reported(&[WITH_LEAST]);
     reported(&keeping! {
         "hold always", |family| if_so(true, family);
         "the family's size without its owner", |family| {
@@ -367,7 +367,7 @@ fn hold_in_one_place_only() {
 #[test]
 fn own_particles_leave() {
     let step = worked::with_own(20);
-    let said = judge(&LEAST_ALWAYS, &step).err();
+    let said = judge(&WITH_LEAST, &step).err();
     assert_eq!(said.as_deref(), Some("a helper's own particles leave"));
     assert!(judge(&REFERENCE, &step).is_ok());
 }

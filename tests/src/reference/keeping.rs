@@ -64,6 +64,18 @@ pub const RULES: Rules = Rules {
     fill: level_filling,
 };
 
+/// Those before request 2026-07.
+pub const WITH_LEAST: Rules = Rules {
+    keep: least_always,
+    ..RULES
+};
+
+/// Those before request 2026-03.
+pub const OWNER_FIRST: Rules = Rules {
+    fill: owner_first,
+    ..WITH_LEAST
+};
+
 /// The shares of all nodes in a tree that holds.
 pub fn shares(weighing: &Weighing, table: &Table, rules: Rules) -> Vec<u64> {
     // "Rn is n's share, 0 for the root."
@@ -89,7 +101,7 @@ pub fn hold_or_least(family: &Undivided) -> Family {
     }
 }
 
-/// As before request 2026-07.
+/// As before request 2026-07: whatever helpers hold.
 pub fn least_always(family: &Undivided) -> Family {
     family.keeping(|helper| helper.least)
 }

@@ -7,7 +7,7 @@
 use super::jobs::{Job, Measured};
 use super::table::Row;
 use super::timing::in_turn;
-use crate::implementations::{Implementation, LEAST_ALWAYS, OWNER_FIRST, REFERENCE};
+use crate::implementations::{Implementation, OWNER_FIRST, REFERENCE, WITH_LEAST};
 use firrozka_loaded as loaded;
 use std::io::{self, Write};
 use std::path::{Path, PathBuf};
@@ -158,7 +158,7 @@ pub fn agree(row: &Row) -> bool {
 pub fn follows(job: &Job, by: &Implementation, version: u32) -> bool {
     let rules = match version {
         100..=102 => &OWNER_FIRST,
-        103..=106 => &LEAST_ALWAYS,
+        103..=106 => &WITH_LEAST,
         _ => &REFERENCE,
     };
     for_version(job, version).written(by) == job.written(rules)
