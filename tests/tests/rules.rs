@@ -294,7 +294,7 @@ fn nothing_left_over() {
 }
 
 // Request 2026-07, helpers' own particles. "A helper's hold is the larger of its least
-// and its own-subdomain holding capped at L." A family affords its holds "if P of the
+// and its own-subdomain holding capped at L." A family affords its holds if "P of the
 // family's owner plus its R plus its helpers' holds is at most L times the family's
 // size". In the comments nodes come with what they have beside a subdomain, R or hold
 // or least, and then with what they get of it.
