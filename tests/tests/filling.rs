@@ -6,7 +6,7 @@
 use firrozka_tests::bench_text;
 use firrozka_tests::implementations::{MOVES_BYTES, PLAN_BYTES, REFERENCE};
 use firrozka_tests::random::Random;
-use firrozka_tests::records::plans;
+use firrozka_tests::records::{plans, to_bytes};
 use firrozka_tests::reference::keeping::{
     level_filling, one_after_another, Fill, Member, Rules, RULES, WITH_LEAST,
 };
@@ -95,21 +95,42 @@ fn the_largest_rest() {
     assert_eq!(amounts, [333_333_334, 333_333_333, 333_333_333]);
 }
 
-/// The request's own example, as the example prints it: the leasts, then the plan.
-#[test]
-fn the_example() {
-    let Step { sheet, old } = worked::e_levelled();
-    let (leasts, holds) = REFERENCE.weighed(&sheet, &old).expect("accepted");
-    let mut text = format!("limit {}\n", (REFERENCE.read_sheet)(&sheet).limit);
+/// What an example prints of a step: the leasts, then the plan.
+fn printed(sheet: &[u8], old: &[u8]) -> String {
+    let (leasts, holds) = REFERENCE.weighed(sheet, old).expect("accepted");
+    let mut text = format!("limit {}\n", (REFERENCE.read_sheet)(sheet).limit);
     for (node, least) in leasts.iter().enumerate() {
         text += &format!("node {node} least {least}\n");
     }
     assert!(holds);
-    text += "the tree holds\n";
-    text += &bench_text::text(&sheet, &old);
-    let path = concat!(env!("CARGO_MANIFEST_DIR"), "/../examples/level.expected");
-    let expected = fs::read_to_string(path).expect("the file is there");
+    text + "the tree holds\n" + &bench_text::text(sheet, old)
+}
+
+/// Holds what an example is expected to print to this text.
+fn expect(example: &str, text: &str) {
+    let examples = concat!(env!("CARGO_MANIFEST_DIR"), "/../examples");
+    let file = fs::read_to_string(format!("{examples}/{example}.expected"));
+    let expected = file.expect("the file is there");
     assert!(expected == text, "it should be:\n{text}");
+}
+
+/// Request 2026-03's own example.
+#[test]
+fn the_example() {
+    let Step { sheet, old } = worked::e_levelled();
+    expect("level", &printed(&sheet, &old));
+}
+
+/// Two steps one particle apart, of which the first affords what node 1 holds.
+#[test]
+fn the_example_of_hold() {
+    let old = to_bytes(&[3, 2, 35, 0, 0, 1, 0, 0, 0]);
+    let step = |count: u32| {
+        let sheet = to_bytes(&[3, 500, 4, 0, 64, 65, 128, 10, 20, 20, count]);
+        let first_line = format!("node 2 holds {count} of subdomain 0\n");
+        first_line + &printed(&sheet, &old)
+    };
+    expect("hold", &(step(20) + &step(21)));
 }
 
 /// What *plan a step* writes by these rules.

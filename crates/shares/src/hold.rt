@@ -36,7 +36,7 @@ pub fn holds(table: &[u32; TABLE_SIZE], leasts: &[u32; 64], nodes: usize, limit:
     out
 }
 
-// A number in 64 bits: the sums of a family take more than 32.
+// A number in 64 bits, in which no sum of a family wraps.
 fn wide(number: u32) -> u64
     ensures { λ r. ⌜ (r ≡ number) × (r ≤ 4294967295) ⌝ }
 {
