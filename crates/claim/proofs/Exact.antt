@@ -157,10 +157,10 @@ module _ {s o : List ℕ} (over : Overloaded s) (y : Plannable s o) where
   abbrev moves : List ℕ
   moves = movesIn s o
 
-  routes-are : routesOf moves (readMoves moves .e) ≡ decidedRoutes s o
+  pub routes-are : routesOf moves (readMoves moves .e) ≡ decidedRoutes s o
   routes-are = ap (λ (a : MovesAnswer). routesOf moves (a .e)) (back .moves-read) ∙ back .routes
 
-  counts-are : countsOf moves (readMoves moves .e) ≡ decidedCounts s o
+  pub counts-are : countsOf moves (readMoves moves .e) ≡ decidedCounts s o
   counts-are = ap (λ (a : MovesAnswer). countsOf moves (a .e)) (back .moves-read) ∙ back .counts
 
   pub carriable : Carriable s moves
@@ -172,7 +172,7 @@ module _ {s o : List ℕ} (over : Overloaded s) (y : Plannable s o) where
         within = rw (routes-are, counts-are) (carries y .within);
       }
 
-  next-table : nextTable s moves ≡ carried (tableIn s) (decidedRoutes s o) (decidedCounts s o)
+  pub next-table : nextTable s moves ≡ carried (tableIn s) (decidedRoutes s o) (decidedCounts s o)
   next-table = rw (routes-are, counts-are)
 
   -- ---- the demand of the three records
@@ -185,7 +185,7 @@ module _ {s o : List ℕ} (over : Overloaded s) (y : Plannable s o) where
     rebuilt-way : d .kind ≡ 2 → RebuiltFine n₀ (readSheet s .p) (totalsIn s) d
     rebuilt-way k = ⊎-elim (λ a. with-tree (has-tree a) .rebuilt-division k) (λ n. without (no-tree n)) t
 
-    balanced : Balanced s o plan (nextSheet s moves) (d .kind)
+    pub balanced : Balanced s o plan (nextSheet s moves) (d .kind)
     balanced =
         let h = at (d .helpands) in
         let h′ = at (helpandsOf plan n₀) in

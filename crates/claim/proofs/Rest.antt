@@ -12,7 +12,7 @@ use Rattle.shares.specs.Levelled.{RestLevelled}
 use Rattle.planner.specs.Step.{stepAnswer, planAfter}
 use Rattle.claim.specs.Claim.{Overloaded, AcceptedTree, LongEnough}
 use Rattle.claim.specs.Rest.{RestLevelledIn}
-use Rattle.claim.proofs.KeptPlans.{decided-so, in-plan, kept-plan}
+use Rattle.claim.proofs.KeptPlans.{decided-so, in-plan, kept-step}
 
 -- THEOREM. For every accepted sheet with a subdomain above the limit, every accepted tree of as many nodes and buffers long enough: if the
 -- step keeps the tree, then in the plan that it writes no member that was given a particle of the rest stands more than one above a member
@@ -21,7 +21,7 @@ pub rest-levelled : (s o p m x : List ℕ) → Overloaded s → AcceptedTree s o
     → let a = stepAnswer s o (length p) (length m) in
     a .kind ≡ 1 → RestLevelledIn s (take (a .plan) (planAfter s o p (length m)))
 rest-levelled s o p m x over t long =
-    kept-plan s o p m x over t long (RestLevelledIn s) λ k.
+    kept-step s o p m x over t long (λ plan moves next. RestLevelledIn s plan) λ k.
     in-plan over t k
     (λ (h least share : ℕ → ℕ). RestLevelled (readSheet s .n) h (readSheet s .limit) least (at (totalsIn s)) (held (tableIn s)) share)
     (decided-so over t k .levelled)
