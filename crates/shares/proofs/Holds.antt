@@ -1,7 +1,7 @@
 -- Holds: laws of `affords` and `reserve`, and why a family that can afford its helpers' holds has space for its particles with them.
 -- Assumes nothing.
 use mathlib.Core.Path.{_≡_, sym, ap, _∙_}
-use mathlib.Core.Logic.{_⊎_, inl, inr}
+use mathlib.Core.Logic.{_⊎_, inl, inr, _↔_}
 use mathlib.Core.Bool.{Bool, true, false}
 use Prim.Native.Nat.{ℕ, zero, suc, _+_, _-_, _*_, _≤_, _<_}
 use native.Mathlib.Omega.{arith}
@@ -76,18 +76,12 @@ module _ (nodes : ℕ) (h : ℕ → ℕ) (limit : ℕ) (least total : ℕ → �
         each k c = ap (only (helps h n k)) (omega (arith, b k c)) ∙ only-times (helps h n k) limit
 
     -- THEOREM. The spaces with hold suffice for the owner's particles exactly where the family can afford the holds.
-    pub hold-suffices : afforded ≡ true → total n ≤ sum nodes (space h limit holds r n)
+    pub hold-suffices : (afforded ≡ true) ↔ (total n ≤ sum nodes (space h limit holds r n))
     unfolding affords
-    hold-suffices e =
-        omega (
-          arith,
-          leb-true (total n + r + overHelpers nodes h n holds) (limit * familySize nodes h n) e,
-          limits-sum,
-          space-sum h limit holds r n nodes l,
-        )
-
-    pub suffices-afforded : total n ≤ sum nodes (space h limit holds r n) → afforded ≡ true
-    unfolding affords
-    suffices-afforded e =
-        le-leb (total n + r + overHelpers nodes h n holds) (limit * familySize nodes h n)
-        (omega (arith, limits-sum, space-sum h limit holds r n nodes l))
+    hold-suffices = (
+      λ e. omega (arith, leb-true load (limit * familySize nodes h n) e, limits-sum, space-sum h limit holds r n nodes l),
+      λ e. le-leb load (limit * familySize nodes h n) (omega (arith, limits-sum, space-sum h limit holds r n nodes l)),
+    )
+      where
+        load : ℕ
+        load = total n + r + overHelpers nodes h n holds

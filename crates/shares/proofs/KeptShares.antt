@@ -89,7 +89,7 @@ module _ {nodes : ℕ} {h : ℕ → ℕ} {limit : ℕ} {least total : ℕ → �
       by (inl e) =
           omega (
             arith,
-            hold-suffices nodes h limit least total held r n l (t .holds) (omega arith) e,
+            hold-suffices nodes h limit least total held r n l (t .holds) (omega arith) .0 e,
             space-sum h limit (hold limit least held) r n nodes l,
             helpers-eq nodes h n (λ k. limit - reserves k) (λ k. limit - hold limit least held k)
                 (λ k b y. ap (λ (x : ℕ). limit - x) (reserve-hold nodes h limit least total held r n e k)),

@@ -21,7 +21,7 @@ unfoldable pub affords : ℕ → (ℕ → ℕ) → ℕ → (ℕ → ℕ) → (�
 affords nodes h limit holds total r n = leb (total n + r + overHelpers nodes h n holds) (limit * familySize nodes h n)
 
 -- "space and standing load use hold in place of least. Otherwise they use least as before." In the family of n, what each helper leaves
--- for its own subdomain.
+-- for its own subdomain; no document has a word for it.
 unfoldable pub reserve : ℕ → (ℕ → ℕ) → ℕ → (ℕ → ℕ) → (ℕ → ℕ) → (ℕ → ℕ → ℕ) → ℕ → ℕ → ℕ → ℕ
 reserve nodes h limit least total held r n =
     let holds = hold limit least held in

@@ -49,7 +49,7 @@ struct Members {
     size: u64,
 }
 
-// Adds up the holds of the helpers of n.
+// The family of n.
 fn family_of(
     holds: &[u32; 64],
     helpands: &[u32; 64],
@@ -74,7 +74,7 @@ fn family_of(
     Members { holds: sum, size }
 }
 
-// Whether the family of n, which has so many particles and this share, can afford the holds of its helpers.
+// Whether the family of n, whose owner has this share, can afford the holds of its helpers.
 pub fn affords(
     holds: &[u32; 64],
     totals: &[u32; 64],
