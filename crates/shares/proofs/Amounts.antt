@@ -12,7 +12,7 @@ use Rattle.tree.proofs.Families.{helpers-more}
 use Rattle.shares.specs.Fill.{room}
 use Rattle.shares.specs.Hold.{reserve}
 use Rattle.shares.specs.Shares.{inFamily, space, beside, kept, rest, divided, memberSpace, memberBeside, amount}
-use Rattle.shares.proofs.Spaces.{family-part, space-sum}
+use Rattle.shares.proofs.Spaces.{family-part}
 use Rattle.shares.proofs.Levelled.{Levelled, levelled-one, levelled-eq}
 use Rattle.shares.proofs.LevelForm.{UpTo}
 use Rattle.shares.proofs.FillLaws.{levelled, fill-space, fill-keeps, fill-none, fill-sum}
@@ -52,17 +52,6 @@ module _ (h : ℕ → ℕ) (limit : ℕ) (reserve holding : ℕ → ℕ) (r n : 
         sum-le nodes keeps holding (λ j c. omega arith),
       )
 
-  -- what is kept and the rooms make up the spaces
-  rooms-sum : (nodes : ℕ) → n < nodes
-      → sum nodes (room spaces keeps) + sum nodes keeps ≡ limit - r + overHelpers nodes h n (λ k. limit - reserve k)
-  rooms-sum nodes l =
-      omega (
-        arith,
-        sum-add nodes (room spaces keeps) keeps,
-        sum-eq nodes (λ k. room spaces keeps k + keeps k) spaces (λ k b. omega arith),
-        space-sum h limit reserve r n nodes l,
-      )
-
 -- ---- any spaces
 
 module _ (nodes : ℕ) (beside spaces : ℕ → ℕ) (total : ℕ) (holding : ℕ → ℕ) where
@@ -91,10 +80,14 @@ module _ (nodes : ℕ) (beside spaces : ℕ → ℕ) (total : ℕ) (holding : �
   unfolding divided
   divided-kept e k l = rw e (fill-none nodes beside spaces keep k l)
 
-  -- and all is given, where there is room for it
-  divided-sum : rest nodes total keep ≤ sum nodes (room spaces keep) → sum nodes parts ≡ sum nodes keep + rest nodes total keep
+  -- and all is given, where there is space for it
+  divided-whole : sum nodes holding ≡ total → total ≤ sum nodes spaces → sum nodes parts ≡ total
   unfolding divided
-  divided-sum = fill-sum nodes beside spaces keep (rest nodes total keep)
+  divided-whole e f =
+      let under = sum-le nodes keep holding (λ k b. omega arith) in
+      let rooms = sum-add nodes (room spaces keep) keep in
+      let whole = sum-eq nodes (λ k. room spaces keep k + keep k) spaces (λ k b. omega arith) in
+      omega (arith, fill-sum nodes beside spaces keep (rest nodes total keep) (omega arith), under)
 
 -- only the spaces of the nodes matter, and what they have beside their amounts
 pub divided-same : (nodes : ℕ) (beside beside′ spaces spaces′ : ℕ → ℕ) (total : ℕ) (holding : ℕ → ℕ)
@@ -144,15 +137,10 @@ module _ (nodes : ℕ) (h : ℕ → ℕ) (limit : ℕ) (least total : ℕ → �
   amount-levelled = divided-levelled nodes besides spaced (total n) (λ j. held j n)
 
   -- and the members get all, where they have space for it
-  pub amount-whole : n < nodes → sum nodes (λ k. held k n) ≡ total n
-      → total n ≤ limit - r + overHelpers nodes h n (λ k. limit - reserve nodes h limit least total held r n k)
+  pub amount-whole : n < nodes → sum nodes (λ k. held k n) ≡ total n → total n ≤ sum nodes spaced
       → given n + overHelpers nodes h n given ≡ total n
   amount-whole l e f =
-      let reserves = reserve nodes h limit least total held r n in
-      let under = sum-le nodes keeping (λ k. held k n) (λ k b. omega arith) in
-      let room = rooms-sum h limit reserves (λ j. held j n) r n nodes l in
-      omega (arith, family-part h limit reserves r n given amount-space nodes l, summed (omega arith), under)
+      omega (arith, family-part h limit (reserve nodes h limit least total held r n) r n given amount-space nodes l, summed e f)
     where
-      summed : rest nodes (total n) keeping ≤ sum nodes (room spaced keeping)
-          → sum nodes given ≡ sum nodes keeping + rest nodes (total n) keeping
-      summed = unfold amount in divided-sum nodes besides spaced (total n) (λ j. held j n)
+      summed : sum nodes (λ k. held k n) ≡ total n → total n ≤ sum nodes spaced → sum nodes given ≡ total n
+      summed = unfold amount in divided-whole nodes besides spaced (total n) (λ j. held j n)

@@ -9,6 +9,7 @@ use Prim.Native.Nat.{ℕ, _+_, _-_, _≤_, _<_, min}
 use native.Mathlib.Decide.{decLt}
 use native.Mathlib.Omega.{arith}
 use Rattle.fold.specs.Sum.{sum}
+use Rattle.fold.proofs.Sums.{sum-eq}
 use Rattle.fold.proofs.Tests.{either}
 use Rattle.plan.specs.Tree.{Tree}
 use Rattle.sheet.specs.Table.{held}
@@ -17,11 +18,10 @@ use Rattle.tree.specs.Down.{Descends}
 use Rattle.tree.specs.Division.{WithinLimit, ownOf}
 use Rattle.arrays.specs.Arrays.{at}
 use Rattle.tree.proofs.Filling.{Fills, family-room, share-spare, helpers-most, own-filled, descends-within, down-descends, descends-only, descends-at, descends-same}
-use Rattle.tree.proofs.Families.{helpers-eq}
 use Rattle.shares.specs.Hold.{hold, affords, reserve, OwnInPlace}
-use Rattle.shares.specs.Shares.{space, amount, keptShare, keptShares}
+use Rattle.shares.specs.Shares.{space, memberSpace, amount, keptShare, keptShares}
 use Rattle.shares.specs.Levelled.{partOf, RestLevelled}
-use Rattle.shares.proofs.Spaces.{family-own, family-helper, family-other, each-node, space-own, space-helper, space-other, space-sum}
+use Rattle.shares.proofs.Spaces.{family-own, family-helper, family-other, each-node, space-own, space-helper, space-other, space-sum, space-eq}
 use Rattle.shares.proofs.Holds.{reserve-hold, reserve-least, reserve-more, hold-suffices}
 use Rattle.shares.proofs.Amounts.{amount-up-to, amount-space, amount-keeps, amount-levelled, amount-whole}
 use Rattle.arrays.proofs.Tabulate.{tabulate-at}
@@ -75,31 +75,35 @@ module _ {nodes : ℕ} {h : ℕ → ℕ} {limit : ℕ} {least total : ℕ → �
       )
 
   -- a family has space for all of its subdomain, with holds or with leasts
-  family-space : (n r : ℕ) → n < nodes → r ≤ limit - least n
-      → total n ≤ limit - r + overHelpers nodes h n (λ k. limit - reserve nodes h limit least total held r n k)
+  family-space : (n r : ℕ) → n < nodes → r ≤ limit - least n → total n ≤ sum nodes (memberSpace nodes h limit least total held r n)
   family-space n r l s = by (either afforded)
     where
-      reserves : ℕ → ℕ
-      reserves = reserve nodes h limit least total held r n
-
       afforded : Bool
       afforded = affords nodes h limit (hold limit least held) total r n
 
-      by : (afforded ≡ true) ⊎ (afforded ≡ false) → total n ≤ limit - r + overHelpers nodes h n (λ k. limit - reserves k)
+      spaces : (ℕ → ℕ) → ℕ → ℕ
+      spaces reserves = space h limit reserves r n
+
+      -- the same reserves give the same spaces
+      same : (reserves : ℕ → ℕ) → ((k : ℕ) → reserve nodes h limit least total held r n k ≡ reserves k)
+          → sum nodes (memberSpace nodes h limit least total held r n) ≡ sum nodes (spaces reserves)
+      same reserves e =
+          let used = reserve nodes h limit least total held r n in
+          sum-eq nodes (spaces used) (spaces reserves) (λ k b. space-eq h limit used reserves r n k (e k))
+
+      by : (afforded ≡ true) ⊎ (afforded ≡ false) → total n ≤ sum nodes (memberSpace nodes h limit least total held r n)
       by (inl e) =
           omega (
             arith,
             hold-suffices nodes h limit least total held r n l (t .holds) (omega arith) .0 e,
-            space-sum h limit (hold limit least held) r n nodes l,
-            helpers-eq nodes h n (λ k. limit - reserves k) (λ k. limit - hold limit least held k)
-                (λ k b y. ap (λ (x : ℕ). limit - x) (reserve-hold nodes h limit least total held r n e k)),
+            same (hold limit least held) (reserve-hold nodes h limit least total held r n e),
           )
       by (inr e) =
           omega (
             arith,
             family-room nodes h total limit least n r (t .leasts n l) (t .holds n l) s,
-            helpers-eq nodes h n (λ k. limit - reserves k) (λ k. limit - least k)
-                (λ k b y. ap (λ (x : ℕ). limit - x) (reserve-least nodes h limit least total held r n e k)),
+            space-sum h limit least r n nodes l,
+            same least (reserve-least nodes h limit least total held r n e),
           )
 
   -- the amounts fill each family
@@ -155,13 +159,6 @@ module _ {nodes : ℕ} {h : ℕ → ℕ} {limit : ℕ} {least total : ℕ → �
             );
       }
 
-  -- ---- request 2026-07, by the shares alone
-
-  -- THEOREM. Each helper of a family that can afford the holds has of its own subdomain at least what it held already, capped at the limit.
-  pub own-in-place : (share : ℕ → ℕ) → KeptWithin nodes h limit least total held share → OwnInPlace nodes h limit least total held share
-  own-in-place share w n k l b y e =
-      omega (arith, w .own-keeps k b, w .helper-space n k b y, reserve-hold nodes h limit least total held (share n) n e k)
-
   -- ---- request 2026-03, by the shares alone
 
   module _ (share : ℕ → ℕ) (s : Descends nodes h (amount nodes h limit least total held) share) where
@@ -197,6 +194,14 @@ module _ {nodes : ℕ} {h : ℕ → ℕ} {limit : ℕ} {least total : ℕ → �
               omega (arith, a .ties j k (c .one) b (omega (arith, pj, c .given)) (omega (arith, pk, c .has-space)), pj, pk);
         }
 
+-- ---- request 2026-07, by the shares alone
+
+-- THEOREM. Each helper of a family that can afford the holds has of its own subdomain at least what it held already, capped at the limit.
+pub own-in-place : {nodes : ℕ} {h : ℕ → ℕ} {limit : ℕ} {least total : ℕ → ℕ} {held : ℕ → ℕ → ℕ} {share : ℕ → ℕ}
+    → KeptWithin nodes h limit least total held share → OwnInPlace nodes h limit least total held share
+own-in-place {nodes} {h} {limit} {least} {total} {held} {share} w n k l b y e =
+    omega (arith, w .own-keeps k b, w .helper-space n k b y, reserve-hold nodes h limit least total held (share n) n e k)
+
 -- ---- as a program has it: the array of shares of a table of counts, on which the totals are counted
 
 module _ (nodes root limit : ℕ) (helpands leasts totals table : List ℕ) (t : Tree nodes (at helpands) root)
@@ -229,7 +234,7 @@ module _ (nodes root limit : ℕ) (helpands leasts totals table : List ℕ) (t :
 
   -- and helpers' own particles are in place
   pub table-in-place : OwnInPlace nodes (at helpands) limit (at leasts) (at totals) (held table) (at arrayed)
-  table-in-place = own-in-place counted (at arrayed) table-shares
+  table-in-place = own-in-place table-shares
 
 -- ---- "owners sit at the limit while their helpers idle": no more
 
