@@ -2,7 +2,7 @@
 -- the plan is what document 01 says of its kind. Assumes nothing.
 use mathlib.Core.Path.{_≡_, refl, sym, ap, _∙_}
 use mathlib.Core.Logic.{_≢_, _⊎_, inl, inr}
-use mathlib.Core.Bool.{Bool, true, false, _&&_, true≢false}
+use mathlib.Core.Bool.{Bool, true, false, cond, _&&_, true≢false}
 use mathlib.Core.List.{List}
 use Prim.Native.Nat.{ℕ, _-_, _*_, _≤_, _<_}
 use native.Mathlib.Omega.{arith}
@@ -238,3 +238,19 @@ module _ (nodes p t : ℕ) (table totals : List ℕ) (tree : Bool) (old : List �
       by-load : (primary nodes (at totals) limit ≡ true) ⊎ (primary nodes (at totals) limit ≡ false) → Fine nodes limit totals decision
       by-load (inl e) = rw e primary-fine
       by-load (inr f) = by-tree f (either (tree && holds nodes (at old) (at totals) limit))
+
+-- THEOREM. Request 2026-07, "Whether a tree is kept does not depend on this": the kind does not depend on who holds the particles.
+pub kind-by-totals : (nodes p limit : ℕ) (totals : List ℕ) (tree : Bool) (old table table′ : List ℕ)
+    → decided nodes p limit table totals tree old .kind ≡ decided nodes p limit table′ totals tree old .kind
+unfolding decided
+kind-by-totals nodes p limit totals tree old table table′ =
+    alike (primary nodes (at totals) limit) (tree && holds nodes (at old) (at totals) limit)
+  where
+    kindOf : List ℕ → Bool → Bool → ℕ
+    kindOf xs low keeps =
+        cond low (primaryPlan nodes) (cond keeps (keptPlan nodes limit xs totals old) (rebuiltPlan nodes p totals old)) .kind
+
+    alike : (low keeps : Bool) → kindOf table low keeps ≡ kindOf table′ low keeps
+    alike true keeps = refl
+    alike false true = refl
+    alike false false = refl

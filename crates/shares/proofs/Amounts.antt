@@ -18,27 +18,27 @@ use Rattle.shares.proofs.LevelForm.{UpTo}
 use Rattle.shares.proofs.FillLaws.{levelled, fill-space, fill-keeps, fill-none, fill-sum}
 
 -- "L − Rn at n itself, and L − least at each helper", or L − hold: whoever has space is at the limit once it is full
-pub family-up-to : (nodes : ℕ) (h : ℕ → ℕ) (limit : ℕ) (reserve : ℕ → ℕ) (r n : ℕ)
-    → UpTo limit nodes (beside reserve r n) (space h limit reserve r n)
+pub family-up-to : (nodes : ℕ) (h : ℕ → ℕ) (limit : ℕ) (reserves : ℕ → ℕ) (r n : ℕ)
+    → UpTo limit nodes (beside reserves r n) (space h limit reserves r n)
 unfolding space inFamily beside
-family-up-to nodes h limit reserve r n k l = each (eqb k n) (helps h n k)
+family-up-to nodes h limit reserves r n k l = each (eqb k n) (helps h n k)
   where
-    each : (own help : Bool) → 0 < cond own (limit - r) (only help (limit - reserve k))
-        → cond own r (reserve k) + cond own (limit - r) (only help (limit - reserve k)) ≡ limit
+    each : (own help : Bool) → 0 < cond own (limit - r) (only help (limit - reserves k))
+        → cond own r (reserves k) + cond own (limit - r) (only help (limit - reserves k)) ≡ limit
     each true help g = omega arith
     each false true g = omega arith
     each false false g = absurd (omega arith)
 
-module _ (h : ℕ → ℕ) (limit : ℕ) (reserve holding : ℕ → ℕ) (r n : ℕ) where
+module _ (h : ℕ → ℕ) (limit : ℕ) (reserves holding : ℕ → ℕ) (r n : ℕ) where
   abbrev spaces : ℕ → ℕ
-  spaces = space h limit reserve r n
+  spaces = space h limit reserves r n
 
   abbrev keeps : ℕ → ℕ
-  keeps = kept (space h limit reserve r n) holding
+  keeps = kept (space h limit reserves r n) holding
 
   -- what all members keep
   pub kept-sum : (nodes : ℕ) → n < nodes → sum nodes keeps ≡ keeps n + overHelpers nodes h n keeps
-  kept-sum = family-part h limit reserve r n keeps (λ k. omega arith)
+  kept-sum = family-part h limit reserves r n keeps (λ k. omega arith)
 
   -- what one helper more keeps is still there
   pub kept-left : (nodes k : ℕ) → n < nodes → k < nodes → helps h n k ≡ true

@@ -17,14 +17,14 @@ use Rattle.shares.specs.Hold.{reserve}
 unfoldable pub inFamily : (ℕ → ℕ) → ℕ → ℕ → (ℕ → ℕ) → ℕ → ℕ
 inFamily h n own helper k = cond (eqb k n) own (only (helps h n k) (helper k))
 
--- "The space for subdomain n is L − Rn at n itself, and L − least at each helper", or L − hold: `reserve` is which of the two. Space is
+-- "The space for subdomain n is L − Rn at n itself, and L − least at each helper", or L − hold: `reserves` has which of the two. Space is
 -- document 01's term for the most that a member may have of a subdomain; a node that is no member has none. r is Rn.
 unfoldable pub space : (ℕ → ℕ) → ℕ → (ℕ → ℕ) → ℕ → ℕ → ℕ → ℕ
-space h limit reserve r n = inFamily h n (limit - r) (λ k. limit - reserve k)
+space h limit reserves r n = inFamily h n (limit - r) (λ k. limit - reserves k)
 
 -- what a member has beside its amount, in the words of 2026-03: "R .. for the owner, and least .. for a helper", or hold
 unfoldable pub beside : (ℕ → ℕ) → ℕ → ℕ → ℕ → ℕ
-beside reserve r n k = cond (eqb k n) r (reserve k)
+beside reserves r n k = cond (eqb k n) r (reserves k)
 
 -- "Each member first keeps the smaller of its space and what it already holds of subdomain n."
 abbrev pub kept : (ℕ → ℕ) → (ℕ → ℕ) → ℕ → ℕ
