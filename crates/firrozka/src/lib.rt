@@ -5,9 +5,11 @@ use moves::MovesAnswer;
 use plan::PlanAnswer;
 use planner::StepAnswer;
 use sheet::SheetAnswer;
+use tally::Tally;
 use weigh::WeighAnswer;
 use words::WrittenAnswer;
 ghost use mathlib.Core.Path.{_≡_};
+ghost use mathlib.Core.Bool.{true, false};
 ghost use lib.ListN.{length};
 ghost use Rattle.sheet.specs.Sheet.{readSheet};
 ghost use Rattle.plan.specs.Plan.{readPlan};
@@ -19,6 +21,8 @@ ghost use Rattle.inlet.specs.Join.{joinAnswer, joinedAfter};
 ghost use Rattle.traffic.specs.Page.{pageAnswer, pageAfter};
 ghost use Rattle.archive.specs.Archive.{writeAnswer, archiveAfter, readAnswer, sheetAfter};
 ghost use Rattle.groups.specs.Groups.{groupsAnswer, groupsAfter};
+ghost use Rattle.tally.specs.Call.{callOf};
+ghost use Rattle.tally.specs.Tally.{openAnswer, opened, callAnswer, tallyAfter};
 ghost use Rattle.in_force.specs.InForce.{inForce, partOf};
 ghost use Rattle.firrozka.specs.Version.{version};
 
@@ -27,7 +31,7 @@ ghost use Rattle.firrozka.specs.Version.{version};
 pub extern "C" fn firrozka_version() -> u32
     ensures { λ r. ⌜ r ≡ version ⌝ }
 {
-    107
+    108
 }
 
 // *Read sheet*.
@@ -137,6 +141,52 @@ pub extern "C" fn firrozka_groups(plan: &[u8], groups: &mut [u8]) -> WrittenAnsw
     ensures bytes { λ _. ⌜ now (groups .exit) ≡ groupsAfter (now (plan .entry)) (now (groups .entry)) ⌝ }
 {
     groups::answer(groups::groups(plan, groups))
+}
+
+// Opens a tally: the whole of it is written, also where opening is refused.
+#[no_mangle]
+pub extern "C" fn firrozka_open_tally(sheet: &[u8], plan: &[u8], t: &mut Tally) -> WeighAnswer
+    ensures { λ r. ⌜
+        (r ≡ openAnswer (now (sheet .entry)) (now (plan .entry)))
+        × (now (t .exit) ≡ opened (now (sheet .entry)) (now (plan .entry))) ⌝ }
+{
+    let done = tally::open(sheet, plan, &mut t.counts);
+    t.summary = done.summary;
+    done.answer
+}
+
+// Adds particles in a cell of a tally.
+#[no_mangle]
+pub extern "C" fn firrozka_tally_add(
+    t: &mut Tally,
+    holder: u32,
+    subdomain: u32,
+    count: u32,
+) -> WeighAnswer
+    ensures { λ r. ⌜
+        (r ≡ callAnswer (now (t .entry)) (callOf true holder subdomain count))
+        × (now (t .exit) ≡ tallyAfter (now (t .entry)) (callOf true holder subdomain count)) ⌝ }
+{
+    let done = tally::change(t.summary, &mut t.counts, holder, subdomain, count, true);
+    t.summary = done.summary;
+    done.answer
+}
+
+// Removes particles from a cell of a tally.
+#[no_mangle]
+pub extern "C" fn firrozka_tally_remove(
+    t: &mut Tally,
+    holder: u32,
+    subdomain: u32,
+    count: u32,
+) -> WeighAnswer
+    ensures { λ r. ⌜
+        (r ≡ callAnswer (now (t .entry)) (callOf false holder subdomain count))
+        × (now (t .exit) ≡ tallyAfter (now (t .entry)) (callOf false holder subdomain count)) ⌝ }
+{
+    let done = tally::change(t.summary, &mut t.counts, holder, subdomain, count, false);
+    t.summary = done.summary;
+    done.answer
 }
 
 // *Tree in force*: the stretch by its place, since no reference can be handed back over the boundary.

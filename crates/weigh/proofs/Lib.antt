@@ -1,4 +1,5 @@
+pub mod Answers
+pub mod Checks
 pub mod Weighed
 pub mod ReadBack
 pub mod Sizes
-pub mod Answers

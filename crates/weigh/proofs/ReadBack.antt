@@ -23,7 +23,9 @@ use Rattle.sheet.proofs.Tables.{table-within}
 use Rattle.sheet.proofs.Totalled.{total-le}
 use Rattle.tree.proofs.Weighing.{least-most}
 use Rattle.weigh.specs.declared.WeighAnswer.{WeighAnswer}
+use Rattle.weigh.specs.Checks.{checked}
 use Rattle.weigh.specs.Weigh.{refused, leastIn, leastBytes, weighAnswer, weighBytes, LeastsReadBack}
+use Rattle.weigh.proofs.Checks.{passes}
 
 module _ (s p : List ℕ) (z : readSheet s .refusal ≡ 0) where
   abbrev n₀ : ℕ
@@ -62,5 +64,5 @@ module _ (s p : List ℕ) (z : readSheet s .refusal ≡ 0) where
 pub leasts-read-back : (s p out : List ℕ) → weighAnswer s p (length out) .refusal ≡ 0 → LeastsReadBack s p (weighBytes s p out)
 unfolding weighAnswer
 leasts-read-back s p out q =
-    let z = handed (λ (a : WeighAnswer). a .refusal) refused (λ k. refl) (readSheet s .refusal) _ q .0 in
-    rw (eq-eqb _ 0 q) (read-front s p z (drop (length (leastBytes s p)) out))
+    let z = handed (λ (a : WeighAnswer). a .refusal) refused (λ k. refl) (checked s p) _ q .0 in
+    rw (eq-eqb _ 0 q) (read-front s p (passes s p z .sheet) (drop (length (leastBytes s p)) out))

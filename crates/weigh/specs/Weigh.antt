@@ -2,21 +2,22 @@
 use mathlib.Core.Path.{_≡_}
 use Prim.Native.Nat.{ℕ, _*_, _<_}
 use mathlib.Core.List.{List, [], _∷_}
-use mathlib.Core.Bool.{Bool, not}
-use lib.Dec.{eqb, ltb}
+use mathlib.Core.Bool.{Bool}
+use lib.Dec.{ltb}
 use lib.ListN.{length, getD}
 use Rattle.fold.specs.Sum.{only}
 use Rattle.fold.specs.Collect.{collect}
 use Rattle.words.specs.Checks.{refuseIf, refuseAs}
 use Rattle.words.specs.Words.{words, encode}
 use Rattle.words.specs.Buffer.{afterCall}
-use Rattle.sheet.specs.Sheet.{readSheet, refusalNumber as sheetNumber}
+use Rattle.sheet.specs.Sheet.{readSheet}
 use Rattle.arrays.specs.Arrays.{at}
-use Rattle.plan.specs.Plan.{readPlan, helpandsOf, refusalNumber as planNumber}
+use Rattle.plan.specs.Plan.{helpandsOf}
 use Rattle.sheet.specs.Totals.{totalsIn}
 use Rattle.tree.specs.Least.{least, holds}
+use Rattle.weigh.specs.Checks.{checkNumber, checked}
 use Rattle.weigh.specs.declared.WeighRefusal.{WeighRefusal}
-use Rattle.weigh.specs.declared.WeighRefusal.the-variants.{Sheet as OfSheet, Plan as OfPlan, NodesDiffer, Primary, Buffer}
+use Rattle.weigh.specs.declared.WeighRefusal.the-variants.{Check, Buffer}
 use Rattle.weigh.specs.declared.Weighing.{Weighing}
 use Rattle.weigh.specs.declared.Weighing.the-variants.{Weighed, Refused}
 use Rattle.weigh.specs.declared.WeighAnswer.{WeighAnswer}
@@ -29,12 +30,9 @@ refused k = record { refusal = k; holds = 0 }
 abbrev pub weighed : Bool → WeighAnswer
 weighed b = record { refusal = 0; holds = only b 1 }
 
--- the paper's number of each refusal: "the sheet's; the plan's; 21, their N differ; 24, kind 0; 25, buffer under 4N bytes"
+-- the paper's number of each refusal: those of the checks up to 24, and "25, buffer under 4N bytes"
 abbrev pub numberOf : WeighRefusal → ℕ
-numberOf (OfSheet r) = sheetNumber r
-numberOf (OfPlan r) = planNumber r
-numberOf NodesDiffer = 21
-numberOf Primary = 24
+numberOf (Check r) = checkNumber r
 numberOf Buffer = 25
 
 -- the paper's number and values for each case of the enum
@@ -59,12 +57,9 @@ leastBytes s p = encode (collect (readSheet s .n) (λ k. leastIn s p k ∷ []))
 
 unfoldable pub weighAnswer : List ℕ → List ℕ → ℕ → WeighAnswer
 weighAnswer s p size =
-    refuseAs refused (readSheet s .refusal)
-    (refuseAs refused (readPlan p .refusal)
-    (refuseIf (not (eqb (readSheet s .n) (readPlan p .n))) (refused 21)
-    (refuseIf (eqb (readPlan p .kind) 0) (refused 24)
+    refuseAs refused (checked s p)
     (refuseIf (ltb size (4 * readSheet s .n)) (refused 25)
-    (weighed (holdsIn s p))))))
+    (weighed (holdsIn s p)))
 
 -- the buffer afterwards
 abbrev pub weighBytes : List ℕ → List ℕ → List ℕ → List ℕ

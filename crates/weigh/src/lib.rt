@@ -1,22 +1,23 @@
 // *Weigh*: the leasts of a plan's tree under a sheet's limit, written to a lent buffer, and whether the tree holds.
-use plan::Plan;
-use plan::PlanReading;
-use plan::PlanRefusal;
+// The checks up to 24 stand in `check`.
+use check::CheckRefusal;
+use check::PairReading;
 use sheet::Sheet;
-use sheet::SheetReading;
-use sheet::SheetRefusal;
 ghost use mathlib.Core.Path.{_≡_};
+ghost use Prim.Native.Nat.{ℕ, _≤_};
 ghost use lib.ListN.{length};
-ghost use Rattle.arrays.specs.Arrays.{tabulate};
+ghost use Rattle.limit.specs.Limit.{maxNodes};
+ghost use Rattle.arrays.specs.Arrays.{at, tabulate};
+ghost use Rattle.plan.specs.Tree.{Tree};
+ghost use Rattle.tree.specs.Least.{least};
 ghost use Rattle.weigh.specs.Weigh.{leastIn, weighAnswer, weighBytes, numberOf, answerOf};
-ghost use Rattle.weigh.specs.Inner.{WeighRead, Weighable};
+ghost use Rattle.weigh.specs.Inner.{Weighable};
+
+pub mod check;
 
 // Why weighing is refused, in the order of the checks.
 pub enum WeighRefusal {
-    Sheet(SheetRefusal),
-    Plan(PlanRefusal),
-    NodesDiffer,
-    Primary,
+    Check(CheckRefusal),
     Buffer,
 }
 
@@ -32,6 +33,16 @@ pub struct WeighAnswer {
     pub holds: u32,
 }
 
+// The leasts of a tree, from its helpands and the totals.
+pub fn tree_leasts(totals: [u32; 64], helpands: [u32; 64], nodes: usize, limit: u32) -> [u32; 64]
+    requires { ⌜ (nodes ≤ maxNodes) × ((r : ℕ) × Tree nodes (at helpands) r) ⌝ }
+    ensures { λ r. ⌜ r ≡ tabulate nodes (least nodes (at helpands) (at totals) limit) ⌝ }
+{
+    let root = tree::least::find_root(helpands, nodes);
+    let links = tree::links::helper_links(&helpands, nodes);
+    tree::least::leasts(totals, helpands, &links, nodes, root, limit)
+}
+
 // The leasts of the plan's tree, for a sheet and a plan that are accepted.
 fn leasts_of(sheet: &[u8], plan: &[u8], s: Sheet) -> [u32; 64]
     requires { ⌜ Weighable (now sheet) (now plan) s ⌝ }
@@ -41,23 +52,15 @@ fn leasts_of(sheet: &[u8], plan: &[u8], s: Sheet) -> [u32; 64]
     let table = sheet::table::unpack(sheet, s.e as usize);
     let totals = sheet::totals::totals(&table, nodes);
     let helpands = words::words_64(plan, 3, nodes);
-    let root = tree::least::find_root(helpands, nodes);
-    let links = tree::links::helper_links(&helpands, nodes);
-    tree::least::leasts(totals, helpands, &links, nodes, root, s.limit)
+    tree_leasts(totals, helpands, nodes, s.limit)
 }
 
 // Weighs a sheet and a plan that were read.
-fn weigh_read(sheet: &[u8], plan: &[u8], s: Sheet, p: Plan, least: &mut [u8]) -> Weighing
-    requires { ⌜ WeighRead (now sheet) (now plan) s p ⌝ }
+fn weigh_read(sheet: &[u8], plan: &[u8], s: Sheet, least: &mut [u8]) -> Weighing
+    requires { ⌜ Weighable (now sheet) (now plan) s ⌝ }
     ensures answer { λ r. ⌜ answerOf r ≡ weighAnswer (now (sheet .entry)) (now (plan .entry)) (length (now (least .entry))) ⌝ }
     ensures bytes { λ _. ⌜ now (least .exit) ≡ weighBytes (now (sheet .entry)) (now (plan .entry)) (now (least .entry)) ⌝ }
 {
-    if s.n != p.n {
-        return Weighing::Refused(WeighRefusal::NodesDiffer);
-    }
-    if p.kind == 0 {
-        return Weighing::Refused(WeighRefusal::Primary);
-    }
     let nodes = s.n as usize;
     if least.len() < 4 * nodes {
         return Weighing::Refused(WeighRefusal::Buffer);
@@ -72,12 +75,9 @@ pub fn weigh(sheet: &[u8], plan: &[u8], least: &mut [u8]) -> Weighing
     ensures answer { λ r. ⌜ answerOf r ≡ weighAnswer (now (sheet .entry)) (now (plan .entry)) (length (now (least .entry))) ⌝ }
     ensures bytes { λ _. ⌜ now (least .exit) ≡ weighBytes (now (sheet .entry)) (now (plan .entry)) (now (least .entry)) ⌝ }
 {
-    match sheet::read_sheet(sheet) {
-        SheetReading::Refused(r) => Weighing::Refused(WeighRefusal::Sheet(r)),
-        SheetReading::Accepted(s) => match plan::read_plan(plan) {
-            PlanReading::Refused(r) => Weighing::Refused(WeighRefusal::Plan(r)),
-            PlanReading::Accepted(p) => weigh_read(sheet, plan, s, p, least),
-        },
+    match check::read_pair(sheet, plan) {
+        PairReading::Refused(r) => Weighing::Refused(WeighRefusal::Check(r)),
+        PairReading::Accepted(s) => weigh_read(sheet, plan, s, least),
     }
 }
 
@@ -86,10 +86,7 @@ fn number(r: WeighRefusal) -> u32
     ensures { λ k. ⌜ k ≡ numberOf r ⌝ }
 {
     match r {
-        WeighRefusal::Sheet(r) => sheet::number(r),
-        WeighRefusal::Plan(r) => plan::number(r),
-        WeighRefusal::NodesDiffer => 21,
-        WeighRefusal::Primary => 24,
+        WeighRefusal::Check(r) => check::number(r),
         WeighRefusal::Buffer => 25,
     }
 }

@@ -1,21 +1,16 @@
 -- `weigh::answer` meets its contract, case by case. Assumes nothing.
 use borrow.Author.Needs.{needs}
-use mathlib.Core.Path.{_≡_, refl, sym, ap, _∙_}
-use mathlib.Core.Bool.{Bool, true, false}
+use mathlib.Core.Path.{sym, ap, _∙_}
 use Prim.Native.Nat.{ℕ}
-use mir.Val.{boolByte}
-use Rattle.fold.specs.Sum.{only}
 use Rattle.weigh.specs.Weigh.{refused, answerOf}
+use Rattle.weigh.proofs.Answers.{bool-number}
 use Rattle.weigh.proofs.answer.Statement.{statement}
 use Rattle.weigh.proofs.answer.Tie as tie
 
--- a bool as a number
-one : (b : Bool) → boolByte b ≡ only b 1
-one true = refl
-one false = refl
-
 returns : tie.Need-returns
-returns c = let w = c .before .w .given in ap (λ (x : ℕ). record { refusal = 0; holds = x }) (one (w .0 .0)) ∙ sym (ap answerOf (w .1))
+returns c =
+    let w = c .before .w .given in
+    ap (λ (x : ℕ). record { refusal = 0; holds = x }) (bool-number (w .0 .0)) ∙ sym (ap answerOf (w .1))
 
 pub answer-spec : {M : Type 1} → statement M
 answer-spec =

@@ -1,5 +1,5 @@
--- `weigh::leasts_of` meets its contract: the sheet's table, its totals, the plan's tree, its links and its leasts, one after the other.
--- Assumes nothing.
+-- `weigh::leasts_of` meets its contract: the sheet's table, its totals, the plan's tree and its leasts, one after the other. Assumes
+-- nothing.
 use borrow.Author.Needs.{needs}
 use mathlib.Core.List.{List}
 use Prim.Native.Nat.{ℕ}
@@ -8,7 +8,8 @@ use denote.Ref.{now}
 use Rattle.sheet.specs.Sheet.{accepted}
 use Rattle.sheet.proofs.Accepted.{Accepted, sheet-unpackable}
 use Rattle.plan.proofs.Accepted.{plan-accepted}
-use Rattle.weigh.proofs.Weighed.{facts, sum-within, array-tree, leasts-read}
+use Rattle.weigh.proofs.Checks.{facts, sum-within, array-tree}
+use Rattle.weigh.proofs.Weighed.{leasts-read}
 use Rattle.weigh.proofs.leasts_of.Statement.{statement}
 use Rattle.weigh.proofs.leasts_of.Tie as tie
 
@@ -25,13 +26,6 @@ module _ (c : tie.After-struct-known2) where
   read : let s = start .args .s in Accepted sheet (accepted (s .n) (s .t) (s .e) (s .p) (s .limit))
   read = facts sheet plan (start .args .s) (start .pre)
 
--- the points on the way
-abbrev before-words : tie.After-words-64 → tie.After-struct-known2
-before-words c = c .before .before .before .before
-
-abbrev before-links : tie.After-helpands → tie.After-struct-known2
-before-links c = before-words (c .before .before)
-
 unpack-requires : tie.Need-unpack-requires
 unpack-requires c κs = (_, sheet-unpackable _ _ (read c))
 
@@ -46,28 +40,19 @@ words-64-requires c κs =
     let w = start s .pre in
     (omega (arith, plan-accepted (plan s) (w .plan) .size, w .nodes), read s .n-high)
 
-find-root-requires : tie.Need-find-root-requires
-find-root-requires c κs =
-    let s = before-words c in
+tree-leasts-requires : tie.Need-tree-leasts-requires
+tree-leasts-requires c κs =
+    let s = c .before .before .before .before in
     (read s .n-high, rw (c .words-64 .ensures) (array-tree (sheet s) (plan s) (start s .args .s) (start s .pre)))
-
-helper-links-requires : tie.Need-helper-links-requires
-helper-links-requires c κs = (read (before-links c) .n-high, c .before .find-root .ensures .inside)
-
-leasts-requires : tie.Need-leasts-requires
-leasts-requires c κs =
-    let h = c .before .before in
-    (read (before-links h) .n-high, h .before .find-root .ensures, c .before .helper-links .ensures)
 
 returns : tie.Need-returns
 returns c =
-    let h = c .before .before .before in
-    let w = h .before .before in
+    let w = c .before in
     let t = w .before in
-    let s = before-links h in
     let u = t .before .before in
+    let s = u .before in
     leasts-read (sheet s) (plan s) (start s .args .s) (start s .pre) (u .unpack .result) (t .totals .result) (w .words-64 .result)
-    (c .leasts .result) (u .unpack .ensures) (t .totals .ensures) (w .words-64 .ensures) (c .leasts .ensures)
+    (c .tree-leasts .result) (u .unpack .ensures) (t .totals .ensures) (w .words-64 .ensures) (c .tree-leasts .ensures)
 
 pub leasts-of-spec : {M : Type 1} → statement M
 leasts-of-spec =
@@ -78,7 +63,5 @@ leasts-of-spec =
     unpack-requires
     totals-requires
     words-64-requires
-    find-root-requires
-    helper-links-requires
-    leasts-requires
+    tree-leasts-requires
     returns)

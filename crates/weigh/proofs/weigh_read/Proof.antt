@@ -1,5 +1,4 @@
--- `weigh::weigh_read` meets its contract: each way out gives the answer of the first check that refuses, and the leasts are one run
--- of words. Assumes nothing.
+-- `weigh::weigh_read` meets its contract: a buffer that is too short is refused, and the leasts are one run of words. Assumes nothing.
 use borrow.Author.Needs.{needs}
 use mathlib.Core.Path.{_≡_, ap, _∙_}
 use mathlib.Core.List.{List}
@@ -11,15 +10,15 @@ use Rattle.limit.specs.Limit.{maxNodes}
 use Rattle.arrays.proofs.Tabulate.{length-tabulate}
 use Rattle.sheet.specs.declared.Sheet.{Sheet}
 use Rattle.weigh.specs.Weigh.{weighed, leastIn}
-use Rattle.weigh.specs.Inner.{Weighable}
-use Rattle.weigh.proofs.Weighed.{facts, ends-differ, ends-primary, ends-short, weighable, ends-weighed}
+use Rattle.weigh.proofs.Checks.{facts}
+use Rattle.weigh.proofs.Weighed.{ends-short, ends-weighed}
 use Rattle.weigh.proofs.weigh_read.Statement.{statement}
 use Rattle.weigh.proofs.weigh_read.Tie as tie
 
--- before the first check
-module _ (c : tie.After-struct-known2) where
+-- before the check
+module _ (c : tie.After-struct-known) where
   abbrev start : tie.Start
-  start = c .before .before .before .before .before
+  start = c .before .before .before .before
 
   abbrev sheet : List ℕ
   sheet = now (start .args .sheet)
@@ -30,75 +29,43 @@ module _ (c : tie.After-struct-known2) where
   abbrev head : Sheet
   head = start .args .s
 
--- past 21, and past 24
-abbrev same-nodes : tie.Else2 → tie.Else1
-same-nodes c = c .before .before
+  few : head .n ≤ maxNodes
+  few = facts sheet plan head (start .pre) .n-high
 
 returns : tie.Need-returns
-returns c =
-    let b = c .before in
-    ends-differ (start b .pre) _ (c .if1 .taken)
-
-returns-2 : tie.Need-returns-2
-returns-2 c =
-    let e = c .before .before in
-    let b = e .before in
-    ends-primary (start b .pre) _ (e .if1 .left) (c .if2 .taken)
-
-returns-3 : tie.Need-returns-3
-returns-3 c =
-    let t = c .before .before in
-    let e = same-nodes t in
-    let b = e .before in
-    ends-short (start b .pre) _ (e .if1 .left) (t .if2 .left) (c .if3 .taken)
-
--- past all checks
-module _ (c : tie.Else3) where
-  abbrev tree : tie.Else2
-  tree = c .before .before
-
-  abbrev begun : tie.After-struct-known2
-  begun = same-nodes tree .before
-
-  can-weigh : Weighable (sheet begun) (plan begun) (head begun)
-  can-weigh =
-      weighable (start begun .pre) (now (start begun .args .least)) (same-nodes tree .if1 .left) (tree .if2 .left)
-
-  few : head begun .n ≤ maxNodes
-  few = facts (sheet begun) (plan begun) (head begun) can-weigh .n-high
+returns c = ends-short (start (c .before) .pre) _ (c .if1 .taken)
 
 -- the leasts were worked out
 long : (c : tie.After-leasts-of) → length (c .leasts-of .result) ≡ 64
 long c =
-    let b = begun (c .before) in
-    ap length (c .leasts-of .ensures) ∙ length-tabulate (head b .n) (leastIn (sheet b) (plan b)) (few (c .before))
+    let b = c .before .before in
+    ap length (c .leasts-of .ensures) ∙ length-tabulate (head b .n) (leastIn (sheet b) (plan b)) (few b)
 
 abbrev written : tie.After-put-words → tie.After-leasts-of
 written c = c .before .before .before
 
-returns-4 : tie.Need-returns-4
-returns-4 c =
+put-words-requires : tie.Need-put-words-requires
+put-words-requires c κs =
+    let l = c .before .before in
+    omega (arith, long l, few (l .before .before), l .before .if1 .left)
+
+returns-2 : tie.Need-returns-2
+returns-2 c =
     let w = c .before .before .before in
     let l = written w in
-    let t = tree (l .before) in
-    let e = same-nodes t in
-    let b = e .before in
-    let x = ends-weighed (start b .pre) _ (e .if1 .left) (t .if2 .left) (l .before .if3 .left)
-    (l .leasts-of .ensures) in
+    let x = ends-weighed (start (l .before .before) .pre) _ (l .before .if1 .left) (l .leasts-of .ensures) in
     (ap weighed (c .holds .ensures) ∙ x .0, w .put-words .ensures ∙ x .1)
 
 pub weigh-read-spec : {M : Type 1} → statement M
 weigh-read-spec =
     tie.close
     (tie.spec
-    returns
-    returns-2
     (λ c. search needs)  -- cast-nodes
-    (λ c. search needs)  -- mul-if3
-    returns-3
-    (λ c κs. can-weigh c)  -- leasts-of-requires
+    (λ c. search needs)  -- mul-if1
+    returns
+    (λ c κs. start (c .before) .pre)  -- leasts-of-requires
     (λ c. search needs)  -- slice-aggregate-put-words
-    (λ c κs. let l = c .before .before in omega (arith, long l, few (l .before), l .before .if3 .left))  -- put-words-requires
-    (λ c κs. few (written (c .before .before) .before))  -- holds-requires
+    put-words-requires
+    (λ c κs. few (written (c .before .before) .before .before))  -- holds-requires
     (λ c. search needs)  -- same-length
-    returns-4)
+    returns-2)

@@ -1,0 +1,146 @@
+-- A call on whatever the tally holds: its checks as the program makes them, and one law for each way out. Assumes nothing.
+use mathlib.Core.Path.{_≡_, refl, sym, _∙_}
+use mathlib.Core.Logic.{_≢_}
+use mathlib.Core.Bool.{Bool, true, false, not, cond, _&&_, _||_}
+use mathlib.Core.List.{List}
+use Prim.Native.Nat.{ℕ, _+_, _≤_, _<_}
+use native.Mathlib.Omega.{arith}
+use borrow.Author.Tests.{ltb-true, ltb-false, leb-true, ne-eqb, not-false}
+use lib.Dec.{eqb, ltb, leb}
+use lib.ListN.{set}
+use Rattle.fold.specs.All.{all}
+use Rattle.fold.proofs.Tests.{and-left, and-right, passed, all-at}
+use Rattle.limit.specs.Limit.{maxNodes, maxTotal}
+use Rattle.arrays.specs.Arrays.{at}
+use Rattle.plan.specs.Tree.{helpandsBelow}
+use Rattle.weigh.specs.Weigh.{refused, weighed}
+use Rattle.tally.specs.declared.Summary.{Summary}
+use Rattle.tally.specs.declared.Tally.{Tally}
+use Rattle.tally.specs.declared.Tallied.{Tallied}
+use Rattle.tally.specs.declared.TallyRefusal.{TallyRefusal}
+use Rattle.tally.specs.Call.{Call, callOf, cellOf, counted, callNumber}
+use Rattle.tally.specs.Tally.{numberOf, tallyWith, numberIn, summaryAfter, changed, tallyAfter, callAnswer, holding, callResult}
+use Rattle.tally.specs.Inner.{named, amountNumber, Countable, Changeable}
+use Rattle.tally.proofs.Answers.{numbered}
+
+-- a test that makes no difference
+pub cond-same : {A : Type 0} (b : Bool) (x : A) → cond b x x ≡ x
+cond-same true x = refl
+cond-same false x = refl
+
+-- ---- the checks, in the order in which the program makes them
+
+-- of the tests of 58, those come first that look at no counts
+first-tests : (few k d none below amounts : Bool) (rest : ℕ)
+    → cond (not (few && (below && amounts))) 58 (cond (not k || (not d || none)) 58 rest)
+    ≡ cond (not (few && (k && (d && (not none && below))))) 58 (cond (not amounts) 58 rest)
+first-tests false k d none below amounts rest = refl
+first-tests true false d none below amounts rest = cond-same (not (below && amounts)) 58
+first-tests true true false none below amounts rest = cond-same (not (below && amounts)) 58
+first-tests true true true true below amounts rest = cond-same (not (below && amounts)) 58
+first-tests true true true false false amounts rest = refl
+first-tests true true true false true amounts rest = refl
+
+-- where no amount refuses, nothing wraps
+amounts-fit : (adds : Bool) (has own total count : ℕ) → 0 ≡ amountNumber has own total count adds
+    → (Countable adds count has) × (Countable adds count own) × (Countable adds count total)
+amounts-fit true has own total count e =
+    let f : ℕ → ℕ = λ x. x in
+    let a = passed f (not (leb has own && leb own total)) 58 _ (λ z. omega arith) (sym e) in
+    let b = passed f (ltb maxTotal (total + count)) 60 0 (λ z. omega arith) (a .1) in
+    let both = not-false _ (a .0) in
+    let x = leb-true has own (and-left (leb has own) (leb own total) both) in
+    let y = leb-true own total (and-right (leb has own) (leb own total) both) in
+    let z = ltb-false maxTotal (total + count) (b .0) in
+    (omega arith, omega arith, omega arith)
+amounts-fit false has own total count e =
+    let f : ℕ → ℕ = λ x. x in
+    let a = passed f (not (leb has own && leb own total)) 58 _ (λ z. omega arith) (sym e) in
+    let b = passed f (ltb has count) 59 0 (λ z. omega arith) (a .1) in
+    let both = not-false _ (a .0) in
+    let x = leb-true has own (and-left (leb has own) (leb own total) both) in
+    let y = leb-true own total (and-right (leb has own) (leb own total) both) in
+    let z = ltb-false has count (b .0) in
+    (omega arith, omega arith, omega arith)
+
+module _ (s : Summary) (counts : List ℕ) (adds : Bool) (k d count : ℕ) where
+  abbrev t : Tally
+  t = tallyWith s counts
+
+  abbrev c : Call
+  c = callOf adds k d count
+
+  abbrev has : ℕ
+  has = at counts (cellOf c)
+
+  abbrev is-named : Bool
+  is-named = named (s .n) (at (s .helpands)) k d count
+
+  abbrev amounts : ℕ
+  amounts = amountNumber has (at (s .totals) d) (s .total) count adds
+
+  number-parts : numberIn t c ≡ cond (not is-named) 58 amounts
+  unfolding numberIn callNumber
+  number-parts =
+      first-tests (leb (s .n) maxNodes) (ltb k (s .n)) (ltb d (s .n)) (eqb count 0) (helpandsBelow (s .n) (at (s .helpands)))
+      (leb has (at (s .totals) d) && leb (at (s .totals) d) (s .total)) _
+
+  -- ---- the ways out
+
+  -- what is given, and the counts as they are then
+  abbrev pub Ends : Tallied → List ℕ → Type 0
+  Ends r counts₁ = (r ≡ callResult t c) × (counts₁ ≡ tallyAfter t c .counts)
+
+  ends-refused : (x : ℕ) → x ≢ 0 → numberIn t c ≡ x → Ends (record { answer = refused x; summary = s }) counts
+  unfolding callAnswer tallyAfter
+  ends-refused x z e = (rw (e, ne-eqb x 0 z), rw (e, ne-eqb x 0 z))
+
+  pub ends-unnamed : is-named ≡ false → Ends (record { answer = refused 58; summary = s }) counts
+  ends-unnamed e = ends-refused 58 (λ z. omega arith) (number-parts ∙ rw e)
+
+  module _ (yes-named : is-named ≡ true) where
+    number-amounts : numberIn t c ≡ amounts
+    number-amounts = number-parts ∙ rw yes-named
+
+    pub ends-amounts : (r : TallyRefusal) → numberOf r ≡ amounts → Ends (record { answer = refused (numberOf r); summary = s }) counts
+    ends-amounts r e = ends-refused (numberOf r) (λ z. omega (arith, numbered r .0)) (number-amounts ∙ sym e)
+
+    pub ends-changed : 0 ≡ amounts → {after : Summary} → after ≡ summaryAfter s adds d count
+        → Ends (record { answer = weighed (holding after); summary = after }) (set counts (cellOf c) (counted adds count has))
+    unfolding callAnswer tallyAfter changed
+    ends-changed e is = (rw (is, number-amounts, ← e), rw (number-amounts, ← e))
+
+    -- ---- what is known past the checks
+
+    few : s .n ≤ maxNodes
+    few = leb-true (s .n) maxNodes (and-left (leb (s .n) maxNodes) _ yes-named)
+
+    past-few : (ltb k (s .n) && (ltb d (s .n) && (not (eqb count 0) && helpandsBelow (s .n) (at (s .helpands))))) ≡ true
+    past-few = and-right (leb (s .n) maxNodes) _ yes-named
+
+    past-holder : (ltb d (s .n) && (not (eqb count 0) && helpandsBelow (s .n) (at (s .helpands)))) ≡ true
+    past-holder = and-right (ltb k (s .n)) _ past-few
+
+    pub named-holder : k < 64
+    named-holder = omega (arith, few, ltb-true k (s .n) (and-left (ltb k (s .n)) _ past-few))
+
+    below : d < s .n
+    below = ltb-true d (s .n) (and-left (ltb d (s .n)) _ past-holder)
+
+    pub named-subdomain : d < 64
+    named-subdomain = omega (arith, few, below)
+
+    pub changeable : 0 ≡ amounts → Changeable s adds d count
+    changeable e =
+        let inside = and-right (not (eqb count 0)) _ (and-right (ltb d (s .n)) _ past-holder) in
+        let fit = amounts-fit adds has (at (s .totals) d) (s .total) count e in
+        record {
+          few = few;
+          below = below;
+          inside = λ j l. ltb-true (at (s .helpands) j) (s .n) (all-at (s .n) (λ i. ltb (at (s .helpands) i) (s .n)) inside j l);
+          own = fit .1;
+          all = fit .2;
+        }
+
+    pub has-countable : 0 ≡ amounts → Countable adds count has
+    has-countable e = amounts-fit adds has (at (s .totals) d) (s .total) count e .0

@@ -1,0 +1,7 @@
+pub mod Answers
+pub mod Renewing
+pub mod Counting
+pub mod Called
+pub mod Opened
+pub mod Fresh
+pub mod Following

@@ -1,0 +1,63 @@
+-- The ways out of an opening: it is refused, or the sheet and the plan were read. Assumes nothing.
+use mathlib.Core.Path.{_≡_, ap}
+use mathlib.Core.Logic.{_≢_}
+use mathlib.Core.List.{List}
+use Prim.Native.Nat.{ℕ}
+use native.Mathlib.Omega.{arith}
+use borrow.Author.Tests.{ne-eqb}
+use lib.Dec.{leb}
+use Rattle.fold.specs.All.{all}
+use Rattle.arrays.specs.Arrays.{at, padded, tabulate}
+use Rattle.arrays.proofs.Padded.{padded-same}
+use Rattle.sheet.specs.declared.Sheet.{Sheet}
+use Rattle.sheet.specs.Sheet.{accepted}
+use Rattle.sheet.specs.Table.{tableOf}
+use Rattle.sheet.specs.Totals.{totalsOf}
+use Rattle.sheet.proofs.Tables.{table-sum}
+use Rattle.plan.specs.Plan.{helpandsOf}
+use Rattle.tree.specs.Least.{least}
+use Rattle.tree.proofs.Weighing.{holds-tabulated}
+use Rattle.weigh.specs.declared.check.CheckRefusal.{CheckRefusal}
+use Rattle.weigh.specs.Checks.{checkNumber, checked}
+use Rattle.weigh.specs.Weigh.{refused, weighed}
+use Rattle.weigh.specs.Inner.{Weighable}
+use Rattle.weigh.proofs.Answers.{numbered}
+use Rattle.weigh.proofs.Checks.{weighable-checked, facts}
+use Rattle.tally.specs.declared.Summary.{Summary}
+use Rattle.tally.specs.declared.Tallied.{Tallied}
+use Rattle.tally.specs.Tally.{tallyOf, noTally, openAnswer, opened, tallyWith, openResult}
+
+module _ (s p : List ℕ) where
+  -- what is given, and the counts as they are then
+  abbrev Ends : Tallied → List ℕ → Type 0
+  Ends r counts = (r ≡ openResult s p) × (counts ≡ opened s p .counts)
+
+  pub ends-refused : (r : CheckRefusal) → checkNumber r ≡ checked s p
+      → Ends (record { answer = refused (checkNumber r); summary = noTally .summary }) (noTally .counts)
+  unfolding openAnswer opened
+  ends-refused r e =
+      let d : checkNumber r ≢ 0 = λ z. omega (arith, numbered r .0) in
+      (rw (← e, ne-eqb (checkNumber r) 0 d), rw (← e, ne-eqb (checkNumber r) 0 d))
+
+-- the arrays that were read
+module _ {s p : List ℕ} {h : Sheet} (w : Weighable s p h) {table totals helpands leasts : List ℕ} (t : table ≡ tableOf s (h .e))
+    (o : totals ≡ totalsOf (h .n) table) (a : helpands ≡ padded (helpandsOf p (h .n)))
+    (l : leasts ≡ tabulate (h .n) (least (h .n) (at helpands) (at totals) (h .limit))) where
+  answer-is : weighed (all (h .n) (λ k. leb (at leasts k) (h .limit))) ≡ openAnswer s p
+  unfolding openAnswer
+  answer-is =
+      let is = holds-tabulated (h .n) (at (helpandsOf p (h .n))) (at (totalsOf (h .n) (tableOf s (h .e)))) (h .limit) in
+      rw (weighable-checked s p h w, ← w .sheet, l, a, padded-same (helpandsOf p (h .n)), o, t) (ap weighed is)
+
+  -- the summary that is made
+  abbrev summary : Summary
+  summary = record { n = h .n; limit = h .limit; total = h .p; helpands = helpands; totals = totals; leasts = leasts }
+
+  opened-is : tallyWith summary table ≡ opened s p
+  unfolding opened tallyOf
+  opened-is =
+      let sum-is = table-sum s (accepted (h .n) (h .t) (h .e) (h .p) (h .limit)) (facts s p h w) in
+      rw (weighable-checked s p h w, ← w .sheet, l, a, o, t, ← sum-is)
+
+  pub ends-opened : Ends s p (record { answer = weighed (all (h .n) (λ k. leb (at leasts k) (h .limit))); summary = summary }) table
+  ends-opened = (rw (answer-is, ← opened-is), rw (← opened-is))

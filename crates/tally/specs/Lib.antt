@@ -1,0 +1,5 @@
+pub mod Call
+pub mod Renew
+pub mod Tally
+pub mod Calls
+pub mod Inner
