@@ -7,7 +7,8 @@
  * length; with length 0 a pointer may be NULL. A buffer to write to lies apart from the records to read and from other buffers.
  * What is written stands at the front of the buffer; the bytes behind it stay as they were.
  *
- * An answer carries 0 or a refusal number, and the values named. In a refusal these are all 0, and buffers are untouched. */
+ * An answer carries 0 or a refusal number, and the values named. In a refusal these are all 0, and buffers are untouched; only a tally that
+ * cannot be opened is written, with zeros. */
 #ifndef FIRROZKA_H
 #define FIRROZKA_H
 
@@ -18,9 +19,9 @@
 extern "C" {
 #endif
 
-/* The version, 100 × major + minor: 1.7 is 107. CHANGELOG.md says what each brought. firrozka_version() is the library's own: where the
+/* The version, 100 × major + minor: 1.8 is 108. CHANGELOG.md says what each brought. firrozka_version() is the library's own: where the
  * two differ, a program was compiled with the header of another version. */
-#define FIRROZKA_VERSION 107
+#define FIRROZKA_VERSION 108
 uint32_t firrozka_version(void);
 
 /* Buffers of so many bytes are long enough for every call. FIRROZKA_ARCHIVE_BYTES is the length of every archive. */
@@ -74,7 +75,7 @@ enum firrozka_refusal {
     FIRROZKA_PLAN_SHAPE = 17,   /* the wrong shape: kind 0 has only roots; kinds 1 and 2 have one root, which every chain of helpands
                                    reaches */
     FIRROZKA_PLAN_SHARE = 18,   /* a share is above the limit, or not 0 at a root */
-    /* weigh, plan a step */
+    /* weigh, plan a step; 21 and 24 also open tally */
     FIRROZKA_PLAN_NODES_DIFFER = 21, /* the N of sheet and plan differ */
     FIRROZKA_PLAN_BUFFER = 22,       /* the plan's buffer is too short */
     FIRROZKA_MOVES_BUFFER = 23,      /* the moves' buffer is too short */
@@ -102,7 +103,11 @@ enum firrozka_refusal {
     /* write archive, read archive */
     FIRROZKA_ARCHIVE_BUFFER = 56, /* the buffer is too short */
     /* groups */
-    FIRROZKA_GROUPS_BUFFER = 57 /* the buffer is under 4 × (1 + 2N) bytes */
+    FIRROZKA_GROUPS_BUFFER = 57, /* the buffer is under 4 × (1 + 2N) bytes */
+    /* tally add, tally remove */
+    FIRROZKA_TALLY_CELL = 58,    /* a node is not below N, or the count is 0 */
+    FIRROZKA_TALLY_REMOVES = 59, /* the cell has fewer than are removed */
+    FIRROZKA_TALLY_TOTAL = 60    /* the total would be above 1,000,000,000 */
 };
 
 /* Read sheet: N, the tolerance t in tenths of a percent, the number of cells E, the total P and the limit L. Refused: 1 to 7. */
@@ -177,6 +182,35 @@ struct firrozka_written firrozka_read_archive(const uint8_t *archive, size_t arc
  * share an entry other than this in a colour exactly when they belong to one family of that colour. A plan of kind 0 has no group.
  * Refused: the plan's; 57. */
 struct firrozka_written firrozka_groups(const uint8_t *plan, size_t plan_len, uint8_t *groups, size_t groups_len);
+
+/* A tally: the counts of a sheet with the tree of a plan, kept up to date between two steps, in 17,164 bytes. It is the caller's, who makes
+ * room for it and lends it to each call; the library keeps no pointer to it. A program reads it as it likes and leaves the writing to the
+ * three functions below. Whatever else was written there, a call returns, stays within the tally and is refused or answers as
+ * docs/FORMATS.md says. */
+struct firrozka_tally {
+    uint32_t n, limit, total; /* N; the limit of the opening sheet, which no call changes; the particles of all cells */
+    uint32_t helpands[64];    /* of the plan */
+    uint32_t totals[64];      /* the particles of subdomain k, whoever holds them */
+    uint32_t leasts[64];      /* the least of node k, as weigh has it, for the present counts and that limit */
+    uint32_t counts[4096];    /* at holder × 64 + subdomain; in all four arrays what lies at nodes not below N is 0 */
+};
+
+/* What a tally's functions answer: whether the tree holds, 1 or 0. In a refusal it is 0, too. */
+struct firrozka_tallied {
+    uint32_t refusal, holds;
+};
+
+/* Open tally: writes the tally of a sheet and a plan of kind 1 or 2, also where the tree does not hold. Every byte of it is written, so it
+ * may hold anything before. Refused: the sheet's; the plan's; 21, 24. The tally is then all zeros, and with N 0 every call on it is refused
+ * with 58. */
+struct firrozka_tallied firrozka_open_tally(const uint8_t *sheet, size_t sheet_len, const uint8_t *plan, size_t plan_len,
+                                            struct firrozka_tally *tally);
+
+/* Tally add: adds count particles of a subdomain at a holder. Refused: 58, 60; not a byte of the tally changes then. */
+struct firrozka_tallied firrozka_tally_add(struct firrozka_tally *tally, uint32_t holder, uint32_t subdomain, uint32_t count);
+
+/* Tally remove: removes so many. Refused: 58, 59; not a byte of the tally changes then. */
+struct firrozka_tallied firrozka_tally_remove(struct firrozka_tally *tally, uint32_t holder, uint32_t subdomain, uint32_t count);
 
 /* Tree in force: the helpands that hold after a step, as a stretch of one of the two plans: which plan, and where in it, in bytes. It is
  * of the old plan if the new kind is 1, else of the new. A new plan of kind 0 gives its roots. Nothing is copied, nothing is refused.

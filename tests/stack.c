@@ -15,6 +15,8 @@ enum { NODES = 64, STACK = 1 << 20, PAINT = 0xa5 };
 static uint8_t sheet[FIRROZKA_SHEET_BYTES], next[FIRROZKA_SHEET_BYTES], old[FIRROZKA_PLAN_BYTES], plan[FIRROZKA_PLAN_BYTES];
 static uint8_t moves[FIRROZKA_MOVES_BYTES], least[FIRROZKA_LEAST_BYTES], page[FIRROZKA_PAGE_BYTES];
 static uint8_t archive[FIRROZKA_ARCHIVE_BYTES], groups[FIRROZKA_GROUPS_BYTES];
+static struct firrozka_tally tally;
+static struct firrozka_tallied tallied;
 static size_t moves_len;
 static uint32_t kind;
 static uint8_t *stack, *frame;
@@ -61,6 +63,9 @@ static void traffic_page(void) { firrozka_traffic_page(sheet, sizeof sheet, move
 static void write_archive(void) { firrozka_write_archive(sheet, sizeof sheet, archive, sizeof archive); }
 static void read_archive(void) { firrozka_read_archive(archive, sizeof archive, next, sizeof next); }
 static void groups_of_chain(void) { firrozka_groups(old, sizeof old, groups, sizeof groups); }
+static void open_tally(void) { tallied = firrozka_open_tally(sheet, sizeof sheet, old, sizeof old, &tally); }
+static void tally_add(void) { tallied = firrozka_tally_add(&tally, NODES - 1, NODES - 1, 1); }
+static void tally_remove(void) { tallied = firrozka_tally_remove(&tally, NODES - 1, NODES - 1, 1); }
 static void tree_in_force(void) { firrozka_tree_in_force(old, sizeof old, plan, sizeof plan); }
 
 static void plan_with(size_t old_len)
@@ -101,6 +106,29 @@ static void expect(uint32_t expected)
     }
 }
 
+/* The root's least is this one. */
+static void expect_least(uint32_t expected)
+{
+    if (tallied.refusal || tally.leasts[0] != expected) {
+        fprintf(stderr, "refusal %u, least %u, expected %u\n", tallied.refusal, tally.leasts[0], expected);
+        exit(1);
+    }
+}
+
+/* On a sheet with 6,400 particles of each subdomain and a tolerance of 0.1 percent, so that the limit is 6,406, each node of the chain has
+ * a least that is 6 below that of its helper: 6,400 at the last and 6,022 at the root. A particle more at the last is felt by all. */
+static void measure_tally(void)
+{
+    make_sheet(0, 100);
+    put(sheet, 1, 1);
+    measure("open tally", open_tally);
+    expect_least(6022);
+    measure("tally add", tally_add);
+    expect_least(6023);
+    measure("tally remove", tally_remove);
+    expect_least(6022);
+}
+
 int main(void)
 {
     stack = aligned_alloc(4096, STACK);
@@ -129,5 +157,6 @@ int main(void)
     make_sheet(0, 100);
     measure("plan a step, primary", plan_step);
     expect(FIRROZKA_PRIMARY);
+    measure_tally();
     return 0;
 }

@@ -4,7 +4,7 @@
 #include <string.h>
 #include "firrozka.h"
 
-#if FIRROZKA_VERSION < 107
+#if FIRROZKA_VERSION < 108
 #error "the preprocessor can test the version"
 #endif
 
@@ -50,11 +50,25 @@ static const uint8_t families[] = {5, 0, 0, 0, 1, 0, 0, 0, 1, 0, 0, 0, 1, 0, 0, 
 static const uint8_t no_family[] = {3, 0, 0, 0, 64, 0, 0, 0, 64, 0, 0, 0, 64, 0, 0, 0,
                                     64, 0, 0, 0, 64, 0, 0, 0, 64, 0, 0, 0};
 
+/* A plan of one node, which is of kind 0. Two nodes with all the particles that there can be but one, and a plan in which node 1 helps
+ * node 0. */
+static const uint8_t lone[] = {1, 0, 0, 0, 0, 0, 0, 0, 36, 0, 0, 0, 0, 0, 0, 0, 0, 0, 0, 0};
+static const uint8_t full[] = {2, 0, 0, 0, 100, 0, 0, 0, 1, 0, 0, 0, 0, 0, 0, 0, 0xff, 0xc9, 0x9a, 0x3b};
+static const uint8_t pair[] = {2, 0, 0, 0, 2, 0, 0, 0, 0, 0, 0, 0, 0, 0, 0, 0, 0, 0, 0, 0, 0, 0, 0, 0, 0, 0, 0, 0};
+
 static uint8_t plan[FIRROZKA_PLAN_BYTES], moves[FIRROZKA_MOVES_BYTES], next[FIRROZKA_SHEET_BYTES], least[FIRROZKA_LEAST_BYTES];
 static uint8_t page[FIRROZKA_PAGE_BYTES], groups[FIRROZKA_GROUPS_BYTES];
 
 /* The archive of the busy sheet, and a buffer that is longer by a word. */
 static uint8_t kept[FIRROZKA_ARCHIVE_BYTES], archive[FIRROZKA_ARCHIVE_BYTES + 4];
+
+/* A tally and what it should be, each with a word in front and one behind. */
+struct between {
+    uint32_t front;
+    struct firrozka_tally tally;
+    uint32_t behind;
+};
+static struct between lent, expected;
 
 /* What the bytes of a buffer are before a call. */
 enum { PAINT = 0xa5 };
@@ -239,6 +253,113 @@ static void check_groups(void)
     CHECK(no_groups(FIRROZKA_GROUPS_BUFFER, sizeof tree, sizeof families - 1));
 }
 
+/* Step H with its chain: nodes 0, 1 and 2 hold 28, 72 and 0 particles of their own subdomains. Node 2 can spare 36, so that of node 1's 72
+ * particles 36 stay; node 1 can spare none. */
+static void make_expected(void)
+{
+    memset(&expected, PAINT, sizeof expected);
+    memset(&expected.tally, 0, sizeof expected.tally);
+    expected.tally.n = 3;
+    expected.tally.limit = 36;
+    expected.tally.total = 100;
+    expected.tally.helpands[2] = 1;
+    expected.tally.totals[0] = expected.tally.counts[0] = 28;
+    expected.tally.totals[1] = expected.tally.counts[65] = 72;
+    expected.tally.leasts[0] = 28;
+    expected.tally.leasts[1] = 36;
+}
+
+/* What is expected of a subdomain and its cell at a holder, of the total, and of the leasts of nodes 0, 1 and 2. */
+static void expect(uint32_t holder, uint32_t subdomain, uint32_t count, uint32_t total, const uint32_t leasts[3])
+{
+    expected.tally.total += total - expected.tally.totals[subdomain];
+    expected.tally.totals[subdomain] = total;
+    expected.tally.counts[64 * holder + subdomain] = count;
+    memcpy(expected.tally.leasts, leasts, 3 * sizeof *leasts);
+}
+
+/* Whether a call says so, and left the lent tally and what lies around it as expected. */
+static int tallied(struct firrozka_tallied answer, uint32_t refusal, uint32_t holds)
+{
+    return answer.refusal == refusal && answer.holds == holds && !memcmp(&lent, &expected, sizeof lent);
+}
+
+static struct firrozka_tallied open_h(void)
+{
+    memset(&lent, PAINT, sizeof lent);
+    return firrozka_open_tally(sheet_h, sizeof sheet_h, chain, sizeof chain, &lent.tally);
+}
+
+static void check_tally(void)
+{
+    static const uint32_t opened[] = {28, 36, 0}, broken[] = {28, 37, 1}, spared[] = {18, 26, 0};
+    CHECK(sizeof(struct firrozka_tally) == 17164);
+    make_expected();
+    CHECK(tallied(open_h(), 0, 1));
+    /* A particle of subdomain 2 at node 0: node 2 spares one fewer, and node 1 keeps one more than the limit. */
+    expect(0, 2, 1, 1, broken);
+    CHECK(tallied(firrozka_tally_add(&lent.tally, 0, 2, 1), 0, 0));
+    expect(0, 2, 0, 0, opened);
+    CHECK(tallied(firrozka_tally_remove(&lent.tally, 0, 2, 1), 0, 1));
+    /* With 10 fewer of its own node 1 can spare 10, which node 0 need not keep; that they are held elsewhere plays no part. */
+    expect(1, 1, 62, 62, spared);
+    CHECK(tallied(firrozka_tally_remove(&lent.tally, 1, 1, 10), 0, 1));
+    expect(2, 1, 10, 72, opened);
+    CHECK(tallied(firrozka_tally_add(&lent.tally, 2, 1, 10), 0, 1));
+}
+
+static void check_tally_refused(void)
+{
+    make_expected();
+    open_h();
+    CHECK(tallied(firrozka_tally_add(&lent.tally, 3, 0, 1), FIRROZKA_TALLY_CELL, 0));
+    CHECK(tallied(firrozka_tally_add(&lent.tally, 0, 3, 1), FIRROZKA_TALLY_CELL, 0));
+    CHECK(tallied(firrozka_tally_add(&lent.tally, 0, 0, 0), FIRROZKA_TALLY_CELL, 0));
+    /* 58 comes before 60 and 59. */
+    CHECK(tallied(firrozka_tally_add(&lent.tally, 0xffffffff, 0, 0xffffffff), FIRROZKA_TALLY_CELL, 0));
+    CHECK(tallied(firrozka_tally_remove(&lent.tally, 0, 0xffffffff, 29), FIRROZKA_TALLY_CELL, 0));
+    CHECK(tallied(firrozka_tally_remove(&lent.tally, 0, 0, 0), FIRROZKA_TALLY_CELL, 0));
+    CHECK(tallied(firrozka_tally_remove(&lent.tally, 0, 0, 29), FIRROZKA_TALLY_REMOVES, 0));
+    /* The subdomain has 72, the cell none; and more than there can be is 59 where it is removed. */
+    CHECK(tallied(firrozka_tally_remove(&lent.tally, 0, 1, 1), FIRROZKA_TALLY_REMOVES, 0));
+    CHECK(tallied(firrozka_tally_remove(&lent.tally, 1, 1, 0xffffffff), FIRROZKA_TALLY_REMOVES, 0));
+    /* One too many, and a sum that would be 99 in 32 bits. */
+    CHECK(tallied(firrozka_tally_add(&lent.tally, 0, 0, 1000000000 - 99), FIRROZKA_TALLY_TOTAL, 0));
+    CHECK(tallied(firrozka_tally_add(&lent.tally, 0, 0, 0xffffffff), FIRROZKA_TALLY_TOTAL, 0));
+    /* A tally that nobody opened, with N above 64. */
+    memset(&lent, PAINT, sizeof lent);
+    memset(&expected, PAINT, sizeof expected);
+    CHECK(tallied(firrozka_tally_add(&lent.tally, 0, 0, 1), FIRROZKA_TALLY_CELL, 0));
+    CHECK(tallied(firrozka_tally_remove(&lent.tally, 0, 0, 1), FIRROZKA_TALLY_CELL, 0));
+    /* The last particle that there can be. */
+    CHECK(!firrozka_open_tally(full, sizeof full, pair, sizeof pair, &lent.tally).refusal && lent.tally.total == 999999999);
+    CHECK(firrozka_tally_add(&lent.tally, 1, 1, 2).refusal == FIRROZKA_TALLY_TOTAL);
+    CHECK(!firrozka_tally_add(&lent.tally, 1, 1, 1).refusal && lent.tally.total == 1000000000);
+}
+
+/* Whether so much of step H and this plan is refused so, with zeros in all of the tally, on which then every call is refused with 58. */
+static int not_opened(uint32_t refusal, size_t sheet_len, const uint8_t *tree_plan, size_t plan_len)
+{
+    open_h();
+    memset(&expected.tally, 0, sizeof expected.tally);
+    return tallied(firrozka_open_tally(sheet_h, sheet_len, tree_plan, plan_len, &lent.tally), refusal, 0)
+           && tallied(firrozka_tally_add(&lent.tally, 0, 0, 1), FIRROZKA_TALLY_CELL, 0)
+           && tallied(firrozka_tally_remove(&lent.tally, 0, 0, 1), FIRROZKA_TALLY_CELL, 0);
+}
+
+static void check_not_opened(void)
+{
+    make_expected();
+    CHECK(not_opened(FIRROZKA_SHEET_SHORT, 11, chain, sizeof chain));
+    /* The sheet's come before the plan's, these before 21, and 21 before 24. */
+    CHECK(not_opened(FIRROZKA_SHEET_LENGTH, sizeof sheet_h - 1, NULL, 0));
+    CHECK(not_opened(FIRROZKA_PLAN_SHORT, sizeof sheet_h, NULL, 0));
+    CHECK(not_opened(FIRROZKA_PLAN_LENGTH, sizeof sheet_h, tree, sizeof tree - 1));
+    CHECK(not_opened(FIRROZKA_PLAN_NODES_DIFFER, sizeof sheet_h, tree, sizeof tree));
+    CHECK(not_opened(FIRROZKA_PLAN_NODES_DIFFER, sizeof sheet_h, lone, sizeof lone));
+    CHECK(not_opened(FIRROZKA_PLAN_PRIMARY, sizeof sheet_h, roots, sizeof roots));
+}
+
 /* With length 0 a pointer may be null, a buffer's too. */
 static void check_null(void)
 {
@@ -262,6 +383,8 @@ static void check_null(void)
     CHECK(firrozka_read_archive(kept, sizeof kept, NULL, 0).refusal == FIRROZKA_ARCHIVE_BUFFER);
     CHECK(firrozka_groups(NULL, 0, groups, sizeof groups).refusal == FIRROZKA_PLAN_SHORT);
     CHECK(firrozka_groups(tree, sizeof tree, NULL, 0).refusal == FIRROZKA_GROUPS_BUFFER);
+    CHECK(firrozka_open_tally(NULL, 0, chain, sizeof chain, &lent.tally).refusal == FIRROZKA_SHEET_SHORT);
+    CHECK(firrozka_open_tally(sheet_h, sizeof sheet_h, NULL, 0, &lent.tally).refusal == FIRROZKA_PLAN_SHORT);
     CHECK(firrozka_tree_in_force(NULL, 0, NULL, 0).length == 0);
 }
 
@@ -293,6 +416,9 @@ int main(void)
     check_write_archive();
     check_read_archive();
     check_groups();
+    check_tally();
+    check_tally_refused();
+    check_not_opened();
     check_null();
     check_force();
     return 0;

@@ -1,6 +1,6 @@
 ! Calls each function through the module and stops at the first answer that is not document 01's or 02's.
 program check
-    use, intrinsic :: iso_c_binding, only: c_int8_t, c_int32_t, c_int64_t, c_size_t
+    use, intrinsic :: iso_c_binding, only: c_int8_t, c_int32_t, c_int64_t, c_size_t, c_sizeof
     use firrozka
     implicit none
 
@@ -66,6 +66,9 @@ program check
     call check_write_archive
     call check_read_archive
     call check_groups
+    call check_tally
+    call check_tally_refused
+    call check_not_opened
     call check_words
 
 contains
@@ -244,6 +247,92 @@ contains
         written = firrozka_groups(tree, size(tree, kind=c_size_t), groups, 43_c_size_t)
         call same([written%refusal, written%bytes], [integer :: firrozka_groups_buffer, 0])
         call same([count(groups /= untouched, kind=c_int32_t)], [0])
+    end subroutine
+
+    ! Step H with its chain: nodes 0, 1 and 2 hold 28, 72 and 0 particles of their own subdomains. Node 2 can spare 36, so that of
+    ! node 1's 72 particles 36 stay; node 1 can spare none.
+    subroutine check_tally
+        type(firrozka_running_tally) :: tally
+
+        call same([int(c_sizeof(tally%now), c_int32_t)], [17164])
+        tally%now%counts = untouched
+        call check_tallied(tally%open(h, chain), firrozka_accepted, .true.)
+        call same([tally%now%n, tally%now%limit, tally%now%helpands(:3)], [3, 36, 0, 0, 1, 0])
+        call check_now(tally%now, [28, 72, 0], [28, 36, 0])
+        call same([tally%now%counts(0), tally%now%counts(65), sum(tally%now%counts)], [28, 72, 100])
+        ! A particle of subdomain 2 at node 0: node 2 spares one fewer, and node 1 keeps one more than the limit.
+        call check_tallied(tally%add(0, 2, 1), firrozka_accepted, .false.)
+        call check_now(tally%now, [28, 72, 1], [28, 37, 1])
+        call check_tallied(tally%remove(0, 2, 1), firrozka_accepted, .true.)
+        call check_now(tally%now, [28, 72, 0], [28, 36, 0])
+        ! With 10 fewer of its own node 1 can spare 10, which node 0 need not keep; that they are held elsewhere plays no part.
+        call check_tallied(firrozka_tally_remove(tally%now, 1_c_int32_t, 1_c_int32_t, 10_c_int32_t), firrozka_accepted, .true.)
+        call check_now(tally%now, [28, 62, 0], [18, 26, 0])
+        call check_tallied(firrozka_tally_add(tally%now, 2_c_int32_t, 1_c_int32_t, 10_c_int32_t), firrozka_accepted, .true.)
+        call check_now(tally%now, [28, 72, 0], [28, 36, 0])
+        call same([tally%now%counts(65), tally%now%counts(129)], [62, 10])
+    end subroutine
+
+    ! long has 8 bytes, of which the lowest 4 are those of 1.
+    subroutine check_tally_refused
+        integer(c_int64_t), parameter :: zero = 0, one = 1, long = 4294967297_c_int64_t
+        type(firrozka_running_tally) :: tally
+
+        call check_tallied(tally%open(h, chain), firrozka_accepted, .true.)
+        ! 58 comes before 60 and 59.
+        call check_tallied(tally%add(3, 0, 2000000000), firrozka_tally_cell, .false.)
+        call check_tallied(tally%add(0, 0, 0), firrozka_tally_cell, .false.)
+        call check_tallied(tally%remove(0, -1, 29), firrozka_tally_cell, .false.)
+        call check_tallied(tally%remove(0, 0, 29), firrozka_tally_removes, .false.)
+        call check_tallied(tally%add(0, 0, 999999901), firrozka_tally_total, .false.)
+        call check_tallied(tally%add(zero, long, one), firrozka_tally_cell, .false.)
+        call check_tallied(tally%add(zero, zero, long), firrozka_tally_total, .false.)
+        call check_tallied(tally%remove(zero, zero, long), firrozka_tally_removes, .false.)
+        call check_now(tally%now, [28, 72, 0], [28, 36, 0])
+        call same([tally%now%counts(0), tally%now%counts(65), sum(tally%now%counts)], [28, 72, 100])
+        call check_tallied(tally%remove(zero, zero, one), firrozka_accepted, .true.)
+        call check_now(tally%now, [27, 72, 0], [27, 36, 0])
+    end subroutine
+
+    ! Nobody opened this tally. Nor can one be opened from too few bytes, from two nodes beside three, and from a plan of kind 0.
+    subroutine check_not_opened
+        type(firrozka_running_tally) :: tally
+
+        call check_tallied(tally%add(0, 0, 1), firrozka_tally_cell, .false.)
+        call check_zeros(firrozka_sheet_length, h(:27), none)
+        call check_zeros(firrozka_plan_short, h, none)
+        call check_zeros(firrozka_plan_nodes_differ, h, words_to_bytes([2, 2, 36, 0, 0, 0, 0]))
+        call check_zeros(firrozka_plan_primary, h, roots)
+    end subroutine
+
+    ! Of this sheet and this plan no tally is opened. What was one has zeros everywhere, and refuses every call.
+    subroutine check_zeros(refusal, sheet, plan)
+        integer(c_int32_t), intent(in) :: refusal
+        integer(c_int8_t), intent(in) :: sheet(:), plan(:)
+        type(firrozka_running_tally) :: tally
+
+        call check_tallied(tally%open(h, chain), firrozka_accepted, .true.)
+        call check_tallied(tally%open(sheet, plan), refusal, .false.)
+        call same([transfer(tally%now, [integer(c_int32_t) ::])], spread(0, 1, 4291))
+        call check_tallied(tally%add(0, 0, 1), firrozka_tally_cell, .false.)
+        call check_tallied(tally%remove(0, 0, 1), firrozka_tally_cell, .false.)
+    end subroutine
+
+    subroutine check_tallied(answer, refusal, holds)
+        type(firrozka_tallied), intent(in) :: answer
+        integer(c_int32_t), intent(in) :: refusal
+        logical, intent(in) :: holds
+
+        call same([answer%refusal, answer%holds], [integer :: refusal, merge(1, 0, holds)])
+    end subroutine
+
+    ! The totals and the leasts of three nodes.
+    subroutine check_now(now, totals, leasts)
+        type(firrozka_tally), intent(in) :: now
+        integer, intent(in) :: totals(3), leasts(3)
+
+        call same([now%total, now%totals(:3)], [sum(totals), totals, 0])
+        call same([now%leasts(:3)], [leasts, 0])
     end subroutine
 
     ! Words of all four bytes, both ways, from integers of either size.

@@ -4,7 +4,7 @@
 ! A record is an array of bytes, integer(c_int8_t), and its length in bytes. Its words are low byte first; words_to_bytes and
 ! word_at go both ways on any machine. Fortran has no unsigned integers: in an accepted record every word is below 2**31, so none
 ! is negative. The traffic page is text: its buffer is a character variable, and its length that of the variable. Buffers and
-! records do not overlap.
+! records do not overlap. A tally is a variable of type firrozka_running_tally, whose calls are its methods.
 module firrozka
     use, intrinsic :: iso_c_binding, only: c_char, c_int8_t, c_int32_t, c_int64_t, c_size_t
     implicit none
@@ -14,10 +14,11 @@ module firrozka
     public :: firrozka_read_sheet, firrozka_read_plan, firrozka_read_moves
     public :: firrozka_weigh, firrozka_plan_step, firrozka_carry_out, firrozka_join_sheets
     public :: firrozka_traffic_page, firrozka_write_archive, firrozka_read_archive, firrozka_groups, firrozka_tree_in_force
+    public :: firrozka_open_tally, firrozka_tally_add, firrozka_tally_remove
     public :: words_to_bytes, word_at
 
-    ! The version that this module was written for, 100 × major + minor: 1.7 is 107. firrozka_version() is the library's own.
-    integer(c_int32_t), parameter, public :: firrozka_module_version = 107
+    ! The version that this module was written for, 100 × major + minor: 1.8 is 108. firrozka_version() is the library's own.
+    integer(c_int32_t), parameter, public :: firrozka_module_version = 108
 
     ! Buffers of so many bytes are long enough for every call. firrozka_archive_bytes is the length of every archive.
     integer(c_size_t), parameter, public :: &
@@ -55,7 +56,7 @@ module firrozka
         firrozka_plan_shape = 17, &   ! the wrong shape: kind 0 has only roots; kinds 1 and 2 have one root,
                                       ! which every chain of helpands reaches
         firrozka_plan_share = 18, &   ! a share is above the limit, or not 0 at a root
-        ! weigh, plan a step
+        ! weigh, plan a step; 21 and 24 also open tally
         firrozka_plan_nodes_differ = 21, & ! the N of sheet and plan differ
         firrozka_plan_buffer = 22, &       ! the plan's buffer is too short
         firrozka_moves_buffer = 23, &      ! the moves' buffer is too short
@@ -83,7 +84,11 @@ module firrozka
         ! write archive, read archive
         firrozka_archive_buffer = 56, & ! the buffer is too short
         ! groups
-        firrozka_groups_buffer = 57 ! the buffer is under 4 × (1 + 2N) bytes
+        firrozka_groups_buffer = 57, & ! the buffer is under 4 × (1 + 2N) bytes
+        ! tally add, tally remove
+        firrozka_tally_cell = 58, &    ! a node is not below N, or the count is 0
+        firrozka_tally_removes = 59, & ! the cell has fewer than are removed
+        firrozka_tally_total = 60      ! the total would be above 1,000,000,000
 
     ! The answers: 0 or a refusal number, and the values named, all 0 in a refusal. The tolerance t is in tenths of a percent.
     type, bind(c), public :: firrozka_sheet
@@ -108,6 +113,29 @@ module firrozka
 
     type, bind(c), public :: firrozka_written
         integer(c_int32_t) :: refusal, bytes
+    end type
+
+    type, bind(c), public :: firrozka_tallied
+        integer(c_int32_t) :: refusal, holds
+    end type
+
+    ! A tally as the library has it. Nodes are counted from 0, and a cell is holder * 64 + subdomain.
+    type, bind(c), public :: firrozka_tally
+        integer(c_int32_t) :: n = 0, limit = 0, total = 0
+        integer(c_int32_t) :: helpands(0:63) = 0, totals(0:63) = 0, leasts(0:63) = 0
+        integer(c_int32_t) :: counts(0:4095) = 0
+    end type
+
+    ! The same with its calls as methods, which a bind(c) type cannot have: answer = tally%open(sheet, plan), and then
+    ! answer = tally%add(holder, subdomain, count). The three numbers are of one kind, of 4 bytes or of 8. What it is now, is read in
+    ! tally%now, and left to the methods to write.
+    type, public :: firrozka_running_tally
+        type(firrozka_tally) :: now
+    contains
+        procedure :: open => open_running
+        generic :: add => add32, add64
+        generic :: remove => remove32, remove64
+        procedure, private :: add32, add64, remove32, remove64
     end type
 
     ! The part begins start bytes behind the first of the plan that source names, so at index start + 1.
@@ -224,6 +252,30 @@ module firrozka
             type(firrozka_written) :: answer
         end function
 
+        ! holds is 1 or 0. A tally that cannot be opened has zeros everywhere.
+        function firrozka_open_tally(sheet, sheet_len, plan, plan_len, tally) bind(c) result(answer)
+            import :: c_int8_t, c_size_t, firrozka_tally, firrozka_tallied
+            integer(c_int8_t), intent(in) :: sheet(*), plan(*)
+            integer(c_size_t), value :: sheet_len, plan_len
+            type(firrozka_tally), intent(inout) :: tally
+            type(firrozka_tallied) :: answer
+        end function
+
+        ! A call that is refused leaves the tally as it was.
+        function firrozka_tally_add(tally, holder, subdomain, count) bind(c) result(answer)
+            import :: c_int32_t, firrozka_tally, firrozka_tallied
+            type(firrozka_tally), intent(inout) :: tally
+            integer(c_int32_t), value :: holder, subdomain, count
+            type(firrozka_tallied) :: answer
+        end function
+
+        function firrozka_tally_remove(tally, holder, subdomain, count) bind(c) result(answer)
+            import :: c_int32_t, firrozka_tally, firrozka_tallied
+            type(firrozka_tally), intent(inout) :: tally
+            integer(c_int32_t), value :: holder, subdomain, count
+            type(firrozka_tallied) :: answer
+        end function
+
         ! A new plan of kind 0 gives its roots. old_len = 0 gives length 0; only plan a step takes it as no plan.
         function firrozka_tree_in_force(old_plan, old_len, new_plan, new_len) bind(c) result(answer)
             import :: c_int8_t, c_size_t, firrozka_part
@@ -282,5 +334,55 @@ contains
         do k = 3, 0, -1
             word = ior(ishft(word, 8), iand(int(bytes(4 * place + k + 1), c_int32_t), 255_c_int32_t))
         end do
+    end function
+
+    function open_running(self, sheet, plan) result(answer)
+        class(firrozka_running_tally), intent(inout) :: self
+        integer(c_int8_t), intent(in) :: sheet(:), plan(:)
+        type(firrozka_tallied) :: answer
+
+        answer = firrozka_open_tally(sheet, size(sheet, kind=c_size_t), plan, size(plan, kind=c_size_t), self%now)
+    end function
+
+    function add32(self, holder, subdomain, count) result(answer)
+        class(firrozka_running_tally), intent(inout) :: self
+        integer(c_int32_t), intent(in) :: holder, subdomain, count
+        type(firrozka_tallied) :: answer
+
+        answer = firrozka_tally_add(self%now, holder, subdomain, count)
+    end function
+
+    function add64(self, holder, subdomain, count) result(answer)
+        class(firrozka_running_tally), intent(inout) :: self
+        integer(c_int64_t), intent(in) :: holder, subdomain, count
+        type(firrozka_tallied) :: answer
+
+        answer = self%add32(argument(holder), argument(subdomain), argument(count))
+    end function
+
+    function remove32(self, holder, subdomain, count) result(answer)
+        class(firrozka_running_tally), intent(inout) :: self
+        integer(c_int32_t), intent(in) :: holder, subdomain, count
+        type(firrozka_tallied) :: answer
+
+        answer = firrozka_tally_remove(self%now, holder, subdomain, count)
+    end function
+
+    function remove64(self, holder, subdomain, count) result(answer)
+        class(firrozka_running_tally), intent(inout) :: self
+        integer(c_int64_t), intent(in) :: holder, subdomain, count
+        type(firrozka_tallied) :: answer
+
+        answer = self%remove32(argument(holder), argument(subdomain), argument(count))
+    end function
+
+    ! A number for a call. One that 31 bits do not hold becomes -1, which the library takes for 4,294,967,295 and refuses as it would
+    ! refuse the number: its lowest 32 bits could be a small one.
+    pure function argument(number) result(word)
+        integer(c_int64_t), intent(in) :: number
+        integer(c_int32_t) :: word
+
+        word = -1
+        if (number >= 0 .and. number <= huge(word)) word = int(number, c_int32_t)
     end function
 end module
