@@ -65,6 +65,42 @@ pub struct WrittenAnswer {
     pub bytes: u32,
 }
 
+/// *Open tally*, *tally add* and *tally remove* say whether the tree holds: 1 or 0.
+#[repr(C)]
+#[derive(Clone, Copy, Debug, Default, PartialEq, Eq)]
+pub struct TalliedAnswer {
+    pub refusal: u32,
+    pub holds: u32,
+}
+
+/// A tally, 17,164 bytes, for the library to write. It may hold anything: what a call
+/// answers on one that no opening gave, docs/FORMATS.md says.
+#[repr(C)]
+#[derive(Clone, Debug, PartialEq, Eq)]
+pub struct Tally {
+    pub n: u32,
+    pub limit: u32,
+    pub total: u32,
+    pub helpands: [u32; 64],
+    pub totals: [u32; 64],
+    pub leasts: [u32; 64],
+    /// At holder × 64 + subdomain.
+    pub counts: [u32; 4096],
+}
+
+impl Tally {
+    /// That of no nodes, as a refused opening leaves it.
+    pub const NONE: Tally = Tally {
+        n: 0,
+        limit: 0,
+        total: 0,
+        helpands: [0; 64],
+        totals: [0; 64],
+        leasts: [0; 64],
+        counts: [0; 4096],
+    };
+}
+
 /// *Tree in force* hands back a stretch of one of two plans: which one, and
 /// where it begins and how long it is, in bytes.
 #[repr(C)]
@@ -148,6 +184,25 @@ extern "C" {
         groups: *mut u8,
         groups_len: usize,
     ) -> WrittenAnswer;
+    fn firrozka_open_tally(
+        sheet: *const u8,
+        sheet_len: usize,
+        plan: *const u8,
+        plan_len: usize,
+        tally: *mut Tally,
+    ) -> TalliedAnswer;
+    fn firrozka_tally_add(
+        tally: *mut Tally,
+        holder: u32,
+        subdomain: u32,
+        count: u32,
+    ) -> TalliedAnswer;
+    fn firrozka_tally_remove(
+        tally: *mut Tally,
+        holder: u32,
+        subdomain: u32,
+        count: u32,
+    ) -> TalliedAnswer;
     fn firrozka_tree_in_force(
         old: *const u8,
         old_len: usize,
@@ -258,6 +313,33 @@ pub fn read_archive(archive: &[u8], sheet: &mut [u8]) -> WrittenAnswer {
 /// *Groups*, as the library does it.
 pub fn groups(plan: &[u8], groups: &mut [u8]) -> WrittenAnswer {
     convert(firrozka_groups, plan, groups)
+}
+
+/// *Open tally*, as the library does it.
+pub fn open_tally(sheet: &[u8], plan: &[u8], tally: &mut Tally) -> TalliedAnswer {
+    // SAFETY: pointers and lengths are those of slices that outlive the call, and
+    // nobody else has the tally.
+    unsafe {
+        firrozka_open_tally(
+            sheet.as_ptr(),
+            sheet.len(),
+            plan.as_ptr(),
+            plan.len(),
+            tally,
+        )
+    }
+}
+
+/// *Tally add*, as the library does it.
+pub fn tally_add(tally: &mut Tally, holder: u32, subdomain: u32, count: u32) -> TalliedAnswer {
+    // SAFETY: nobody else has the tally, which may hold anything.
+    unsafe { firrozka_tally_add(tally, holder, subdomain, count) }
+}
+
+/// *Tally remove*, as the library does it.
+pub fn tally_remove(tally: &mut Tally, holder: u32, subdomain: u32, count: u32) -> TalliedAnswer {
+    // SAFETY: nobody else has the tally, which may hold anything.
+    unsafe { firrozka_tally_remove(tally, holder, subdomain, count) }
 }
 
 /// *Tree in force*, as the library does it.

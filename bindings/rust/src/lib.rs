@@ -25,6 +25,7 @@ pub mod ffi;
 mod operations;
 mod records;
 mod refusal;
+mod tally;
 mod words;
 
 pub use ffi::version;
@@ -36,4 +37,5 @@ pub use operations::{
 };
 pub use records::{Cell, Kind, Move, Moves, NoKind, Node, Plan, Sheet};
 pub use refusal::Refusal;
+pub use tally::Tally;
 pub use words::{to_bytes, Words, WordsIter};

@@ -8,7 +8,7 @@ use crate::words::Words;
 use std::str;
 
 /// The version that this crate was written for: 100 × major + minor.
-pub const VERSION: u32 = 107;
+pub const VERSION: u32 = 108;
 
 /// Enough for every sheet.
 pub const SHEET_BYTES: usize = 4 * (3 + 2 * 64 * 64);
@@ -222,7 +222,8 @@ pub fn tree_in_force<'a>(old: &'a [u8], new: &'a [u8]) -> &'a [u8] {
     &source[part.start as usize..][..part.length as usize]
 }
 
-fn accepted(refusal: u32) -> Result<(), Refusal> {
+/// Nothing, or the refusal with this number.
+pub(crate) fn accepted(refusal: u32) -> Result<(), Refusal> {
     match refusal {
         0 => Ok(()),
         number => Err(Refusal::from_number(number).expect("a number of document 01 or 02")),

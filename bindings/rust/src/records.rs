@@ -5,7 +5,7 @@ use std::error::Error;
 use std::fmt;
 
 /// What the words of a cell and a route are made of: node numbers below 64.
-const NODES: u32 = 64;
+pub(crate) const NODES: u32 = 64;
 
 /// A sheet: who holds how many particles of which subdomain.
 #[derive(Clone, Copy, Debug, PartialEq, Eq)]

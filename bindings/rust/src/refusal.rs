@@ -57,10 +57,10 @@ refusals! {
     PlanShape = 17, "plan", "the wrong shape: kind 0 has only roots; \
         kinds 1 and 2 have one root, which every chain of helpands reaches";
     PlanShare = 18, "plan", "a share is above the limit, or not 0 at a root";
-    PlanNodesDiffer = 21, "weigh, plan a step", "the N of sheet and plan differ";
+    PlanNodesDiffer = 21, "weigh, plan a step, open tally", "the N of sheet and plan differ";
     PlanBuffer = 22, "plan a step", "the plan's buffer is too short";
     MovesBuffer = 23, "plan a step", "the moves' buffer is too short";
-    PlanPrimary = 24, "weigh", "the plan is kind 0 and has no tree";
+    PlanPrimary = 24, "weigh, open tally", "the plan is kind 0 and has no tree";
     LeastBuffer = 25, "weigh", "the buffer is under 4N bytes";
     MovesShort = 31, "moves", "under 8 bytes";
     MovesNodes = 32, "moves", "N is not 1 to 64";
@@ -81,6 +81,9 @@ refusals! {
         or the sum is above 1,000,000,000";
     ArchiveBuffer = 56, "write archive, read archive", "the buffer is too short";
     GroupsBuffer = 57, "groups", "the buffer is under 4 × (1 + 2N) bytes";
+    TallyCell = 58, "tally add, tally remove", "a node is not below N, or the count is 0";
+    TallyRemoves = 59, "tally remove", "the cell has fewer than are removed";
+    TallyTotal = 60, "tally add", "the total would be above 1,000,000,000";
     // Numbers 2 and 3 once more.
     ArchiveNodes = 1002, "archive", "N is not 1 to 64";
     ArchiveTolerance = 1003, "archive", "t is not 1 to 999";

@@ -1,13 +1,13 @@
 //! The wrapper over the library: document 01's steps, refusals and parts, and
-//! document 02's joined sheets, traffic pages, archives and groups.
+//! document 02's joined sheets, traffic pages, archives, groups and tallies.
 
 use firrozka::{
-    carry_out, groups, join_sheets, plan_step, read_archive, read_moves, read_plan, read_sheet,
-    to_bytes, traffic_page, traffic_text, tree_in_force, weigh, write_archive, Cell, Kind, Move,
-    Refusal, Step, Words, ARCHIVE_BYTES, GROUPS_BYTES, LEAST_BYTES, MOVES_BYTES, NO_GROUP, NO_PLAN,
-    PAGE_BYTES, PLAN_BYTES, SHEET_BYTES,
+    carry_out, ffi, groups, join_sheets, plan_step, read_archive, read_moves, read_plan,
+    read_sheet, to_bytes, traffic_page, traffic_text, tree_in_force, weigh, write_archive, Cell,
+    Kind, Move, Refusal, Step, Tally, Words, ARCHIVE_BYTES, GROUPS_BYTES, LEAST_BYTES, MOVES_BYTES,
+    NO_GROUP, NO_PLAN, PAGE_BYTES, PLAN_BYTES, SHEET_BYTES,
 };
-use std::thread;
+use std::{mem, thread};
 
 /// Step D: "sheet words", "plan words", "moves words".
 const SHEET: [u32; 9] = [3, 100, 3, 0, 65, 130, 90, 6, 4];
@@ -56,6 +56,15 @@ const TREE: [u32; 13] = [5, 2, 36, 1, 1, 1, 0, 0, 20, 0, 15, 12, 9];
 /// Its groups: in the even colour node 1's family, in the odd that of node 0.
 const GROUPS: [u32; 11] = [5, 1, 1, 1, 64, 64, 0, 64, 64, 0, 0];
 const TREE_GROUPS_BYTES: usize = 44;
+
+/// Step H: nodes 0, 1 and 2 hold 28, 72 and 0 particles of their own subdomains.
+const SHEET_H: [u32; 7] = [3, 100, 2, 0, 65, 28, 72];
+
+/// Its old plan, in which node 1 helps node 0, and node 2 helps node 1.
+const CHAIN: [u32; 9] = [3, 2, 36, 0, 0, 1, 0, 0, 0];
+
+/// A plan of kind 0.
+const ROOTS: [u32; 9] = [3, 0, 36, 0, 1, 2, 0, 0, 0];
 
 struct Buffers {
     plan: [u8; PLAN_BYTES],
@@ -168,9 +177,9 @@ fn kinds_come_from_numbers_and_print_as_words() {
 
 #[test]
 fn the_tree_of_step_h_holds_and_that_of_step_i_does_not() -> Result<(), Refusal> {
-    let old = to_bytes(&[3, 2, 36, 0, 0, 1, 0, 0, 0]);
+    let old = to_bytes(&CHAIN);
     let mut least = [0xa5; LEAST_BYTES];
-    let h = to_bytes(&[3, 100, 2, 0, 65, 28, 72]);
+    let h = to_bytes(&SHEET_H);
     let weighed = weigh(&h, &old, &mut least)?;
     assert!(weighed.holds);
     assert_eq!(numbers(weighed.leasts), [28, 36, 0]);
@@ -184,8 +193,8 @@ fn the_tree_of_step_h_holds_and_that_of_step_i_does_not() -> Result<(), Refusal>
 
 #[test]
 fn the_tree_in_force_is_a_part_of_a_plan() -> Result<(), Refusal> {
-    let old = to_bytes(&[3, 2, 36, 0, 0, 1, 0, 0, 0]);
-    let h = to_bytes(&[3, 100, 2, 0, 65, 28, 72]);
+    let old = to_bytes(&CHAIN);
+    let h = to_bytes(&SHEET_H);
     let mut buffers = Buffers::new();
     let kept = buffers.plan_step(&h, &old)?;
     assert_eq!(kept.kind, Kind::Kept);
@@ -197,7 +206,7 @@ fn the_tree_in_force_is_a_part_of_a_plan() -> Result<(), Refusal> {
     // The old plan has other helpands.
     assert!(tree_in_force(&rebuilt, kept.plan).is_empty());
     // A new plan of kind 0 gives its roots; without an old plan there is nothing.
-    let roots = to_bytes(&[3, 0, 36, 0, 1, 2, 0, 0, 0]);
+    let roots = to_bytes(&ROOTS);
     let helpands = tree_in_force(&old, &roots);
     assert_eq!(helpands.as_ptr_range(), roots[12..24].as_ptr_range());
     for new in [&rebuilt, &roots] {
@@ -229,7 +238,7 @@ fn refusals_leave_the_buffers_untouched() {
     assert_eq!(buffers.plan, [0xa5; PLAN_BYTES]);
     assert_eq!(buffers.moves, [0xa5; MOVES_BYTES]);
     assert_eq!(weigh(&sheet, &old, &mut []), Err(Refusal::LeastBuffer));
-    let roots = to_bytes(&[3, 0, 36, 0, 1, 2, 0, 0, 0]);
+    let roots = to_bytes(&ROOTS);
     assert_eq!(weigh(&sheet, &roots, &mut []), Err(Refusal::PlanPrimary));
     let moves = to_bytes(&MOVES);
     assert_eq!(
@@ -546,6 +555,128 @@ fn where_there_are_no_groups_the_buffer_is_untouched() {
         assert_eq!(groups(&to_bytes(words), &mut buffer), Err(refusal));
         assert_eq!(buffer, [0xa5; TREE_GROUPS_BYTES - 1]);
     }
+}
+
+/// The tally of step H.
+fn tally_h() -> Tally {
+    Tally::open(&to_bytes(&SHEET_H), &to_bytes(&CHAIN)).expect("it is opened")
+}
+
+#[test]
+fn a_tally_is_opened_from_a_sheet_and_a_plan() -> Result<(), Refusal> {
+    assert_eq!(mem::size_of::<ffi::Tally>(), 17_164);
+    let tally = tally_h();
+    assert!(tally.holds());
+    assert_eq!((tally.n(), tally.limit(), tally.total()), (3, 36, 100));
+    assert_eq!(tally.helpands(), [0, 0, 1]);
+    assert_eq!(tally.totals(), [28, 72, 0]);
+    assert_eq!(tally.leasts(), [28, 36, 0]);
+    assert_eq!([tally.count(0, 0), tally.count(1, 1)], [Some(28), Some(72)]);
+    assert_eq!([tally.count(1, 0), tally.count(2, 1)], [Some(0); 2]);
+    assert_eq!([tally.count(3, 0), tally.count(0, 64)], [None; 2]);
+    // Step I, whose tree does not hold, and a kept plan with another limit.
+    let kept = to_bytes(&[&[3, 1, 9], &CHAIN[3..]].concat());
+    let tally = Tally::open(&to_bytes(&[3, 100, 2, 0, 65, 27, 73]), &kept)?;
+    assert!(!tally.holds());
+    assert_eq!((tally.limit(), tally.leasts()), (36, &[27, 37, 0][..]));
+    Ok(())
+}
+
+#[test]
+fn arrivals_are_felt_up_the_tree() -> Result<(), Refusal> {
+    let mut tally = tally_h();
+    // A particle of subdomain 2 at node 0: node 2 spares one fewer, and node 1 keeps
+    // one more than the limit.
+    assert!(!tally.add(0, 2, 1)? && !tally.holds());
+    assert_eq!((tally.limit(), tally.total()), (36, 101));
+    assert_eq!((tally.count(0, 2), tally.totals()[2]), (Some(1), 1));
+    assert_eq!(tally.leasts(), [28, 37, 1]);
+    assert!(tally.remove(0, 2, 1)? && tally.holds());
+    assert_eq!(tally, tally_h());
+    // With 10 fewer of its own node 1 can spare 10, which node 0 need not keep; that
+    // they are held elsewhere plays no part.
+    assert!(tally.remove(1, 1, 10)?);
+    assert_eq!(tally.leasts(), [18, 26, 0]);
+    assert!(tally.add(2, 1, 10)?);
+    assert_eq!(tally.leasts(), [28, 36, 0]);
+    assert_eq!([tally.count(1, 1), tally.count(2, 1)], [Some(62), Some(10)]);
+    Ok(())
+}
+
+#[test]
+fn a_call_that_is_refused_alters_no_tally() {
+    let mut broken = tally_h();
+    broken.add(1, 1, 1).expect("it is added");
+    for opened in [tally_h(), broken] {
+        let mut tally = opened.clone();
+        // 58 comes before 60 and 59.
+        for (holder, subdomain, count) in [(3, 0, u32::MAX), (0, u32::MAX, 1), (0, 0, 0)] {
+            let calls = [
+                tally.add(holder, subdomain, count),
+                tally.remove(holder, subdomain, count),
+            ];
+            assert_eq!(calls, [Err(Refusal::TallyCell); 2]);
+        }
+        // The subdomain has 72 or more, the cell none.
+        for (holder, subdomain, count) in [(0, 0, 29), (0, 1, 1), (0, 0, u32::MAX)] {
+            let call = tally.remove(holder, subdomain, count);
+            assert_eq!(call, Err(Refusal::TallyRemoves));
+        }
+        // A particle too many, and a sum that 32 bits do not hold.
+        for count in [1_000_000_001 - tally.total(), u32::MAX] {
+            assert_eq!(tally.add(2, 2, count), Err(Refusal::TallyTotal));
+        }
+        assert_eq!(tally, opened);
+    }
+}
+
+#[test]
+fn a_tally_counts_up_to_the_largest_total() -> Result<(), Refusal> {
+    // All at node 0, whom node 1 helps: the limit is 550,000,000.
+    let sheet = to_bytes(&[2, 100, 1, 0, 1_000_000_000]);
+    let mut tally = Tally::open(&sheet, &to_bytes(&[2, 2, 0, 0, 0, 0, 0]))?;
+    assert_eq!(tally.leasts(), [450_000_000, 0]);
+    assert_eq!(tally.add(1, 0, 1), Err(Refusal::TallyTotal));
+    assert!(tally.remove(0, 0, 1_000_000_000)?);
+    assert_eq!((tally.total(), tally.leasts()), (0, &[0, 0][..]));
+    assert!(!tally.add(0, 1, 1_000_000_000)?);
+    assert_eq!(tally.leasts(), [0, 1_000_000_000]);
+    Ok(())
+}
+
+#[test]
+fn where_there_is_no_tree_no_tally_is_opened() {
+    let (sheet, chain) = (to_bytes(&SHEET_H), to_bytes(&CHAIN));
+    for (words, refusal) in REFUSED {
+        assert_eq!(Tally::open(&to_bytes(words), &[]), Err(refusal));
+    }
+    // In the order of the checks; that of one node is of kind 0, too.
+    let plans: [(&[u32], Refusal); 5] = [
+        (&[3, 2], Refusal::PlanShort),
+        (&CHAIN[..8], Refusal::PlanLength),
+        (&TREE, Refusal::PlanNodesDiffer),
+        (&[1, 0, 36, 0, 0], Refusal::PlanNodesDiffer),
+        (&ROOTS, Refusal::PlanPrimary),
+    ];
+    for (words, refusal) in plans {
+        assert_eq!(Tally::open(&sheet, &to_bytes(words)), Err(refusal));
+    }
+    // What the library leaves of a tally that was open.
+    let mut tally = ffi::Tally::NONE;
+    let opened = ffi::open_tally(&sheet, &chain, &mut tally);
+    assert_eq!((opened.refusal, tally.n), (0, 3));
+    let refused = ffi::open_tally(&sheet, &[], &mut tally);
+    assert_eq!((refused.refusal, refused.holds), (11, 0));
+    assert_eq!(tally, ffi::Tally::NONE);
+    let call = ffi::tally_add(&mut tally, 0, 0, 1);
+    assert_eq!((call.refusal, call.holds), (58, 0));
+}
+
+#[test]
+fn a_tally_is_shown_without_its_counts() {
+    let shown = "Tally { n: 3, limit: 36, total: 100, helpands: [0, 0, 1], totals: [28, 72, 0], \
+        leasts: [28, 36, 0], holds: true, .. }";
+    assert_eq!(format!("{:?}", tally_h()), shown);
 }
 
 /// The stack that docs/USING.md asks for.

@@ -1,6 +1,6 @@
 //! Numbers and words that several files have: all say the same.
 
-use firrozka::ffi::PartAnswer;
+use firrozka::ffi::{PartAnswer, Tally};
 use firrozka::{
     groups, to_bytes, version, write_archive, Refusal, Words, ARCHIVE_BYTES, GROUPS_BYTES,
     LEAST_BYTES, MOVES_BYTES, NO_GROUP, PAGE_BYTES, PLAN_BYTES, SHEET_BYTES, VERSION,
@@ -85,6 +85,31 @@ fn the_formats_page_has_the_groups_of_a_plan() {
     let of_plan = groups(&to_bytes(&numbers(plan)), &mut buffer);
     let of_plan = of_plan.expect("the plan is accepted");
     assert_eq!(of_plan.record, to_bytes(&numbers(expected)));
+}
+
+/// Its table has the words of each field.
+#[test]
+fn the_formats_page_has_the_words_of_a_tally() {
+    let tally = Tally::NONE;
+    let words = |field: &[u32]| {
+        let first = (field.as_ptr() as usize - &tally as *const Tally as usize) / 4;
+        format!("{first} .. {}", first + field.len() - 1)
+    };
+    let rows = [
+        (String::from("0"), "n"),
+        (String::from("1"), "limit"),
+        (String::from("2"), "total"),
+        (words(&tally.helpands), "helpands"),
+        (words(&tally.totals), "totals"),
+        (words(&tally.leasts), "leasts"),
+        (words(&tally.counts), "counts"),
+    ];
+    let text = part("docs/FORMATS.md", "| words | field | what |", "\n\n");
+    for (words, field) in &rows {
+        let row = format!("| {words} | `{field}` |");
+        assert!(text.contains(&row), "missing: {row}");
+    }
+    assert_eq!(text.matches("| |").count(), rows.len());
 }
 
 /// `SheetShort` as C writes it: `SHEET_SHORT`.
@@ -254,7 +279,7 @@ fn numbers_lead_to_refusals_and_back() {
     assert_eq!(named().len() + shared.len(), Refusal::ALL.len());
     let numbers: Vec<u32> = named().into_iter().map(Refusal::number).collect();
     assert!(numbers.windows(2).all(|pair| pair[0] < pair[1]));
-    assert_eq!(numbers.last(), Some(&57));
+    assert_eq!(numbers.last(), Some(&60));
     assert_eq!(Refusal::from_number(0), None);
     assert_eq!(Refusal::from_number(8), None);
     let text = Refusal::SheetLength.to_string();
