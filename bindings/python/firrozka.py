@@ -1,20 +1,22 @@
 """Firrozka for Python: the operations, and records taken apart for looking at.
 
 A record is any bytes-like object: bytes, bytearray, memoryview, array and so on; docs/FORMATS.md describes them. Records that are made
-are bytes, and the traffic page is a str. Names are document 01's and 02's.
+are bytes, the traffic page is a str, and a tally is a Tally. Names are document 01's and 02's.
 
 ctypes needs a shared object: bindings/python/build makes target/libfirrozka.so from the library. It is looked for there, or in the file
 that FIRROZKA_SO names. The proof covers the library, not this module.
 """
 
+import copy
 import ctypes
+import operator
 import os
 import struct
 from pathlib import Path
 from typing import NamedTuple
 
-# The version that this module was written for, 100 × major + minor: 1.7 is 107. version() is the library's own.
-VERSION = 107
+# The version that this module was written for, 100 × major + minor: 1.8 is 108. version() is the library's own.
+VERSION = 108
 
 # Buffers of so many bytes are long enough for every call. ARCHIVE_BYTES is the length of every archive.
 SHEET_BYTES = 32780
@@ -52,10 +54,10 @@ REFUSALS = {
     16: ("plan", "a helpand is not below N"),
     17: ("plan", "the wrong shape: kind 0 has only roots; kinds 1 and 2 have one root, which every chain of helpands reaches"),
     18: ("plan", "a share is above the limit, or not 0 at a root"),
-    21: ("weigh, plan a step", "the N of sheet and plan differ"),
+    21: ("weigh, plan a step, open tally", "the N of sheet and plan differ"),
     22: ("plan a step", "the plan's buffer is too short"),
     23: ("plan a step", "the moves' buffer is too short"),
-    24: ("weigh", "the plan is kind 0 and has no tree"),
+    24: ("weigh, open tally", "the plan is kind 0 and has no tree"),
     25: ("weigh", "the buffer is under 4N bytes"),
     31: ("moves", "under 8 bytes"),
     32: ("moves", "N is not 1 to 64"),
@@ -73,6 +75,9 @@ REFUSALS = {
     55: ("archive", "a count is above 0 at a node not below N, or the sum is above 1,000,000,000"),
     56: ("write archive, read archive", "the buffer is too short"),
     57: ("groups", "the buffer is under 4 × (1 + 2N) bytes"),
+    58: ("tally add, tally remove", "a node is not below N, or the count is 0"),
+    59: ("tally remove", "the cell has fewer than are removed"),
+    60: ("tally add", "the total would be above 1,000,000,000"),
 }
 
 # The numbers of a sheet that read archive has, too.
@@ -184,29 +189,56 @@ def _bytes(name, record):
     return view.tobytes()
 
 
+def _word(name, number):
+    """A whole number that a word holds: ctypes would cut off the rest of a larger one."""
+    number = operator.index(number)
+    if not 0 <= number < 2**32:
+        raise ValueError(f"{name}: {number} is not 0 to 4,294,967,295")
+    return number
+
+
 def _answer(*values):
     """An answer laid out as include/firrozka.h has it."""
     fields = [(value, ctypes.c_uint32) for value in values]
     return type("Answer", (ctypes.Structure,), {"_fields_": fields})
 
 
-_WRITTEN = _answer("refusal", "bytes")
+class _TallyWords(ctypes.Structure):
+    """A tally laid out as include/firrozka.h has it: at holder × 64 + subdomain stands a count."""
 
-# Each function: how many records and buffers it takes, and what it answers.
+    _fields_ = [
+        *[(name, ctypes.c_uint32) for name in ("n", "limit", "total")],
+        *[(name, ctypes.c_uint32 * 64) for name in ("helpands", "totals", "leasts")],
+        ("counts", ctypes.c_uint32 * 4096),
+    ]
+
+
+_WRITTEN = _answer("refusal", "bytes")
+_HOLDS = _answer("refusal", "holds")
+
+# A record or a buffer is handed over by its place and its length, and a tally by its place.
+_SLICE = [ctypes.c_char_p, ctypes.c_size_t]
+_TALLY = [ctypes.POINTER(_TallyWords)]
+_CELL_AND_COUNT = [ctypes.c_uint32] * 3
+
+# Each function: what it takes, and what it answers.
 _FUNCTIONS = {
-    "version": (0, ctypes.c_uint32),
-    "read_sheet": (1, _answer("refusal", "n", "t", "e", "p", "limit")),
-    "read_plan": (1, _answer("refusal", "n", "kind", "limit")),
-    "read_moves": (1, _answer("refusal", "n", "e")),
-    "weigh": (3, _answer("refusal", "holds")),
-    "plan_step": (4, _answer("refusal", "kind", "limit", "plan_bytes", "moves_bytes")),
-    "carry_out": (3, _WRITTEN),
-    "join_sheets": (3, _WRITTEN),
-    "traffic_page": (3, _WRITTEN),
-    "write_archive": (2, _WRITTEN),
-    "read_archive": (2, _WRITTEN),
-    "groups": (2, _WRITTEN),
-    "tree_in_force": (2, _answer("source", "start", "length")),
+    "version": ([], ctypes.c_uint32),
+    "read_sheet": (_SLICE, _answer("refusal", "n", "t", "e", "p", "limit")),
+    "read_plan": (_SLICE, _answer("refusal", "n", "kind", "limit")),
+    "read_moves": (_SLICE, _answer("refusal", "n", "e")),
+    "weigh": (_SLICE * 3, _HOLDS),
+    "plan_step": (_SLICE * 4, _answer("refusal", "kind", "limit", "plan_bytes", "moves_bytes")),
+    "carry_out": (_SLICE * 3, _WRITTEN),
+    "join_sheets": (_SLICE * 3, _WRITTEN),
+    "traffic_page": (_SLICE * 3, _WRITTEN),
+    "write_archive": (_SLICE * 2, _WRITTEN),
+    "read_archive": (_SLICE * 2, _WRITTEN),
+    "groups": (_SLICE * 2, _WRITTEN),
+    "open_tally": (_SLICE * 2 + _TALLY, _HOLDS),
+    "tally_add": (_TALLY + _CELL_AND_COUNT, _HOLDS),
+    "tally_remove": (_TALLY + _CELL_AND_COUNT, _HOLDS),
+    "tree_in_force": (_SLICE * 2, _answer("source", "start", "length")),
 }
 
 
@@ -216,12 +248,12 @@ def _load():
         library = ctypes.CDLL(os.environ.get("FIRROZKA_SO", str(built)))
     except OSError as error:
         raise ImportError(f"{error} (run bindings/python/build, or set FIRROZKA_SO)") from error
-    for name, (slices, answer) in _FUNCTIONS.items():
+    for name, (arguments, answer) in _FUNCTIONS.items():
         try:
             function = getattr(library, "firrozka_" + name)
         except AttributeError as error:
             raise ImportError(f"{error} (another version: run bindings/python/build again)") from error
-        function.argtypes = [ctypes.c_char_p, ctypes.c_size_t] * slices
+        function.argtypes = arguments
         function.restype = answer
     return library
 
@@ -234,9 +266,18 @@ def version():
     return _LIBRARY.firrozka_version()
 
 
+def _slices(*records):
+    """Records (bytes) and buffers as a function takes them."""
+    return [part for record in records for part in (record, len(record))]
+
+
 def _call(name, *slices):
     """The answer for these records (bytes) and buffers; raises Refused."""
-    arguments = [part for record in slices for part in (record, len(record))]
+    return _ask(name, *_slices(*slices))
+
+
+def _ask(name, *arguments):
+    """The answer for these arguments; raises Refused."""
     answer = getattr(_LIBRARY, "firrozka_" + name)(*arguments)
     if getattr(answer, "refusal", 0):
         refused = ArchiveRefused if name == "read_archive" else Refused
@@ -340,6 +381,83 @@ def groups(plan):
     record = _written("groups", GROUPS_BYTES, _bytes("plan", plan))
     n, *entries = to_words(record)
     return Groups(record, entries[:n], entries[n:])
+
+
+class Tally:
+    """A tally: the counts of a sheet with the tree of a plan, kept up to date as particles arrive and leave between two steps.
+
+    Tally(sheet, plan) opens it, also where the tree does not hold; the plan is of kind 1 or 2. The limit stays that of the opening sheet.
+    add and remove say whether the tree holds. A call that is refused raises Refused and alters nothing.
+    """
+
+    def __init__(self, sheet, plan):
+        self._now = _TallyWords()
+        self._ask("open_tally", *_slices(_bytes("sheet", sheet), _bytes("plan", plan)), ctypes.byref(self._now))
+
+    def _ask(self, name, *arguments):
+        self._holds = bool(_ask(name, *arguments).holds)
+        return self._holds
+
+    def _change(self, name, holder, subdomain, count):
+        numbers = _word("holder", holder), _word("subdomain", subdomain), _word("count", count)
+        return self._ask(name, ctypes.byref(self._now), *numbers)
+
+    def add(self, holder, subdomain, count):
+        """Tally add: so many particles more of a subdomain at a holder. Whether the tree holds."""
+        return self._change("tally_add", holder, subdomain, count)
+
+    def remove(self, holder, subdomain, count):
+        """Tally remove: so many fewer. Whether the tree holds."""
+        return self._change("tally_remove", holder, subdomain, count)
+
+    def count(self, holder, subdomain):
+        """How many particles of a subdomain a node holds."""
+        for node in (holder, subdomain):
+            if not 0 <= node < self.n:
+                raise IndexError(f"node {node} is not below N, which is {self.n}")
+        return self._now.counts[64 * holder + subdomain]
+
+    @property
+    def holds(self):
+        """Whether the tree holds the present counts."""
+        return self._holds
+
+    @property
+    def n(self):
+        """The number of nodes."""
+        return self._now.n
+
+    @property
+    def limit(self):
+        """The limit of the opening sheet."""
+        return self._now.limit
+
+    @property
+    def total(self):
+        """How many particles there are in all."""
+        return self._now.total
+
+    @property
+    def helpands(self):
+        """The helpands of the plan."""
+        return self._now.helpands[: self.n]
+
+    @property
+    def totals(self):
+        """How many particles there are of each subdomain."""
+        return self._now.totals[: self.n]
+
+    @property
+    def leasts(self):
+        """The leasts of the nodes, for the present counts and the limit."""
+        return self._now.leasts[: self.n]
+
+    def __copy__(self):
+        # A copy that shared the memory would be the same tally.
+        return copy.deepcopy(self)
+
+    def __repr__(self):
+        return f"<Tally n={self.n} limit={self.limit} total={self.total} holds={self.holds}>"
 
 
 def tree_in_force(old_plan, new_plan):

@@ -1,5 +1,5 @@
-"""The module over the library: document 01's steps, refusals and parts, and document 02's joined sheets, traffic pages, archives and
-groups."""
+"""The module over the library: document 01's steps, refusals and parts, and document 02's joined sheets, traffic pages, archives, groups
+and tallies."""
 
 import array
 import copy
@@ -245,6 +245,107 @@ class Operations(unittest.TestCase):
             self.assert_unwritten(number, "groups", plan, length=len(GROUPS) - 1)
         self.assertEqual(str(firrozka.Refused(57)), "refused 57: groups: the buffer is under 4 × (1 + 2N) bytes")
 
+    def assert_tally(self, tally, *, totals, leasts, holds):
+        self.assertEqual((tally.n, tally.limit, tally.helpands), (3, 36, [0, 0, 1]))
+        self.assertEqual((tally.total, tally.totals), (sum(totals), totals))
+        self.assertEqual((tally.leasts, tally.holds), (leasts, holds))
+        cells = [[tally.count(holder, subdomain) for holder in range(3)] for subdomain in range(3)]
+        self.assertEqual([sum(held) for held in cells], totals)
+
+    def assert_opened(self, tally):
+        self.assert_tally(tally, totals=[28, 72, 0], leasts=[28, 36, 0], holds=True)
+
+    def test_tally(self):
+        self.assertEqual(ctypes.sizeof(firrozka._TallyWords), 17164)
+        tally = firrozka.Tally(SHEET_H, CHAIN)
+        self.assert_opened(tally)
+        self.assertEqual((tally.count(0, 0), tally.count(1, 1), tally.count(0, 1)), (28, 72, 0))
+        # A particle of subdomain 2 at node 0: node 2 spares one fewer, and node 1 keeps one more than the limit.
+        self.assertIs(tally.add(0, 2, 1), False)
+        self.assert_tally(tally, totals=[28, 72, 1], leasts=[28, 37, 1], holds=False)
+        self.assertEqual((tally.count(0, 2), tally.count(2, 0)), (1, 0))
+        self.assertIs(tally.remove(0, 2, 1), True)
+        self.assert_opened(tally)
+        # With 10 fewer of its own node 1 can spare 10, which node 0 need not keep; that they are held elsewhere plays no part.
+        self.assertIs(tally.remove(1, 1, 10), True)
+        self.assert_tally(tally, totals=[28, 62, 0], leasts=[18, 26, 0], holds=True)
+        self.assertIs(tally.add(2, 1, 10), True)
+        self.assert_opened(tally)
+        self.assertEqual((tally.count(1, 1), tally.count(2, 1)), (62, 10))
+
+    def test_a_tally_whose_tree_does_not_hold_is_opened(self):
+        # Step I, with a kept plan whose limit is another.
+        tally = firrozka.Tally(SHEET_I, firrozka.to_bytes([3, 1, 9, 0, 0, 1, 0, 0, 0]))
+        self.assert_tally(tally, totals=[27, 73, 0], leasts=[27, 37, 0], holds=False)
+        self.assertEqual(repr(tally), "<Tally n=3 limit=36 total=100 holds=False>")
+
+    def assert_not_tallied(self, number, call, *arguments):
+        with self.assertRaises(firrozka.Refused) as caught:
+            call(*arguments)
+        self.assertEqual(caught.exception.number, number)
+
+    def test_a_call_that_is_refused_alters_no_tally(self):
+        tally = firrozka.Tally(SHEET_H, CHAIN)
+        most = 2**32 - 1
+        # 58 comes before 60 and 59.
+        for cell in ((3, 0, most), (0, most, 1), (0, 0, 0)):
+            self.assert_not_tallied(58, tally.add, *cell)
+            self.assert_not_tallied(58, tally.remove, *cell)
+        # The subdomain has 72, the cell none.
+        for cell in ((0, 0, 29), (0, 1, 1), (0, 0, most)):
+            self.assert_not_tallied(59, tally.remove, *cell)
+        # A particle too many, and a sum that would be 99 in 32 bits.
+        for count in (999_999_901, most):
+            self.assert_not_tallied(60, tally.add, 2, 2, count)
+        self.assert_opened(tally)
+        self.assertFalse(tally.add(1, 1, 1))
+        self.assert_not_tallied(59, tally.remove, 2, 2, 1)
+        self.assert_tally(tally, totals=[28, 73, 0], leasts=[28, 37, 0], holds=False)
+        said = [str(firrozka.Refused(number)) for number in (58, 59, 60)]
+        self.assertEqual(said[0], "refused 58: tally add, tally remove: a node is not below N, or the count is 0")
+        self.assertEqual(said[1], "refused 59: tally remove: the cell has fewer than are removed")
+        self.assertEqual(said[2], "refused 60: tally add: the total would be above 1,000,000,000")
+
+    def test_no_tally(self):
+        # In the order of the checks; the plan of one node is of kind 0, too.
+        cases = (
+            (5, SHEET_H[:-1], b""),
+            (11, SHEET_H, b""),
+            (15, SHEET_H, TREE[:-1]),
+            (21, SHEET_H, TREE),
+            (21, SHEET_H, firrozka.to_bytes([1, 0, 36, 0, 0])),
+            (24, SHEET_H, firrozka.to_bytes([3, 0, 36, 0, 1, 2, 0, 0, 0])),
+        )
+        for number, sheet, plan in cases:
+            self.assert_not_tallied(number, firrozka.Tally, sheet, plan)
+            # What the library leaves of a tally that was open.
+            tally = firrozka.Tally(SHEET_H, CHAIN)
+            arguments = [*firrozka._slices(sheet, plan), ctypes.byref(tally._now)]
+            self.assert_not_tallied(number, firrozka._ask, "open_tally", *arguments)
+            self.assertEqual(bytes(tally._now), bytes(17164))
+            self.assert_not_tallied(58, tally.add, 0, 0, 1)
+            self.assert_not_tallied(58, tally.remove, 0, 0, 1)
+
+    def test_a_copy_is_another_tally(self):
+        tally = firrozka.Tally(SHEET_H, CHAIN)
+        for other in (copy.copy(tally), copy.deepcopy(tally), pickle.loads(pickle.dumps(tally))):
+            self.assert_opened(other)
+            other.add(1, 1, 1)
+            self.assert_tally(other, totals=[28, 73, 0], leasts=[28, 37, 0], holds=False)
+            self.assert_opened(tally)
+
+    def test_numbers_that_no_cell_has(self):
+        tally = firrozka.Tally(SHEET_H, CHAIN)
+        # The lowest 32 bits of the first are those of 1.
+        for number in (2**32 + 1, -1):
+            with self.assertRaises(ValueError) as caught:
+                tally.add(0, 0, number)
+            self.assertEqual(str(caught.exception), f"count: {number} is not 0 to 4,294,967,295")
+        for holder, subdomain in ((3, 0), (0, 3), (-1, 0)):
+            self.assertRaises(IndexError, tally.count, holder, subdomain)
+        self.assertRaises(TypeError, tally.remove, 0, 0, 1.0)
+        self.assert_opened(tally)
+
     def test_weigh(self):
         self.assertEqual(firrozka.weigh(SHEET_H, CHAIN), (True, [28, 36, 0]))
         self.assertEqual(firrozka.weigh(SHEET_I, CHAIN), (False, [27, 37, 0]))
@@ -328,6 +429,7 @@ class Arguments(unittest.TestCase):
             self.assertEqual(firrozka.write_archive(form(BUSY)), ARCHIVE)
             self.assertEqual(firrozka.read_archive(form(ARCHIVE)), BUSY)
             self.assertEqual(firrozka.groups(form(TREE)).record, GROUPS)
+            self.assertEqual(firrozka.Tally(form(SHEET_H), form(CHAIN)).leasts, [28, 36, 0])
             self.assertEqual(firrozka.tree_in_force(form(CHAIN), form(kept)), [0, 0, 1])
 
     def test_no_old_plan_is_none_or_empty(self):
@@ -355,6 +457,8 @@ class Arguments(unittest.TestCase):
         self.assert_named("sheet", "Sheet", firrozka.write_archive, firrozka.read_sheet(BUSY))
         self.assert_named("archive", "NoneType", firrozka.read_archive, None)
         self.assert_named("plan", "Plan", firrozka.groups, firrozka.read_plan(TREE))
+        self.assert_named("sheet", "Sheet", firrozka.Tally, firrozka.read_sheet(SHEET), PLAN)
+        self.assert_named("plan", "NoneType", firrozka.Tally, SHEET, None)
         self.assert_named("old_plan", "NoneType", firrozka.tree_in_force, None, PLAN)
         self.assert_named("new_plan", "NoneType", firrozka.tree_in_force, PLAN, None)
 
