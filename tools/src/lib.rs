@@ -1,7 +1,7 @@
 //! The tool `firrozka`: steps planned, weighed and carried out from files, sheets
-//! joined and archived, traffic pages and groups printed, and text to records and
-//! back. It is tested, not proved; what is decided, and what a record may be, is
-//! asked of the proved library.
+//! joined and archived, traffic pages and groups printed, arrivals tallied, and text
+//! to records and back. It is tested, not proved; what is decided, and what a record
+//! may be, is asked of the proved library.
 //!
 //! | module | what it holds |
 //! |---|---|
@@ -11,6 +11,7 @@
 //! | `record` | the three records, and why some bytes are none |
 //! | `archive` | sheets to archives and back |
 //! | `groups` | the groups of a plan as lines |
+//! | `tally` | arrivals between steps, call by call |
 //! | `table` | tables to the words of records |
 //! | `show` | records as tables |
 //! | `step` | a step planned, weighed and carried out, its traffic, and sheets joined before it |
@@ -28,6 +29,7 @@ pub mod record;
 pub mod show;
 pub mod step;
 pub mod table;
+pub mod tally;
 pub mod task;
 pub mod text;
 pub mod tolerance;

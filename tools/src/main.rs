@@ -37,8 +37,9 @@ fn run(asked: Asked) -> Result<(), String> {
 
 /// Reads all, then writes the files, then prints.
 fn work(call: &Call) -> Result<(), String> {
-    let read = |name: &String| files::read(name, call.task.most());
-    let inputs: Vec<Vec<u8>> = call.inputs.iter().map(read).collect::<Result<_, _>>()?;
+    let read = |(place, name): (usize, &String)| files::read(name, call.task.most(place));
+    let inputs = call.inputs.iter().enumerate().map(read);
+    let inputs: Vec<Vec<u8>> = inputs.collect::<Result<_, _>>()?;
     let outcome = task::run(call, &inputs)?;
     files::save(&outcome.files)?;
     let names: Vec<String> = outcome.files.into_iter().map(|(name, _)| name).collect();

@@ -20,17 +20,27 @@ pub struct Source<'a> {
 impl<'a> Source<'a> {
     /// What the reader says of it, or what is wrong with it.
     fn read<T>(&self, reader: fn(&'a [u8]) -> Result<T, Refusal>) -> Result<T, String> {
-        let refused = |refusal| format!("{}: {}", self.name, explained(refusal, self.bytes));
-        reader(self.bytes).map_err(refused)
+        self.named(reader(self.bytes).map_err(|refusal| explained(refusal, self.bytes)))
+    }
+
+    /// What is made of it, or where it is from and what is wrong with it.
+    pub fn named<T>(&self, made: Result<T, String>) -> Result<T, String> {
+        made.map_err(|what| format!("{}: {what}", self.name))
     }
 
     /// Why an operation refuses it beside another record, and a detail, if there
     /// is one.
     fn refused(&self, refusal: Refusal, detail: &str) -> String {
-        let (number, reason) = (refusal.number(), reason_beside(refusal));
-        let mark = if detail.is_empty() { "" } else { ": " };
-        format!("{}: refused {number}: {reason}{mark}{detail}", self.name)
+        format!("{}: {}", self.name, refused(refusal, detail))
     }
+}
+
+/// Why an operation refuses, where each record by itself was accepted, and a detail,
+/// if there is one.
+pub fn refused(refusal: Refusal, detail: &str) -> String {
+    let (number, reason) = (refusal.number(), reason_beside(refusal));
+    let mark = if detail.is_empty() { "" } else { ": " };
+    format!("refused {number}: {reason}{mark}{detail}")
 }
 
 /// The reason in words, where each record by itself was accepted.
@@ -119,30 +129,53 @@ fn totals(sheet: Sheet) -> Vec<u32> {
 
 /// *Weigh*: the limit, the leasts, and what follows for the tree.
 pub fn weighed(sheet: &Source, plan: &Source) -> Result<String, String> {
-    let (table, tree) = (sheet.read(read_sheet)?, plan.read(read_plan)?);
     let mut least = [0; LEAST_BYTES];
-    let weighed = weigh(sheet.bytes, plan.bytes, &mut least).map_err(|refusal| match refusal {
-        Refusal::PlanNodesDiffer => plan.refused(refusal, &beside(tree.n, sheet, table.n)),
-        _ => plan.refused(refusal, ""),
-    })?;
+    let (table, weighed) = of_tree(sheet, plan, |sheet, plan| weigh(sheet, plan, &mut least))?;
     let limit = table.limit;
     let mut text = format!("limit {limit}\n");
     for (node, least) in weighed.leasts.iter().enumerate() {
-        let above = if least > limit {
-            " above the limit"
-        } else {
-            ""
-        };
-        text += &format!("node {node} least {least}{above}\n");
+        text += &format!("node {node} {}\n", least_text(least, limit));
     }
     // Then the tree holds, but the plan is primary and keeps none.
     let unneeded = totals(table).iter().all(|total| *total <= limit);
-    Ok(text
-        + match weighed.holds {
-            true if unneeded => "no subdomain is above the limit: no tree is needed\n",
-            true => "the tree holds\n",
-            false => "the tree does not hold\n",
-        })
+    let what = match weighed.holds {
+        true if unneeded => "no subdomain is above the limit: no tree is needed",
+        holds => verdict(holds),
+    };
+    Ok(format!("{text}{what}\n"))
+}
+
+/// A node's least, and whether it is the reason why a tree does not hold.
+pub fn least_text(least: u32, limit: u32) -> String {
+    let above = if least > limit {
+        " above the limit"
+    } else {
+        ""
+    };
+    format!("least {least}{above}")
+}
+
+/// Whether a tree holds, in words.
+pub fn verdict(holds: bool) -> &'static str {
+    match holds {
+        true => "the tree holds",
+        false => "the tree does not hold",
+    }
+}
+
+/// The sheet, and what an operation makes of it and of a plan's tree, or what is
+/// wrong with these.
+pub fn of_tree<'a, T>(
+    sheet: &Source<'a>,
+    plan: &Source,
+    operation: impl FnOnce(&[u8], &[u8]) -> Result<T, Refusal>,
+) -> Result<(Sheet<'a>, T), String> {
+    let (table, tree) = (sheet.read(read_sheet)?, plan.read(read_plan)?);
+    let made = operation(sheet.bytes, plan.bytes).map_err(|refusal| match refusal {
+        Refusal::PlanNodesDiffer => plan.refused(refusal, &beside(tree.n, sheet, table.n)),
+        _ => plan.refused(refusal, ""),
+    })?;
+    Ok((table, made))
 }
 
 /// *Carry out*: the sheet that follows.

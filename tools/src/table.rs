@@ -216,14 +216,7 @@ impl Form {
     }
 
     fn fields<'a, const K: usize>(&self, line: Piece<'a>) -> Result<[Piece<'a>; K], Fault> {
-        let columns = self.columns;
-        let fields: Vec<Piece> = line.split(|c| c == ',').collect();
-        fields.try_into().map_err(|fields: Vec<Piece>| {
-            let what = format!("a line is {columns}, with commas between");
-            match fields.get(K) {
-                Some(over) => over.fault(what),
-                None => line.fault_behind(line.text.chars().count(), what),
-            }
-        })
+        let line_is = format!("a line is {}, with commas between", self.columns);
+        line.parts(line.split(|c| c == ','), line_is)
     }
 }

@@ -7,7 +7,7 @@ use crate::record::{reading, Record};
 use crate::step::{self, Source};
 use crate::table::Sizes;
 use crate::text::{self, Piece};
-use crate::{archive, groups, show, table, words};
+use crate::{archive, groups, show, table, tally, words};
 use firrozka::{to_bytes, Words, SHEET_BYTES};
 
 /// What is asked for.
@@ -29,6 +29,8 @@ pub enum Task {
     Restore,
     /// The groups of a plan.
     Groups,
+    /// The tally of a sheet and a plan, and calls on it.
+    Tally,
     /// A table of counts to a sheet.
     Table(Sizes),
     /// Text to a record that the library accepts, or words to any bytes.
@@ -66,10 +68,12 @@ impl Outcome {
 }
 
 impl Task {
-    /// How many bytes of an input are read. A record is refused all the same when
-    /// more than one byte of what is too long is left out.
-    pub fn most(self) -> u64 {
+    /// How many bytes of the input at a place are read. A record is refused all the
+    /// same when more than one byte of what is too long is left out.
+    pub fn most(self, place: usize) -> u64 {
         match self {
+            // The calls are text.
+            Task::Tally if place == 2 => u64::MAX,
             Task::Plan
             | Task::Weigh
             | Task::Carry
@@ -78,6 +82,7 @@ impl Task {
             | Task::Archive
             | Task::Restore
             | Task::Groups
+            | Task::Tally
             | Task::Show(_)
             | Task::ShowArchive => SHEET_BYTES as u64 + 1,
             Task::Table(_) | Task::Write(_) | Task::Words => u64::MAX,
@@ -135,9 +140,13 @@ pub fn run(call: &Call, inputs: &[Vec<u8>]) -> Result<Outcome, String> {
         (Task::Traffic, [sheet, moves]) => {
             outcome.printed = step::traffic(sheet, moves)?.into_bytes();
         }
+        (Task::Tally, [sheet, plan, calls]) => {
+            let tally = tally::opened(sheet, plan)?;
+            let calls = calls.named(of_text(calls.bytes, tally::calls))?;
+            outcome.printed = tally::tallied(tally, &calls).into_bytes();
+        }
         (task, [input]) => {
-            let turned = task.turn(input.bytes);
-            let turned = turned.map_err(|what| format!("{}: {what}", input.name))?;
+            let turned = input.named(task.turn(input.bytes))?;
             outcome.put(&call.output, turned);
         }
         _ => unreachable!("a call has the files of its verb"),

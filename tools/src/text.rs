@@ -95,6 +95,21 @@ impl<'a> Piece<'a> {
         })
     }
 
+    /// The parts of a line, if these are K; else what a line is.
+    pub fn parts<const K: usize>(
+        self,
+        parts: impl Iterator<Item = Piece<'a>>,
+        line_is: String,
+    ) -> Result<[Piece<'a>; K], Fault> {
+        let parts: Vec<Piece> = parts.collect();
+        parts
+            .try_into()
+            .map_err(|parts: Vec<Piece>| match parts.get(K) {
+                Some(over) => over.fault(line_is),
+                None => self.fault_behind(self.text.chars().count(), line_is),
+            })
+    }
+
     fn trim(self) -> Piece<'a> {
         let text = self.text.trim_start();
         let blanks = self.text.chars().count() - text.chars().count();

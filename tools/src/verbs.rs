@@ -28,7 +28,7 @@ pub struct Verb {
 pub const FLAGS: [&str; 1] = ["--empty"];
 
 /// All verbs.
-pub static VERBS: [Verb; 12] = [
+pub static VERBS: [Verb; 13] = [
     Verb {
         name: "plan",
         form: "SHEET [OLD_PLAN] [-o PLAN] [-m MOVES]",
@@ -135,6 +135,24 @@ and there is no group.
         options: &[],
         files: &["PLAN"],
         task: |_| Ok(Task::Groups),
+    },
+    Verb {
+        name: "tally",
+        form: "SHEET PLAN CALLS",
+        does: "follows arrivals between steps, and says when a plan's tree gives way",
+        more: "\
+CALLS is text with a line for each call:
+  add HOLDER SUBDOMAIN COUNT     so many particles of the subdomain arrive at HOLDER
+  remove HOLDER SUBDOMAIN COUNT  so many of those that HOLDER has leave
+The tally begins with the counts of SHEET; its limit stays that of SHEET. Prints
+for the opening and for each call whether the tree of PLAN holds, or why the call
+is refused; it then alters nothing, and the next is made. Then come limit and
+total, and for each node the particles of its subdomain, whoever holds them, and
+its least, as 'firrozka weigh' has it.
+",
+        options: &[],
+        files: &["SHEET", "PLAN", "CALLS"],
+        task: |_| Ok(Task::Tally),
     },
     Verb {
         name: "table",

@@ -12,9 +12,9 @@ use std::os::unix::ffi::OsStrExt;
 use std::os::unix::fs::{symlink, PermissionsExt};
 use std::process::{Command, Stdio};
 
-const VERBS: [&str; 12] = [
-    "plan", "weigh", "carry", "join", "traffic", "archive", "restore", "groups", "table", "write",
-    "show", "words",
+const VERBS: [&str; 13] = [
+    "plan", "weigh", "carry", "join", "traffic", "archive", "restore", "groups", "tally", "table",
+    "write", "show", "words",
 ];
 
 #[test]
@@ -35,7 +35,7 @@ fn help_and_version_are_printed() {
 
 #[test]
 fn a_wrong_call_is_told_what_is_wrong_and_then_the_usage() {
-    let cases: [(&[&str], &str); 50] = [
+    let cases: [(&[&str], &str); 54] = [
         (&[], "a verb is missing"),
         (&["pland"], "there is no verb 'pland'"),
         (&["plan"], "plan: SHEET is missing"),
@@ -113,6 +113,16 @@ fn a_wrong_call_is_told_what_is_wrong_and_then_the_usage() {
         (
             &["groups", "a", "-o", "b"],
             "groups: it has no option -o; a file of this name is written ./-o",
+        ),
+        (&["tally", "a"], "tally: PLAN is missing"),
+        (&["tally", "a", "b"], "tally: CALLS is missing"),
+        (
+            &["tally", "a", "b", "c", "d"],
+            "tally: 'd' is one file too many",
+        ),
+        (
+            &["tally", "a", "-", "-"],
+            "tally: only one input can be the standard input",
         ),
         (&["table", "-t", "10"], "table: -n N is missing"),
         (&["table", "-n", "3"], "table: -t PERCENT is missing"),
@@ -244,6 +254,20 @@ fn a_dash_is_the_standard_input_or_output() {
     assert_eq!(written(&["show", "archive"], &archive), shown);
     let groups = printed(&["groups", &plan]).into_bytes();
     assert_eq!(written(&["groups", "-"], &bytes(&plan)), groups);
+    let calls = file("dash-calls", b"add 0 0 9\n");
+    let tally = printed(&["tally", &sheet, &plan, &calls]).into_bytes();
+    assert_eq!(
+        written(&["tally", "-", &plan, &calls], &bytes(&sheet)),
+        tally
+    );
+    assert_eq!(
+        written(&["tally", &sheet, "-", &calls], &bytes(&plan)),
+        tally
+    );
+    assert_eq!(
+        written(&["tally", &sheet, &plan, "-"], &bytes(&calls)),
+        tally
+    );
     let words = written(&["words", "-", "-o", "-"], &bytes(&plan));
     assert_eq!(words, b"3 2 36 0 0 0 0 27 29\n");
 }
@@ -274,12 +298,13 @@ fn a_full_disk_is_noticed() {
     let (sheet, plan) = (example("step-d/sheet"), fresh("full-plan"));
     let what = "cannot be written: No space left on device (os error 28)";
     let full = || File::create("/dev/full").expect("Linux has it");
-    let calls: [&[&str]; 8] = [
+    let calls: [&[&str]; 9] = [
         &["plan", &sheet],
         &["weigh", &sheet, &example("step-d/plan")],
         &["traffic", &sheet, &example("step-d/moves")],
         &["archive", &sheet, "-o", "-"],
         &["groups", &example("step-d/plan")],
+        &["tally", &sheet, &example("step-d/plan"), "-"],
         &["words", &sheet],
         &["--help"],
         &["--version"],
@@ -340,6 +365,9 @@ fn an_endless_file_is_no_record() {
     assert_eq!(of_input, format!("standard input: {what}\n"));
     let what = "refused 12: plan: N is not 1 to 64";
     let of_plan = said_under(limit, &["groups", "/dev/zero"]);
+    assert_eq!(of_plan, format!("/dev/zero: {what}\n"));
+    let calls = file("endless-calls", b"");
+    let of_plan = said_under(limit, &["tally", &sheet, "/dev/zero", &calls]);
     assert_eq!(of_plan, format!("/dev/zero: {what}\n"));
 }
 
