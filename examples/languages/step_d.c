@@ -1,5 +1,5 @@
 /* Plans step D and prints it as the bench program does, and then its traffic page; writes its sheet to an archive and reads it back; prints
- * its plan's groups. */
+ * its plan's groups; tallies arrivals until the tree gives way. */
 #include <inttypes.h>
 #include <stdio.h>
 #include <string.h>
@@ -7,6 +7,7 @@
 
 static uint8_t plan[FIRROZKA_PLAN_BYTES], moves[FIRROZKA_MOVES_BYTES], page[FIRROZKA_PAGE_BYTES];
 static uint8_t archive[FIRROZKA_ARCHIVE_BYTES], restored[FIRROZKA_SHEET_BYTES], groups[FIRROZKA_GROUPS_BYTES];
+static struct firrozka_tally tally;
 
 /* The word at a place: 4 bytes, low byte first. */
 static uint32_t word(const uint8_t *record, size_t place)
@@ -82,6 +83,20 @@ static int print_groups(size_t plan_len)
     return 0;
 }
 
+/* Particles of subdomain 0 arrive at node 0 one by one, until the tree gives way. */
+static int print_arrivals(const uint8_t *sheet, size_t sheet_len, size_t plan_len)
+{
+    uint32_t count = 0;
+    struct firrozka_tallied tallied = firrozka_open_tally(sheet, sheet_len, plan, plan_len, &tally);
+    for (; tallied.holds; count++)
+        tallied = firrozka_tally_add(&tally, 0, 0, 1);
+    /* In a refusal holds is 0, too. */
+    if (tallied.refusal)
+        return refused(tallied.refusal);
+    printf("tally: the tree gives way at %" PRIu32 " more of subdomain 0\n", count);
+    return 0;
+}
+
 int main(void)
 {
     /* The words 3 100 3 0 65 130 90 6 4: 3 nodes, a tolerance of 100 tenths of a percent, 3 cells. */
@@ -98,5 +113,6 @@ int main(void)
         return refused(written.refusal);
     /* No null byte ends the page. */
     fwrite(page, 1, written.bytes, stdout);
-    return print_archive(sheet, sizeof sheet) || print_groups(step.plan_bytes);
+    return print_archive(sheet, sizeof sheet) || print_groups(step.plan_bytes)
+           || print_arrivals(sheet, sizeof sheet, step.plan_bytes);
 }

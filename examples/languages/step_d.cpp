@@ -1,9 +1,10 @@
 // Plans step D and prints it as the bench program does, and then its traffic page; writes its sheet to an archive and reads it back; prints
-// its plan's groups.
+// its plan's groups; tallies arrivals until the tree gives way.
 #include <array>
 #include <cstdint>
 #include <initializer_list>
 #include <iostream>
+#include <memory>
 #include <string>
 #include <vector>
 
@@ -123,4 +124,12 @@ int main() {
     print_entries("even", groups, 1);
     print_entries("odd", groups, 1 + groups[0]);
     std::cout << '\n';
+
+    // Particles of subdomain 0 arrive at node 0 one by one. In a refusal holds is 0, too.
+    const auto tally = std::make_unique<firrozka_tally>();
+    auto tallied = firrozka_open_tally(sheet.data(), sheet.size(), step.plan.data(), step.plan.size(), tally.get());
+    std::uint32_t count = 0;
+    for (; tallied.holds; ++count) tallied = firrozka_tally_add(tally.get(), 0, 0, 1);
+    if (tallied.refusal != FIRROZKA_ACCEPTED) return refused(tallied.refusal);
+    std::cout << "tally: the tree gives way at " << count << " more of subdomain 0\n";
 }

@@ -1,5 +1,5 @@
 ! Plans step D and prints it as the bench program does, and then its traffic page; writes its sheet to an archive and reads it
-! back; prints its plan's groups.
+! back; prints its plan's groups; tallies arrivals until the tree gives way.
 program step_d
     use, intrinsic :: iso_c_binding, only: c_int8_t, c_int32_t, c_size_t
     use firrozka
@@ -12,6 +12,8 @@ program step_d
     character(len=firrozka_page_bytes) :: page
     type(firrozka_step) :: step
     type(firrozka_written) :: written, read_back
+    type(firrozka_running_tally) :: tally
+    type(firrozka_tallied) :: tallied
     integer :: n, k
 
     sheet = words_to_bytes(words)
@@ -48,6 +50,16 @@ program step_d
     ! The colon keeps a blank from following the last entry.
     write (*, '("groups even", *(:, 1x, i0))', advance='no') (word_at(groups, k), k = 1, n)
     print '(" odd", *(:, 1x, i0))', (word_at(groups, k), k = n + 1, 2 * n)
+
+    ! Particles of subdomain 0 arrive at node 0 one by one. In a refusal holds is 0, too.
+    tallied = tally%open(sheet, plan(:step%plan_bytes))
+    k = 0
+    do while (tallied%holds /= 0)
+        tallied = tally%add(0, 0, 1)
+        k = k + 1
+    end do
+    call accept(tallied%refusal)
+    print '("tally: the tree gives way at ", i0, " more of subdomain 0")', k
 
 contains
 

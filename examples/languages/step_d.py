@@ -1,5 +1,5 @@
 """Plans step D and prints it as the bench program does, and then its traffic page; writes its sheet to an archive and reads it back; prints
-its plan's groups."""
+its plan's groups; tallies arrivals until the tree gives way."""
 
 import firrozka
 
@@ -28,3 +28,11 @@ print(f"archive {len(archive)} bytes, read back {'the same' if same else 'anothe
 
 groups = firrozka.groups(step.plan)
 print("groups even", *groups.even, "odd", *groups.odd)
+
+# Particles of subdomain 0 arrive at node 0 one by one.
+tally = firrozka.Tally(sheet, step.plan)
+count = 0
+while tally.holds:
+    tally.add(0, 0, 1)
+    count += 1
+print(f"tally: the tree gives way at {count} more of subdomain 0")

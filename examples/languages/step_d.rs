@@ -1,10 +1,11 @@
 //! Plans step D and prints it as the bench program does, and then its traffic page;
-//! writes its sheet to an archive and reads it back; prints its plan's groups.
+//! writes its sheet to an archive and reads it back; prints its plan's groups; tallies
+//! arrivals until the tree gives way.
 
 use firrozka::{
     groups, plan_step, read_archive, read_moves, read_plan, read_sheet, to_bytes, traffic_page,
-    write_archive, Refusal, Words, ARCHIVE_BYTES, GROUPS_BYTES, MOVES_BYTES, NO_PLAN, PAGE_BYTES,
-    PLAN_BYTES, SHEET_BYTES,
+    write_archive, Refusal, Tally, Words, ARCHIVE_BYTES, GROUPS_BYTES, MOVES_BYTES, NO_PLAN,
+    PAGE_BYTES, PLAN_BYTES, SHEET_BYTES,
 };
 
 /// Each node's amount of its own subdomain: Pn less the shares of its helpers.
@@ -53,5 +54,14 @@ fn main() -> Result<(), Refusal> {
     let groups = groups(step.plan, &mut buffer)?;
     let [even, odd] = [groups.even, groups.odd].map(with_blanks);
     println!("groups even {even} odd {odd}");
+
+    // Particles of subdomain 0 arrive at node 0 one by one.
+    let mut tally = Tally::open(&sheet, step.plan)?;
+    let mut count = 0;
+    while tally.holds() {
+        tally.add(0, 0, 1)?;
+        count += 1;
+    }
+    println!("tally: the tree gives way at {count} more of subdomain 0");
     Ok(())
 }
