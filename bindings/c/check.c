@@ -331,8 +331,9 @@ static void check_tally_refused(void)
     memset(&expected, PAINT, sizeof expected);
     CHECK(tallied(firrozka_tally_add(&lent.tally, 0, 0, 1), FIRROZKA_TALLY_CELL, 0));
     CHECK(tallied(firrozka_tally_remove(&lent.tally, 0, 0, 1), FIRROZKA_TALLY_CELL, 0));
-    /* The last particle that there can be. */
-    CHECK(!firrozka_open_tally(full, sizeof full, pair, sizeof pair, &lent.tally).refusal && lent.tally.total == 999999999);
+    /* The last particle that there can be. The limit is the sheet's, half of the particles and a tenth more, not the plan's, which is 0. */
+    CHECK(!firrozka_open_tally(full, sizeof full, pair, sizeof pair, &lent.tally).refusal);
+    CHECK(lent.tally.limit == 549999999 && lent.tally.total == 999999999);
     CHECK(firrozka_tally_add(&lent.tally, 1, 1, 2).refusal == FIRROZKA_TALLY_TOTAL);
     CHECK(!firrozka_tally_add(&lent.tally, 1, 1, 1).refusal && lent.tally.total == 1000000000);
 }

@@ -271,6 +271,9 @@ contains
         call check_tallied(firrozka_tally_add(tally%now, 2_c_int32_t, 1_c_int32_t, 10_c_int32_t), firrozka_accepted, .true.)
         call check_now(tally%now, [28, 72, 0], [28, 36, 0])
         call same([tally%now%counts(65), tally%now%counts(129)], [62, 10])
+        ! The limit is the sheet's, not the plan's.
+        call check_tallied(tally%open(h, words_to_bytes([3, 1, 9, 0, 0, 1, 0, 0, 0])), firrozka_accepted, .true.)
+        call same([tally%now%limit], [36])
     end subroutine
 
     ! long has 8 bytes, of which the lowest 4 are those of 1.
@@ -284,6 +287,8 @@ contains
         call check_tallied(tally%add(0, 0, 0), firrozka_tally_cell, .false.)
         call check_tallied(tally%remove(0, -1, 29), firrozka_tally_cell, .false.)
         call check_tallied(tally%remove(0, 0, 29), firrozka_tally_removes, .false.)
+        ! The subdomain has 72, the cell none.
+        call check_tallied(tally%remove(0, 1, 1), firrozka_tally_removes, .false.)
         call check_tallied(tally%add(0, 0, 999999901), firrozka_tally_total, .false.)
         call check_tallied(tally%add(zero, long, one), firrozka_tally_cell, .false.)
         call check_tallied(tally%add(zero, zero, long), firrozka_tally_total, .false.)
