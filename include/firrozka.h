@@ -184,9 +184,9 @@ struct firrozka_written firrozka_read_archive(const uint8_t *archive, size_t arc
 struct firrozka_written firrozka_groups(const uint8_t *plan, size_t plan_len, uint8_t *groups, size_t groups_len);
 
 /* A tally: the counts of a sheet with the tree of a plan, kept up to date between two steps, in 17,164 bytes. It is the caller's, who makes
- * room for it and lends it to each call; the library keeps no pointer to it. A program reads it as it likes and leaves the writing to the
- * three functions below. Whatever else was written there, a call returns, stays within the tally and is refused or answers as
- * docs/FORMATS.md says. */
+ * room for it, apart from the records, and lends it to each call; the pointer is never NULL, and the library does not keep it. A program
+ * reads the tally as it likes and leaves the writing to the three functions below. Whatever else was written there, a call returns, stays
+ * within the tally, and is refused or answers as docs/FORMATS.md says. */
 struct firrozka_tally {
     uint32_t n, limit, total; /* N; the limit of the opening sheet, which no call changes; the particles of all cells */
     uint32_t helpands[64];    /* of the plan */
