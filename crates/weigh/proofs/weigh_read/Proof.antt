@@ -44,11 +44,6 @@ long c =
 abbrev written : tie.After-put-words → tie.After-leasts-of
 written c = c .before .before .before
 
-put-words-requires : tie.Need-put-words-requires
-put-words-requires c κs =
-    let l = c .before .before in
-    omega (arith, long l, few (l .before .before), l .before .if1 .left)
-
 returns-2 : tie.Need-returns-2
 returns-2 c =
     let w = c .before .before .before in
@@ -65,7 +60,9 @@ weigh-read-spec =
     returns
     (λ c κs. start (c .before) .pre)  -- leasts-of-requires
     (λ c. search needs)  -- slice-aggregate-put-words
-    put-words-requires
+    (λ c κs.
+    let l = c .before .before in
+    omega (arith, long l, few (l .before .before), l .before .if1 .left))  -- put-words-requires
     (λ c κs. few (written (c .before .before) .before .before))  -- holds-requires
     (λ c. search needs)  -- same-length
     returns-2)
