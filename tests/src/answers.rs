@@ -5,7 +5,8 @@
 use std::fmt::Debug;
 
 pub use firrozka::ffi::{
-    MovesAnswer, PartAnswer, PlanAnswer, SheetAnswer, StepAnswer, WeighedAnswer, WrittenAnswer,
+    MovesAnswer, PartAnswer, PlanAnswer, SheetAnswer, StepAnswer, TalliedAnswer, WeighedAnswer,
+    WrittenAnswer,
 };
 
 /// What the answer of every operation that can refuse has.
@@ -20,6 +21,14 @@ pub trait Answer: Copy + Debug + Default + PartialEq {
 /// *Weigh* "says whether the tree holds."
 pub fn weighed(holds: bool) -> WeighedAnswer {
     WeighedAnswer {
+        refusal: 0,
+        holds: u32::from(holds),
+    }
+}
+
+/// A call on a tally "says whether the tree holds", and so does the opening.
+pub fn tallied(holds: bool) -> TalliedAnswer {
+    TalliedAnswer {
         refusal: 0,
         holds: u32::from(holds),
     }
@@ -81,5 +90,6 @@ answers!(
     MovesAnswer,
     WeighedAnswer,
     StepAnswer,
-    WrittenAnswer
+    WrittenAnswer,
+    TalliedAnswer
 );

@@ -108,7 +108,7 @@ fn take_apart(step: &Step, planned: &Planned) -> Result<Judged, String> {
 }
 
 /// Whether there is a rival's division along this tree.
-fn has_rival(helpands: &[u32], totals: &[u64], limit: u64) -> Result<bool, String> {
+pub fn has_rival(helpands: &[u32], totals: &[u64], limit: u64) -> Result<bool, String> {
     let rooms = vec![limit; totals.len()];
     let verdict = by_flow(helpands, totals, &rooms);
     let proven = verdict.is_proven(helpands, totals, &rooms);

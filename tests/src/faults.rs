@@ -23,7 +23,7 @@ pub const OF_Z_ORDER: [u32; 4] = [54, 302, 303, 355];
 
 /// The pairs of faults that cannot come together, with the reason. All other
 /// pairs of one operation can, and a run has to meet them.
-pub const IMPOSSIBLE: [(u32, u32, &str); 19] = [
+pub const IMPOSSIBLE: [(u32, u32, &str); 20] = [
     (1, 4, "E ends at byte 12"),
     (1, 5, "E, from which the length follows, ends at byte 12"),
     (1, 6, "the first cell begins at byte 12"),
@@ -51,6 +51,7 @@ pub const IMPOSSIBLE: [(u32, u32, &str); 19] = [
         207,
         "the first sheet has too many by itself, which is 7",
     ),
+    (59, 60, "nobody adds and removes in one call"),
 ];
 
 /// The pairs of these faults that can come together, the smaller first.

@@ -2,12 +2,14 @@
 //! whoever does them.
 
 use crate::answers::{
-    MovesAnswer, PartAnswer, PlanAnswer, SheetAnswer, StepAnswer, WeighedAnswer, WrittenAnswer,
+    MovesAnswer, PartAnswer, PlanAnswer, SheetAnswer, StepAnswer, TalliedAnswer, WeighedAnswer,
+    WrittenAnswer,
 };
 use crate::bounds::NODES;
 use crate::records::{to_bytes, to_words};
 use crate::reference::keeping;
 use crate::steps::Step;
+use crate::tally::Tally;
 use crate::{boundary, plain, reference};
 
 const MOST_NODES: usize = *NODES.end() as usize;
@@ -38,7 +40,14 @@ pub type Write = fn(first: &[u8], second: &[u8], out: &mut [u8]) -> WrittenAnswe
 /// An operation that reads one record and writes another.
 pub type Convert = fn(record: &[u8], out: &mut [u8]) -> WrittenAnswer;
 
-/// Someone who does all twelve.
+/// The opening of a tally.
+pub type OpenTally = fn(sheet: &[u8], plan: &[u8], tally: &mut Tally) -> TalliedAnswer;
+
+/// A call on a tally.
+pub type TallyCall =
+    fn(tally: &mut Tally, holder: u32, subdomain: u32, count: u32) -> TalliedAnswer;
+
+/// Someone who does all fifteen.
 pub struct Implementation {
     pub name: &'static str,
     pub read_sheet: fn(sheet: &[u8]) -> SheetAnswer,
@@ -52,6 +61,9 @@ pub struct Implementation {
     pub write_archive: fn(sheet: &[u8], archive: &mut [u8]) -> WrittenAnswer,
     pub read_archive: fn(archive: &[u8], sheet: &mut [u8]) -> WrittenAnswer,
     pub groups: fn(plan: &[u8], groups: &mut [u8]) -> WrittenAnswer,
+    pub open_tally: OpenTally,
+    pub tally_add: TallyCall,
+    pub tally_remove: TallyCall,
     pub tree_in_force: fn(old: &[u8], new: &[u8]) -> PartAnswer,
 }
 
@@ -69,6 +81,9 @@ pub const REFERENCE: Implementation = Implementation {
     write_archive: reference::write_archive,
     read_archive: reference::read_archive,
     groups: reference::groups,
+    open_tally: reference::open_tally,
+    tally_add: reference::tally_add,
+    tally_remove: reference::tally_remove,
     tree_in_force: reference::tree_in_force,
 };
 
@@ -86,6 +101,9 @@ pub const ARCHIVE: Implementation = Implementation {
     write_archive: boundary::write_archive,
     read_archive: boundary::read_archive,
     groups: boundary::groups,
+    open_tally: boundary::open_tally,
+    tally_add: boundary::tally_add,
+    tally_remove: boundary::tally_remove,
     tree_in_force: boundary::tree_in_force,
 };
 
@@ -100,6 +118,9 @@ pub const PLAIN: Implementation = Implementation {
     write_archive: plain::write_archive,
     read_archive: plain::read_archive,
     groups: plain::groups,
+    open_tally: plain::open_tally,
+    tally_add: plain::tally_add,
+    tally_remove: plain::tally_remove,
     ..REFERENCE
 };
 
@@ -201,6 +222,16 @@ impl Implementation {
     /// *Groups* with a buffer that is long enough: the record, or the refusal.
     pub fn grouped(&self, plan: &[u8]) -> Result<Vec<u8>, u32> {
         written(GROUPS_BYTES, |groups| (self.groups)(plan, groups))
+    }
+
+    /// *Open tally*: the tally and whether the tree holds, or the refusal.
+    pub fn opened(&self, sheet: &[u8], plan: &[u8]) -> Result<(Tally, bool), u32> {
+        let mut tally = Tally::NONE;
+        let answer = (self.open_tally)(sheet, plan, &mut tally);
+        match answer.refusal {
+            0 => Ok((tally, answer.holds == 1)),
+            refusal => Err(refusal),
+        }
     }
 
     /// *Weigh* with a buffer that is long enough: the leasts and whether the

@@ -19,6 +19,7 @@
 //! | `worked` | the steps that document 01 works by hand |
 //! | `implementations` | who does the operations, side by side |
 //! | `calls` | the differential run over these |
+//! | `tally` | tallies, and the differential run of calls on them |
 //! | `careless` | wrong ones for the tests of the tests |
 //! | `division` | what a division along a tree is |
 //! | `rival` | whether there is one, found in other ways |
@@ -56,6 +57,7 @@ pub mod settings;
 pub mod speed;
 pub mod steps;
 pub mod stretches;
+pub mod tally;
 pub mod worked;
 
 pub use firrozka::ffi as boundary;

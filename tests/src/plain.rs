@@ -1,7 +1,8 @@
 //! The benchmark's baseline, which is a crate by itself, with the answers of
 //! the others.
 
-use crate::answers::{self, Answer, StepAnswer, WeighedAnswer, WrittenAnswer};
+use crate::answers::{self, Answer, StepAnswer, TalliedAnswer, WeighedAnswer, WrittenAnswer};
+use crate::tally::Tally;
 
 /// *Weigh*, as the baseline does it.
 pub fn weigh(sheet: &[u8], plan: &[u8], least: &mut [u8]) -> WeighedAnswer {
@@ -43,4 +44,21 @@ pub fn read_archive(archive: &[u8], sheet: &mut [u8]) -> WrittenAnswer {
 /// *Groups*, as the baseline does it.
 pub fn groups(plan: &[u8], groups: &mut [u8]) -> WrittenAnswer {
     firrozka_plain::groups(plan, groups).map_or_else(Answer::refused, answers::written)
+}
+
+/// *Open tally*, as the baseline does it.
+pub fn open_tally(sheet: &[u8], plan: &[u8], tally: &mut Tally) -> TalliedAnswer {
+    firrozka_plain::open_tally(sheet, plan, tally).map_or_else(Answer::refused, answers::tallied)
+}
+
+/// *Tally add*, as the baseline does it.
+pub fn tally_add(tally: &mut Tally, holder: u32, subdomain: u32, count: u32) -> TalliedAnswer {
+    firrozka_plain::tally_add(tally, holder, subdomain, count)
+        .map_or_else(Answer::refused, answers::tallied)
+}
+
+/// *Tally remove*, as the baseline does it.
+pub fn tally_remove(tally: &mut Tally, holder: u32, subdomain: u32, count: u32) -> TalliedAnswer {
+    firrozka_plain::tally_remove(tally, holder, subdomain, count)
+        .map_or_else(Answer::refused, answers::tallied)
 }

@@ -1,15 +1,16 @@
 //! The differential run over the C boundary, for the operations on more than one
-//! record: many seeded calls, answers and buffers compared, every refusal, every
-//! order of two faults and every corner met.
+//! record and for calls on tallies: many seeded calls, answers and buffers compared,
+//! every refusal, every order of two faults and every corner met.
 //!
 //! FIRROZKA_SEED gives another run, FIRROZKA_ROUNDS another number of mixed
 //! inputs for each operation. The tally is printed with `-- --nocapture`.
 #![forbid(unsafe_code)]
 
 use firrozka_tests::calls::{
-    CARRY_OUT, GROUPS, JOIN_SHEETS, PLAN_STEP, READ_ARCHIVE, TRAFFIC_PAGE, TREE_IN_FORCE, WEIGH,
-    WRITE_ARCHIVE,
+    CARRY_OUT, GROUPS, JOIN_SHEETS, OPEN_TALLY, PLAN_STEP, READ_ARCHIVE, TRAFFIC_PAGE,
+    TREE_IN_FORCE, WEIGH, WRITE_ARCHIVE,
 };
+use firrozka_tests::tally::{damaged, sequences};
 
 const ROUNDS: usize = 8_000;
 
@@ -51,6 +52,21 @@ fn read_archive() {
 #[test]
 fn groups() {
     GROUPS.test(ROUNDS);
+}
+
+#[test]
+fn open_tally() {
+    OPEN_TALLY.test(ROUNDS);
+}
+
+#[test]
+fn calls_on_open_tallies() {
+    sequences::test(ROUNDS / 2);
+}
+
+#[test]
+fn calls_on_damaged_tallies() {
+    damaged::test(2 * ROUNDS);
 }
 
 #[test]

@@ -4,7 +4,7 @@
 //! An archive stands at a place, 0 or 1, until another is loaded there. A call
 //! at a place where none was loaded ends the program.
 
-use firrozka::ffi::{StepAnswer, WeighedAnswer, WrittenAnswer};
+use firrozka::ffi::{StepAnswer, TalliedAnswer, Tally, WeighedAnswer, WrittenAnswer};
 use std::ffi::{CStr, CString};
 use std::os::raw::{c_char, c_int, c_void};
 use std::path::Path;
@@ -35,6 +35,10 @@ struct Archive {
     read_archive: AtomicPtr<c_void>,
     /// Nowhere in one from before request 2026-06.
     groups: AtomicPtr<c_void>,
+    /// Nowhere in one from before request 2026-08, like the next two.
+    open_tally: AtomicPtr<c_void>,
+    tally_add: AtomicPtr<c_void>,
+    tally_remove: AtomicPtr<c_void>,
 }
 
 impl Archive {
@@ -50,6 +54,9 @@ impl Archive {
             write_archive: AtomicPtr::new(ptr::null_mut()),
             read_archive: AtomicPtr::new(ptr::null_mut()),
             groups: AtomicPtr::new(ptr::null_mut()),
+            open_tally: AtomicPtr::new(ptr::null_mut()),
+            tally_add: AtomicPtr::new(ptr::null_mut()),
+            tally_remove: AtomicPtr::new(ptr::null_mut()),
         }
     }
 }
@@ -60,6 +67,8 @@ type Version = extern "C" fn() -> u32;
 type Weigh = extern "C" fn(*const u8, usize, *const u8, usize, *mut u8, usize) -> WeighedAnswer;
 type Write = extern "C" fn(*const u8, usize, *const u8, usize, *mut u8, usize) -> WrittenAnswer;
 type Convert = extern "C" fn(*const u8, usize, *mut u8, usize) -> WrittenAnswer;
+type OpenTally = extern "C" fn(*const u8, usize, *const u8, usize, *mut Tally) -> TalliedAnswer;
+type TallyCall = extern "C" fn(*mut Tally, u32, u32, u32) -> TalliedAnswer;
 type PlanStep =
     extern "C" fn(*const u8, usize, *const u8, usize, *mut u8, usize, *mut u8, usize) -> StepAnswer;
 
@@ -95,6 +104,9 @@ pub fn load(file: &Path, place: usize) -> Result<(), String> {
         (&archive.write_archive, "firrozka_write_archive"),
         (&archive.read_archive, "firrozka_read_archive"),
         (&archive.groups, "firrozka_groups"),
+        (&archive.open_tally, "firrozka_open_tally"),
+        (&archive.tally_add, "firrozka_tally_add"),
+        (&archive.tally_remove, "firrozka_tally_remove"),
     ] {
         function.store(find(name), Ordering::Relaxed);
     }
@@ -143,6 +155,16 @@ pub fn has_read_archive(place: usize) -> bool {
 /// Whether the archive at this place has *groups*.
 pub fn has_groups(place: usize) -> bool {
     is_there(&PLACES[place].groups)
+}
+
+/// Whether the archive at this place has *open tally*.
+pub fn has_open_tally(place: usize) -> bool {
+    is_there(&PLACES[place].open_tally)
+}
+
+/// Whether the archive at this place has both calls on a tally.
+pub fn has_tally_calls(place: usize) -> bool {
+    is_there(&PLACES[place].tally_add) && is_there(&PLACES[place].tally_remove)
 }
 
 fn is_there(function: &AtomicPtr<c_void>) -> bool {
@@ -227,6 +249,58 @@ pub fn read_archive<const PLACE: usize>(archive: &[u8], sheet: &mut [u8]) -> Wri
 /// *Groups*, as the archive at this place does it.
 pub fn groups<const PLACE: usize>(plan: &[u8], groups: &mut [u8]) -> WrittenAnswer {
     convert(&PLACES[PLACE].groups, plan, groups)
+}
+
+/// *Open tally*, as the archive at this place does it.
+pub fn open_tally<const PLACE: usize>(
+    sheet: &[u8],
+    plan: &[u8],
+    tally: &mut Tally,
+) -> TalliedAnswer {
+    // SAFETY: what has this name in an archive has this type.
+    let open: OpenTally = unsafe { mem::transmute(loaded(&PLACES[PLACE].open_tally)) };
+    open(
+        sheet.as_ptr(),
+        sheet.len(),
+        plan.as_ptr(),
+        plan.len(),
+        tally,
+    )
+}
+
+/// *Tally add*, as the archive at this place does it.
+pub fn tally_add<const PLACE: usize>(
+    tally: &mut Tally,
+    holder: u32,
+    subdomain: u32,
+    count: u32,
+) -> TalliedAnswer {
+    tally_call(&PLACES[PLACE].tally_add, tally, [holder, subdomain, count])
+}
+
+/// *Tally remove*, as the archive at this place does it.
+pub fn tally_remove<const PLACE: usize>(
+    tally: &mut Tally,
+    holder: u32,
+    subdomain: u32,
+    count: u32,
+) -> TalliedAnswer {
+    tally_call(
+        &PLACES[PLACE].tally_remove,
+        tally,
+        [holder, subdomain, count],
+    )
+}
+
+/// Calls a function that a tally is lent to.
+fn tally_call(
+    function: &AtomicPtr<c_void>,
+    tally: &mut Tally,
+    [holder, subdomain, count]: [u32; 3],
+) -> TalliedAnswer {
+    // SAFETY: both functions that stand here have this type in an archive.
+    let call: TallyCall = unsafe { mem::transmute(loaded(function)) };
+    call(tally, holder, subdomain, count)
 }
 
 /// Calls a function that reads one record and writes another.

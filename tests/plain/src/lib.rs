@@ -9,13 +9,16 @@ mod deciding;
 mod grouping;
 mod page;
 mod records;
+mod tally;
 mod transfer;
 mod tree;
 mod z_order;
 
+use firrozka::ffi::Tally;
 use records::{
-    put_record, put_words, read_moves, read_plan, read_sheet, Moves, Nodes, Sheet, Table,
+    put_record, put_words, read_moves, read_plan, read_sheet, Moves, Nodes, Plan, Sheet, Table,
 };
+pub use tally::{tally_add, tally_remove};
 
 /// What *plan a step* gives: kind, L and both lengths in bytes.
 pub struct Step {
@@ -67,14 +70,7 @@ pub fn plan_step(
 
 /// *Weigh*: whether the tree holds.
 pub fn weigh(sheet_bytes: &[u8], plan_bytes: &[u8], least: &mut [u8]) -> Result<bool, u32> {
-    let sheet = read_sheet(sheet_bytes)?;
-    let plan = read_plan(plan_bytes)?;
-    if sheet.n != plan.n {
-        return Err(21);
-    }
-    if plan.kind == 0 {
-        return Err(24);
-    }
+    let (sheet, plan) = read_sheet_and_tree(sheet_bytes, plan_bytes)?;
     let n = sheet.n as usize;
     if least.len() < 4 * n {
         return Err(25);
@@ -85,6 +81,19 @@ pub fn weigh(sheet_bytes: &[u8], plan_bytes: &[u8], least: &mut [u8]) -> Result<
     let leasts: Nodes = tree::leasts(&totals, &plan.helpands, order, sheet.limit);
     put_words(least, &leasts[..n]);
     Ok(leasts[..n].iter().all(|&least| least <= sheet.limit))
+}
+
+/// A sheet, and a plan with a tree of as many nodes.
+fn read_sheet_and_tree(sheet: &[u8], plan: &[u8]) -> Result<(Sheet, Plan), u32> {
+    let sheet = read_sheet(sheet)?;
+    let plan = read_plan(plan)?;
+    if sheet.n != plan.n {
+        return Err(21);
+    }
+    if plan.kind == 0 {
+        return Err(24);
+    }
+    Ok((sheet, plan))
 }
 
 /// *Carry out*: the length in bytes of the sheet that follows.
@@ -151,6 +160,17 @@ pub fn groups(plan_bytes: &[u8], out: &mut [u8]) -> Result<u32, u32> {
     let bytes = 4 * (1 + 2 * plan.n as usize);
     grouping::put(out.get_mut(..bytes).ok_or(57u32)?, &plan);
     Ok(bytes as u32)
+}
+
+/// *Open tally*: whether the tree holds.
+pub fn open_tally(sheet_bytes: &[u8], plan_bytes: &[u8], tally: &mut Tally) -> Result<bool, u32> {
+    match read_sheet_and_tree(sheet_bytes, plan_bytes) {
+        Ok((sheet, plan)) => Ok(tally::open(tally, &sheet, sheet_bytes, &plan)),
+        Err(refusal) => {
+            *tally = Tally::NONE;
+            Err(refusal)
+        }
+    }
 }
 
 /// Writes a table as a sheet with this N and t, and gives its length in bytes;

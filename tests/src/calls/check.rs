@@ -71,6 +71,14 @@ fn expected(operation: &Operation, call: &Call, noise: &[Vec<u8>; 2]) -> Outcome
     Outcome { answer, buffers }
 }
 
+/// How two answers differ: a few words of each, from the first that differs on.
+fn other(expected: &[u32], answer: &[u32]) -> String {
+    let same = expected.iter().zip(answer).take_while(|(a, b)| a == b);
+    let first = same.count();
+    let [expected, answer] = [expected, answer].map(|words| words[first..].chunks(6).next());
+    format!("word {first} of the answer: expected {expected:?}, got {answer:?}")
+}
+
 fn compare(
     operation: &Operation,
     tested: &Implementation,
@@ -88,7 +96,7 @@ fn compare(
     let lent = [first.lent(), second.lent()];
     let answer = (operation.answer)(tested, lent, [a.lent_mut(), b.lent_mut()]);
     if answer != expected.answer {
-        return Err(format!("expected {:?}, got {answer:?}", expected.answer));
+        return Err(other(&expected.answer, &answer));
     }
     let inputs = [(&first, &call.records[0]), (&second, &call.records[1])];
     let buffers = [(&a, &expected.buffers[0]), (&b, &expected.buffers[1])];

@@ -11,12 +11,14 @@ use std::collections::{BTreeMap, BTreeSet};
 /// "Refused: the sheet's; the plan's; 21, their N differ; 24, kind 0; 25,
 /// buffer under 4N bytes."
 pub fn weigh(call: &Call) -> Vec<u32> {
+    let rest = holding(&[(25, is_short(call, 0))]);
+    [open_tally(call), rest].concat()
+}
+
+/// Request 2026-08: "opening has those of *weigh* up to 24".
+pub fn open_tally(call: &Call) -> Vec<u32> {
     let [first, second] = &call.records;
-    let rest = holding(&[
-        (21, differ(call, 0)),
-        (24, kind(second) == Some(0)),
-        (25, is_short(call, 0)),
-    ]);
+    let rest = holding(&[(21, differ(call, 0)), (24, kind(second) == Some(0))]);
     [sheet(first), plan(second), rest].concat()
 }
 

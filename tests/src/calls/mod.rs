@@ -1,5 +1,6 @@
-//! The twelve operations, seen alike: one record or two are read, up to two
-//! buffers are lent, and the answer is some words. Then one run serves all.
+//! The operations on records, seen alike: one record or two are read, up to two
+//! buffers are lent, and the answer is some words. Then one run serves all. Calls on a
+//! tally, which read no record, have a run of their own in `crate::tally`.
 //!
 //! | file | what it holds |
 //! |---|---|
@@ -22,6 +23,7 @@ use crate::implementations::{
 use crate::random::Random;
 use crate::records::{moves, plans, sheets, to_words, z_order, Record};
 use crate::steps::Step;
+use crate::tally::{self, lent};
 use drafts::Draft;
 
 /// What an operation is handed.
@@ -360,9 +362,9 @@ pub const GROUPS: Operation = Operation {
     build: drafts::groups,
     corners: &[
         ("N 1", |call, _| first_word(call) == 1),
-        ("kind 0", |call, _| kind(call) == 0),
-        ("kind 1", |call, _| kind(call) == 1),
-        ("kind 2", |call, _| kind(call) == 2),
+        ("kind 0", |call, _| kind(&call.records[0]) == 0),
+        ("kind 1", |call, _| kind(&call.records[0]) == 1),
+        ("kind 2", |call, _| kind(&call.records[0]) == 2),
         ("a chain of 64", |call, _| depth(call) == 63),
         ("a star of 64", |call, _| {
             first_word(call) == 64 && depth(call) == 1
@@ -372,6 +374,37 @@ pub const GROUPS: Operation = Operation {
         }),
     ],
     ..CARRY_OUT
+};
+
+/// The tally, which is never refused for its length, stands in the answer: all of it is
+/// 0 in a refusal, too. It is full of noise before.
+pub const OPEN_TALLY: Operation = Operation {
+    name: "open tally",
+    checks: &[&OF_SHEET, &OF_PLAN, &[21, 24]],
+    buffers: 0,
+    answer: |implementation, [sheet, plan], _| {
+        let noise = tally::noise(&mut Random::at(sheet.len() as u64, plan.len() as u64));
+        // It lies at another place where the sheet does.
+        let place = sheet.as_ptr() as usize / 4;
+        let open = |tally: &mut _| (implementation.open_tally)(sheet, plan, tally);
+        let (answer, tally) = lent::lend(&noise, place, open).expect("guards as they were");
+        [&[answer.refusal, answer.holds], &tally::words(&tally)[..]].concat()
+    },
+    needed: |_, _| [0, 0],
+    faults: faults::open_tally,
+    corners: &[
+        ("4,096 cells", has_all_cells),
+        ("no cells", |call, _| call.records[0].len() == 12),
+        ("the largest total", |_, answer| answer[4] == MOST_PARTICLES),
+        ("a tree that holds", |_, answer| answer[1] == 1),
+        ("one that does not", |_, answer| answer[1] == 0),
+        ("kind 1", |call, _| kind(&call.records[1]) == 1),
+        ("kind 2", |call, _| kind(&call.records[1]) == 2),
+        ("a plan of another limit", |call, answer| {
+            to_words(&call.records[1])[2] != answer[3]
+        }),
+    ],
+    ..WEIGH
 };
 
 /// It has no refusals; what leads to the empty stretch has numbers here. Those
@@ -403,8 +436,8 @@ pub const TREE_IN_FORCE: Operation = Operation {
     ],
 };
 
-/// All twelve.
-pub const OPERATIONS: [&Operation; 12] = [
+/// All of them.
+pub const OPERATIONS: [&Operation; 13] = [
     &READ_SHEET,
     &READ_PLAN,
     &READ_MOVES,
@@ -416,11 +449,12 @@ pub const OPERATIONS: [&Operation; 12] = [
     &WRITE_ARCHIVE,
     &READ_ARCHIVE,
     &GROUPS,
+    &OPEN_TALLY,
     &TREE_IN_FORCE,
 ];
 
 /// Those that the benchmark measures.
-pub const MEASURED_CALLS: [&Operation; 8] = [
+pub const MEASURED_CALLS: [&Operation; 9] = [
     &WEIGH,
     &PLAN_STEP,
     &CARRY_OUT,
@@ -429,6 +463,7 @@ pub const MEASURED_CALLS: [&Operation; 8] = [
     &WRITE_ARCHIVE,
     &READ_ARCHIVE,
     &GROUPS,
+    &OPEN_TALLY,
 ];
 
 impl Operation {
@@ -463,8 +498,8 @@ fn first_word(call: &Call) -> u32 {
 }
 
 /// The kind of an accepted plan.
-fn kind(call: &Call) -> u32 {
-    to_words(&call.records[0])[1]
+fn kind(plan: &[u8]) -> u32 {
+    to_words(plan)[1]
 }
 
 /// The most steps that a node of an accepted plan is away from the root.

@@ -19,6 +19,8 @@
 //! | `z_order` | Request 2026-05, the record |
 //! | `grouping` | Request 2026-06, the record |
 //! | `operations` | Operations on more than one record; requests 2026-02 and 2026-04 to 2026-06 |
+//! | `tallying` | Request 2026-08 |
+//! | `unopened` | the same on tallies that no opening and calls can have given |
 
 pub mod deciding;
 mod grouping;
@@ -30,8 +32,10 @@ pub mod plan;
 pub mod rebuilding;
 pub mod sheet;
 pub mod table;
+pub mod tallying;
 pub mod transfer;
 pub mod tree;
+pub mod unopened;
 pub mod weighing;
 mod words;
 pub mod z_order;
@@ -43,3 +47,4 @@ pub use operations::{
 };
 pub use plan::read_plan;
 pub use sheet::read_sheet;
+pub use tallying::{open_tally, tally_add, tally_remove};

@@ -5,6 +5,7 @@
 use super::keeping::{Rules, RULES};
 use super::moves::Moves;
 use super::page::page;
+use super::plan::Plan;
 use super::sheet::Sheet;
 use super::table::Table;
 use super::tree::old_tree;
@@ -21,17 +22,7 @@ pub fn weigh(sheet: &[u8], plan: &[u8], least: &mut [u8]) -> WeighedAnswer {
 }
 
 fn try_weigh(sheet: &[u8], plan: &[u8], least: &mut [u8]) -> Result<bool, u32> {
-    // "the sheet's; the plan's"
-    let sheet = sheet::read(sheet)?;
-    let plan = plan::read(plan)?;
-    // "21, their N differ"
-    if sheet.n != plan.n {
-        return Err(21);
-    }
-    // "24, kind 0"
-    if plan.kind == 0 {
-        return Err(24);
-    }
+    let (sheet, plan) = with_tree(sheet, plan)?;
     // "25, buffer under 4N bytes"
     if least.len() < 4 * sheet.n as usize {
         return Err(25);
@@ -44,6 +35,22 @@ fn try_weigh(sheet: &[u8], plan: &[u8], least: &mut [u8]) -> Result<bool, u32> {
     let words: Vec<u32> = weighing.leasts().into_iter().map(to_word).collect();
     store(&to_bytes(&words), least);
     Ok(weighing.holds())
+}
+
+/// The checks of *weigh* up to 24: a sheet, and a plan with a tree of as many nodes.
+pub fn with_tree(sheet: &[u8], plan: &[u8]) -> Result<(Sheet, Plan), u32> {
+    // "the sheet's; the plan's"
+    let sheet = sheet::read(sheet)?;
+    let plan = plan::read(plan)?;
+    // "21, their N differ"
+    if sheet.n != plan.n {
+        return Err(21);
+    }
+    // "24, kind 0"
+    if plan.kind == 0 {
+        return Err(24);
+    }
+    Ok((sheet, plan))
 }
 
 /// *Plan a step* "takes a sheet and an old plan, which may have length 0, and
