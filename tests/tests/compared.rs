@@ -11,6 +11,7 @@ use firrozka_tests::speed::inputs::{Filling, Outcome};
 use firrozka_tests::speed::jobs::{Measured, MEASURED};
 use firrozka_tests::speed::kept::Rest;
 use firrozka_tests::speed::table::Row;
+use firrozka_tests::tally;
 use std::env;
 use std::path::{Path, PathBuf};
 use std::process::Command;
@@ -27,7 +28,9 @@ fn archive() -> PathBuf {
 }
 
 /// What requests brought, the latest first.
-const BROUGHT: [Measured; 5] = [
+const BROUGHT: [Measured; 7] = [
+    Measured::TallyCalls,
+    Measured::OpenTally,
     Measured::Groups,
     Measured::ReadArchive,
     Measured::WriteArchive,
@@ -35,17 +38,24 @@ const BROUGHT: [Measured; 5] = [
     Measured::JoinSheets,
 ];
 
-/// How many of these an archive lacks that is from before request 2026-06, from
-/// before 2026-05, from before 2026-04, and from before 2026-02.
-const LACKED: [usize; 4] = [1, 3, 4, 5];
+/// How many of these an archive lacks that is from before request 2026-08, from before
+/// 2026-06, from before 2026-05, from before 2026-04, and from before 2026-02.
+const LACKED: [usize; 5] = [2, 3, 5, 6, 7];
+
+/// The functions of the archive that do something measured.
+fn functions(measured: Measured) -> Vec<String> {
+    match measured {
+        Measured::TallyCalls => vec!["tally_add".into(), "tally_remove".into()],
+        _ => vec![measured.name().replace(' ', "_")],
+    }
+}
 
 /// The same without some operations.
 fn without(lacked: &[Measured]) -> PathBuf {
     let name = format!("without_{}.a", lacked.len());
     let path = Path::new(env!("CARGO_TARGET_TMPDIR")).join(name);
     let mut rename = Command::new("objcopy");
-    for measured in lacked {
-        let function = measured.name().replace(' ', "_");
+    for function in lacked.iter().copied().flat_map(functions) {
         let other = format!("firrozka_{function}=another_{function}");
         rename.args(["--redefine-sym", &other]);
     }
@@ -55,7 +65,7 @@ fn without(lacked: &[Measured]) -> PathBuf {
 }
 
 /// A row for each operation.
-fn some_rows() -> [Row; 8] {
+fn some_rows() -> [Row; 10] {
     MEASURED.map(|measured| Row {
         measured,
         filling: Filling::Sparse,
@@ -81,6 +91,7 @@ fn both_answer_like_the_second_implementation() {
             let met = operation.run(by, SEED, 100);
             met.unwrap_or_else(|wrong| panic!("{wrong}"));
         }
+        tally::run(by, SEED, 50).unwrap_or_else(|wrong| panic!("{wrong}"));
     }
 }
 
@@ -102,7 +113,8 @@ fn an_archive_without_some_operations() {
 }
 
 /// An archive of version 1.0 is handed the same steps, with t in percents. It
-/// joins no sheets, and writes neither pages nor sheets in Z order nor groups.
+/// joins no sheets, writes neither pages nor sheets in Z order nor groups, and opens no
+/// tally.
 #[test]
 fn sheets_of_another_unit_mean_the_same() {
     let there = |row: &Row| !BROUGHT.contains(&row.measured);
@@ -125,6 +137,7 @@ fn each_version_has_its_rules() {
         (103, &WITH_LEAST),
         (106, &WITH_LEAST),
         (107, &REFERENCE),
+        (108, &REFERENCE),
     ];
     for row in some_rows() {
         let (job, planned) = (row.job(64), row.measured == Measured::PlanStep);

@@ -45,10 +45,10 @@ fn main() {
 /// A line for each row, and the largest median.
 fn print(rows: &[Row], times: &[Vec<[f64; 2]>]) {
     println!(
-        "operation     sheet   outcome                  inputs    | earlier  later | ratio   from     to"
+        "operation            sheet   outcome                  inputs   | earlier  later | ratio   from     to"
     );
     println!(
-        "---------------------------------------------------------+----------------+--------------------"
+        "---------------------------------------------------------------+----------------+--------------------"
     );
     let mut worst: f64 = 0.0;
     for (row, times) in rows.iter().zip(times) {
@@ -57,7 +57,7 @@ fn print(rows: &[Row], times: &[Vec<[f64; 2]>]) {
         let ratios = column(|[earlier, later]| later / earlier);
         let ratio = median(&ratios);
         println!(
-            "{} | {:7.2} {:6.2} | {:5.3} {:6.3} {:6.3}{}",
+            "{} | {:7.3} {:6.3} | {:5.3} {:6.3} {:6.3}{}",
             row.name(),
             median(&column(|times| times[0])),
             median(&column(|times| times[1])),

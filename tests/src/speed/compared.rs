@@ -30,6 +30,9 @@ pub const EARLIER: Implementation = Implementation {
     write_archive: loaded::write_archive::<0>,
     read_archive: loaded::read_archive::<0>,
     groups: loaded::groups::<0>,
+    open_tally: loaded::open_tally::<0>,
+    tally_add: loaded::tally_add::<0>,
+    tally_remove: loaded::tally_remove::<0>,
     ..REFERENCE
 };
 
@@ -44,12 +47,15 @@ pub const LATER: Implementation = Implementation {
     write_archive: loaded::write_archive::<1>,
     read_archive: loaded::read_archive::<1>,
     groups: loaded::groups::<1>,
+    open_tally: loaded::open_tally::<1>,
+    tally_add: loaded::tally_add::<1>,
+    tally_remove: loaded::tally_remove::<1>,
     ..REFERENCE
 };
 
 /// The rows of operations that both archives have. Before request 2026-02 there
 /// was no *join sheets*, before 2026-04 no *traffic page*, before 2026-05 neither *write
-/// archive* nor *read archive*, and before 2026-06 no *groups*.
+/// archive* nor *read archive*, before 2026-06 no *groups*, and before 2026-08 no tally.
 pub fn in_both(archives: [&Path; 2], rows: &[Row]) -> Result<Vec<Row>, String> {
     let folder = Folder::new();
     load(archives, 0, &folder.0)?;
@@ -60,6 +66,8 @@ pub fn in_both(archives: [&Path; 2], rows: &[Row]) -> Result<Vec<Row>, String> {
         Measured::WriteArchive => both(loaded::has_write_archive),
         Measured::ReadArchive => both(loaded::has_read_archive),
         Measured::Groups => both(loaded::has_groups),
+        Measured::OpenTally => both(loaded::has_open_tally),
+        Measured::TallyCalls => both(loaded::has_tally_calls),
         _ => true,
     };
     Ok(rows.iter().filter(there).copied().collect())

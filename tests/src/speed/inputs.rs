@@ -9,8 +9,9 @@ use crate::reference::keeping::{hold_or_least, Undivided};
 use crate::reference::plan;
 use crate::reference::table::Table;
 use crate::steps::Step;
+use crate::tally::openings::tense_table;
 
-/// The tolerance of all sheets, in tenths of a percent.
+/// The tolerance of all sheets but tense ones, in tenths of a percent.
 pub const TOLERANCE: u32 = 100;
 
 /// How many particles a node has on average.
@@ -34,13 +35,16 @@ pub enum Outcome {
     Kept(Form, Rest),
     /// Rebuilt, with an old tree that does not hold or with none.
     Rebuilt(Option<Form>),
+    /// Kept, a chain with a small tolerance, so that one particle more in the deepest
+    /// node's subdomain changes all leasts up to the root's.
+    Tense,
     /// Primary, and the sheet is joined with another, which is filled so.
     Joined(Filling),
 }
 
 pub const FILLINGS: [Filling; 2] = [Filling::Dense, Filling::Sparse];
 
-pub const OUTCOMES: [Outcome; 11] = [
+pub const OUTCOMES: [Outcome; 12] = [
     Outcome::Primary,
     Outcome::Kept(Form::Chain, Rest::Small),
     Outcome::Kept(Form::Chain, Rest::Large),
@@ -50,6 +54,7 @@ pub const OUTCOMES: [Outcome; 11] = [
     Outcome::Kept(Form::Random, Rest::Large),
     Outcome::Rebuilt(None),
     Outcome::Rebuilt(Some(Form::Random)),
+    Outcome::Tense,
     Outcome::Joined(Filling::Dense),
     Outcome::Joined(Filling::Sparse),
 ];
@@ -58,7 +63,7 @@ impl Outcome {
     pub fn kind(self) -> u32 {
         match self {
             Outcome::Primary | Outcome::Joined(_) => 0,
-            Outcome::Kept(..) => 1,
+            Outcome::Kept(..) | Outcome::Tense => 1,
             Outcome::Rebuilt(_) => 2,
         }
     }
@@ -68,6 +73,7 @@ impl Outcome {
         match self {
             Outcome::Primary | Outcome::Joined(_) => None,
             Outcome::Kept(form, _) => Some(form),
+            Outcome::Tense => Some(Form::Chain),
             Outcome::Rebuilt(form) => form,
         }
     }
@@ -78,6 +84,7 @@ impl Outcome {
             (Outcome::Kept(form, rest), _) => {
                 format!("kept, {form:?}, {rest:?} rest").to_lowercase()
             }
+            (Outcome::Tense, _) => "chain, from the deepest".into(),
             (Outcome::Joined(filling), _) => format!("with {filling:?}").to_lowercase(),
             (_, Some(_)) => "rebuilt, old tree".into(),
             (_, None) => "rebuilt, no tree".into(),
@@ -107,6 +114,10 @@ fn is_met(outcome: Outcome, step: &Step) -> bool {
                 let (families, decisions): (Vec<_>, Vec<_>) = families.into_iter().unzip();
                 rest.is_met(&families) && kept::are_met(form, &decisions)
             }
+            Outcome::Tense => {
+                let (leasts, _) = REFERENCE.weighed(&step.sheet, &step.old).expect("a tree");
+                leasts.iter().all(|&least| 0 < least && least < plan.limit)
+            }
             _ => true,
         }
 }
@@ -122,13 +133,18 @@ fn attempt(n: usize, filling: Filling, outcome: Outcome, random: &mut Random) ->
         }
         Outcome::Kept(_, rest) => kept::divided(&helpands, filling, rest, random),
         Outcome::Rebuilt(_) => spread(&uneven(n, random), &helpands, filling, random),
+        Outcome::Tense => tense_table(&helpands, AVERAGE, random),
+    };
+    let t = match outcome {
+        Outcome::Tense => 1,
+        _ => TOLERANCE,
     };
     let old = match outcome.form() {
         Some(_) => plans::plan(2, 0, &helpands, &vec![0; n]).bytes(),
         None => Vec::new(),
     };
     Step {
-        sheet: table.sheet(TOLERANCE).bytes(),
+        sheet: table.sheet(t).bytes(),
         old,
     }
 }

@@ -1,13 +1,18 @@
 //! An operation on some inputs, ready to be timed: done by somebody, or as a
-//! mere copy of the bytes that it reads and writes.
+//! mere copy of the bytes that it reads and writes. Beside calls on a tally, which read
+//! and write few of its bytes, stands *weigh* of the sheet and the tree.
 
 use super::inputs::{self, Filling, Outcome};
 use super::kept::Rest;
 use crate::answers::WrittenAnswer;
-use crate::implementations::{Implementation, MOVES_BYTES, PLAN_BYTES, REFERENCE, SHEET_BYTES};
+use crate::implementations::{
+    Implementation, ARCHIVE, MOVES_BYTES, PLAN_BYTES, REFERENCE, SHEET_BYTES,
+};
 use crate::random::Random;
-use crate::records::plans::Form;
+use crate::records::plans::{self, Form};
 use crate::records::{to_bytes, to_words, z_order};
+use crate::tally::{self, Change, Tally};
+use std::mem;
 use std::ops::Range;
 use std::sync::atomic::{compiler_fence, Ordering};
 
@@ -22,9 +27,11 @@ pub enum Measured {
     WriteArchive,
     ReadArchive,
     Groups,
+    OpenTally,
+    TallyCalls,
 }
 
-pub const MEASURED: [Measured; 8] = [
+pub const MEASURED: [Measured; 10] = [
     Measured::PlanStep,
     Measured::CarryOut,
     Measured::Weigh,
@@ -33,6 +40,8 @@ pub const MEASURED: [Measured; 8] = [
     Measured::WriteArchive,
     Measured::ReadArchive,
     Measured::Groups,
+    Measured::OpenTally,
+    Measured::TallyCalls,
 ];
 
 impl Measured {
@@ -46,19 +55,25 @@ impl Measured {
             Measured::WriteArchive => "write archive",
             Measured::ReadArchive => "read archive",
             Measured::Groups => "groups",
+            Measured::OpenTally => "open tally",
+            Measured::TallyCalls => "tally add and remove",
         }
     }
 
     /// *Weigh* takes a tree, whoever holds the particles, and *join sheets* a
     /// second sheet. To *traffic page* all moves are alike: one outcome of each kind.
     /// To *write archive* and *read archive* all sheets of one filling are. *Groups*
-    /// takes a plan, whatever its sheet and its shares are: one of each tree.
+    /// takes a plan, whatever its sheet and its shares are: one of each tree. A tally has a
+    /// tree, too, and calls on it do not ask how many cells are filled.
     pub fn takes(self, filling: Filling, outcome: Outcome) -> bool {
         let joined = matches!(outcome, Outcome::Joined(_));
-        let again = matches!(outcome, Outcome::Kept(_, Rest::Large));
+        let kept = matches!(outcome, Outcome::Kept(_, Rest::Small));
+        let tense = outcome == Outcome::Tense;
         match self {
-            Measured::PlanStep | Measured::CarryOut => !joined,
-            Measured::Weigh => outcome.form().is_some() && !again,
+            Measured::PlanStep | Measured::CarryOut => !joined && !tense,
+            Measured::Weigh => kept || matches!(outcome, Outcome::Rebuilt(Some(_))),
+            Measured::OpenTally => kept,
+            Measured::TallyCalls => filling == Filling::Sparse && (kept || tense),
             Measured::JoinSheets => joined,
             Measured::TrafficPage => matches!(
                 outcome,
@@ -69,25 +84,32 @@ impl Measured {
             Measured::WriteArchive | Measured::ReadArchive => outcome == Outcome::Primary,
             Measured::Groups => {
                 filling == Filling::Sparse
-                    && matches!(
-                        outcome,
-                        Outcome::Primary | Outcome::Kept(_, Rest::Small) | Outcome::Rebuilt(None)
-                    )
+                    && (kept || matches!(outcome, Outcome::Primary | Outcome::Rebuilt(None)))
             }
         }
     }
 }
 
 /// One call: two records to read, the sheet first, in Z order where that is read, or
-/// a plan alone; and the lengths of what is written.
+/// a plan alone; and the lengths of what is written. On a tally that is opened from the
+/// records there is a change, too.
 #[derive(Clone)]
 struct Call {
     records: [Vec<u8>; 2],
     written: [usize; 2],
+    change: Option<Change>,
+    /// Which of the tallies it is.
+    tally: usize,
 }
 
-/// Two buffers that are long enough for everything.
-pub type Buffers = [Vec<u8>; 2];
+/// What calls write to: two buffers that are long enough for everything, and tallies.
+pub struct Buffers {
+    bytes: [Vec<u8>; 2],
+    tallies: Vec<Tally>,
+}
+
+/// What somebody writes in a call: lengths, buffers and a tally.
+pub type Written = ([usize; 2], [Vec<u8>; 2], Tally);
 
 /// Where a sheet's tolerance lies.
 const TOLERANCE: Range<usize> = 4..8;
@@ -100,15 +122,16 @@ pub struct Job {
 }
 
 impl Job {
-    /// So many calls, all the same or each with another input.
+    /// So many calls, all the same or each with another input. Calls on a tally take turns
+    /// in adding and removing a particle, which leaves the tally as it was, and go through
+    /// all subdomains.
     pub fn new(
         measured: Measured,
         (n, filling, outcome): (usize, Filling, Outcome),
         calls: usize,
         changing: bool,
     ) -> Job {
-        let call = |index| {
-            let index = if changing { index } else { 0 };
+        let input = |index: usize| {
             let mut random = Random::at(n as u64, index as u64);
             let step = inputs::step(n, filling, outcome, &mut random);
             let records = match (measured, outcome) {
@@ -128,12 +151,21 @@ impl Job {
             Call {
                 records,
                 written: [0, 0],
+                change: None,
+                tally: match measured {
+                    Measured::TallyCalls => index,
+                    _ => 0,
+                },
             }
         };
-        let mut job = Job {
-            measured,
-            calls: (0..calls).map(call).collect(),
+        let inputs: Vec<Call> = (0..if changing { calls } else { 1 }).map(input).collect();
+        let calls = match measured {
+            Measured::TallyCalls => on_tallies(&inputs, outcome),
+            _ => (0..calls)
+                .map(|at| inputs[at % inputs.len()].clone())
+                .collect(),
         };
+        let mut job = Job { measured, calls };
         job.settle();
         job
     }
@@ -150,8 +182,26 @@ impl Job {
         job
     }
 
-    pub fn buffers() -> Buffers {
-        [vec![0; SHEET_BYTES.max(MOVES_BYTES)], vec![0; PLAN_BYTES]]
+    pub fn buffers(&self) -> Buffers {
+        Buffers {
+            bytes: bytes(),
+            tallies: self.tallies(),
+        }
+    }
+
+    /// A tally that is opened for each input, where it is to be changed; else one.
+    fn tallies(&self) -> Vec<Tally> {
+        let mut tallies = Vec::new();
+        for call in &self.calls {
+            if call.tally == tallies.len() {
+                let [sheet, plan] = &call.records;
+                tallies.push(match self.measured {
+                    Measured::TallyCalls => REFERENCE.opened(sheet, plan).expect("accepted").0,
+                    _ => Tally::NONE,
+                });
+            }
+        }
+        tallies
     }
 
     /// How many calls there are.
@@ -161,7 +211,7 @@ impl Job {
 
     /// Notes how much each call writes.
     fn settle(&mut self) {
-        let mut buffers = Job::buffers();
+        let mut buffers = self.buffers();
         let measured = self.measured;
         for call in &mut self.calls {
             call.written = one(measured, &REFERENCE, call, &mut buffers);
@@ -175,15 +225,15 @@ impl Job {
         }
     }
 
-    /// For each call a copy of the bytes that it reads and of as many as it writes.
-    /// The fence keeps the compiler from leaving out a copy.
-    pub fn copy(&self, scratch: &mut Buffers, buffers: &mut Buffers) {
+    /// What stands beside the calls: for each a copy of its bytes or, where it is one on a
+    /// tally, *weigh* by the archive.
+    pub fn beside(&self, scratch: &mut Buffers, buffers: &mut Buffers) {
         for call in &self.calls {
-            for at in [0, 1] {
-                let (record, length) = (&call.records[at], call.written[at]);
-                scratch[0][..record.len()].copy_from_slice(record);
-                buffers[at][..length].copy_from_slice(&scratch[at][..length]);
-                compiler_fence(Ordering::SeqCst);
+            match self.measured {
+                Measured::TallyCalls => {
+                    one(Measured::Weigh, &ARCHIVE, call, buffers);
+                }
+                _ => copy(call, &mut scratch.bytes, &mut buffers.bytes),
             }
         }
     }
@@ -194,26 +244,65 @@ impl Job {
         assert!(agree, "{} and {} differ", by.name, other.name);
     }
 
-    /// What somebody writes in each call: lengths and buffers. In place of a
-    /// sheet's tolerance, which may be counted in another unit elsewhere, stands
-    /// whether it is that of the sheet before.
-    pub fn written(&self, by: &Implementation) -> Vec<([usize; 2], Buffers)> {
+    /// What somebody writes in each call. In place of a sheet's tolerance, which may be
+    /// counted in another unit elsewhere, stands whether it is that of the sheet before.
+    pub fn written(&self, by: &Implementation) -> Vec<Written> {
+        let mut buffers = self.buffers();
         let write = |call: &Call| {
-            let mut buffers = Job::buffers();
             let lengths = one(self.measured, by, call, &mut buffers);
+            let mut written = mem::replace(&mut buffers.bytes, bytes());
             if self.measured == Measured::CarryOut {
-                let same = buffers[0][TOLERANCE] == call.records[0][TOLERANCE];
-                buffers[0][TOLERANCE].fill(same.into());
+                let same = written[0][TOLERANCE] == call.records[0][TOLERANCE];
+                written[0][TOLERANCE].fill(same.into());
             }
-            (lengths, buffers)
+            (lengths, written, buffers.tallies[call.tally].clone())
         };
         self.calls.iter().map(write).collect()
     }
 }
 
+/// Two buffers that are long enough for everything.
+fn bytes() -> [Vec<u8>; 2] {
+    [vec![0; SHEET_BYTES.max(MOVES_BYTES)], vec![0; PLAN_BYTES]]
+}
+
+/// Calls on tallies that are opened from these: for each of 64 subdomains one that adds
+/// a particle and one that removes it again. In a tense chain it is the deepest node's.
+fn on_tallies(inputs: &[Call], outcome: Outcome) -> Vec<Call> {
+    let calls = |at: usize| {
+        let call = &inputs[at % inputs.len()];
+        let helpands = plans::of(&call.records[1]).first().to_vec();
+        let n = helpands.len() as u32;
+        let leaf = (0..n).find(|node| !helpands.contains(node));
+        let subdomain = match outcome {
+            Outcome::Tense => leaf.expect("a chain ends"),
+            _ => at as u32 % n,
+        };
+        let holder = Random::at(at as u64, u64::from(n)).below(n);
+        let change = Change::add(holder, subdomain, 1);
+        [change, change.back()].map(|change| Call {
+            change: Some(change),
+            ..call.clone()
+        })
+    };
+    (0..64).flat_map(calls).collect()
+}
+
+/// A copy of the bytes that a call reads and of as many as it writes. The fence keeps the
+/// compiler from leaving out a copy.
+fn copy(call: &Call, scratch: &mut [Vec<u8>; 2], buffers: &mut [Vec<u8>; 2]) {
+    for at in [0, 1] {
+        let (record, length) = (&call.records[at], call.written[at]);
+        scratch[0][..record.len()].copy_from_slice(record);
+        buffers[at][..length].copy_from_slice(&scratch[at][..length]);
+        compiler_fence(Ordering::SeqCst);
+    }
+}
+
 /// One call. Gives how many bytes were written to each buffer.
-fn one(measured: Measured, by: &Implementation, call: &Call, [a, b]: &mut Buffers) -> [usize; 2] {
+fn one(measured: Measured, by: &Implementation, call: &Call, buffers: &mut Buffers) -> [usize; 2] {
     let [first, second] = &call.records;
+    let ([a, b], tally) = (&mut buffers.bytes, &mut buffers.tallies[call.tally]);
     match measured {
         Measured::PlanStep => {
             let answer = (by.plan_step)(first, second, b, a);
@@ -230,6 +319,16 @@ fn one(measured: Measured, by: &Implementation, call: &Call, [a, b]: &mut Buffer
             let answer = (by.weigh)(first, second, a);
             assert_eq!(answer.refusal, 0);
             [second.len() / 2 - 6, 0]
+        }
+        Measured::OpenTally => {
+            let answer = (by.open_tally)(first, second, tally);
+            assert_eq!(answer.refusal, 0);
+            [4 * tally::WORDS, 0]
+        }
+        Measured::TallyCalls => {
+            let change = call.change.expect("a change");
+            assert_eq!(change.by(by, tally).refusal, 0);
+            [0, 0]
         }
     }
 }

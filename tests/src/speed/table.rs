@@ -21,8 +21,8 @@ pub struct Row {
 }
 
 pub const HEAD: &str = "\
-operation     sheet   outcome                  inputs    |     8     16     32     64 | plain   copy | /plain  /copy  noise | 64/32
----------------------------------------------------------+----------------------------+--------------+----------------------+------";
+operation            sheet   outcome                  inputs   |      8     16     32     64 |  plain beside | /plain /beside noise | 64/32
+---------------------------------------------------------------+-----------------------------+---------------+----------------------+-----";
 
 /// All rows, in the order in which they are printed.
 pub fn rows() -> Vec<Row> {
@@ -65,7 +65,7 @@ impl Row {
             "repeated"
         };
         format!(
-            "{:13} {:7} {:24} {:9}",
+            "{:20} {:7} {:24} {:8}",
             self.measured.name(),
             format!("{:?}", self.filling).to_lowercase(),
             self.outcome.name(),
@@ -76,15 +76,15 @@ impl Row {
     /// The row as it is printed.
     pub fn line(&self, times: &[Times; 4]) -> String {
         let [a, b, c, last] = times;
-        let sizes = [a, b, c, last].map(|times| format!("{:6.2}", times.archive));
+        let sizes = [a, b, c, last].map(|times| format!("{:6.3}", times.archive));
         format!(
-            "{} | {} | {:5.2} {:6.2} | {:6.2} {:6.1} {:5.1}% | {:5.2}",
+            "{} | {} | {:6.3} {:6.3} | {:6.2} {:7.2} {:4.1}% | {:5.2}",
             self.name(),
             sizes.join(" "),
             last.plain,
-            last.copy,
+            last.beside,
             last.archive / last.plain,
-            last.archive / last.copy,
+            last.archive / last.beside,
             100.0 * last.noise,
             last.archive / c.archive,
         )

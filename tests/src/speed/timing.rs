@@ -19,7 +19,8 @@ const LEVELS: usize = 13;
 pub struct Times {
     pub archive: f64,
     pub plain: f64,
-    pub copy: f64,
+    /// A copy of the same bytes; beside calls on a tally, *weigh*.
+    pub beside: f64,
     /// Half the distance of the archive's quartiles, as a part of its median.
     pub noise: f64,
 }
@@ -27,20 +28,20 @@ pub struct Times {
 /// Times a job.
 pub fn time(job: &Job, samples: usize) -> Times {
     job.check(&ARCHIVE, &PLAIN);
-    let mut scratch = Job::buffers();
-    let [archive, plain, copy] = in_turn(
+    let mut scratch = job.buffers();
+    let [archive, plain, beside] = in_turn(
         job,
         samples,
         [
             &mut |buffers| job.run(&ARCHIVE, buffers),
             &mut |buffers| job.run(&PLAIN, buffers),
-            &mut |buffers| job.copy(&mut scratch, buffers),
+            &mut |buffers| job.beside(&mut scratch, buffers),
         ],
     );
     Times {
         archive: archive[1],
         plain: plain[1],
-        copy: copy[1],
+        beside: beside[1],
         noise: (archive[2] - archive[0]) / 2.0 / archive[1],
     }
 }
@@ -52,7 +53,7 @@ pub fn in_turn<const K: usize>(
     samples: usize,
     mut runs: [&mut dyn FnMut(&mut Buffers); K],
 ) -> [[f64; 3]; K] {
-    let mut buffers = Job::buffers();
+    let mut buffers = job.buffers();
     let mut times = [(); K].map(|_| Vec::with_capacity(samples));
     for turn in 0..samples {
         let depth = turn % PLACES * LEVELS;
