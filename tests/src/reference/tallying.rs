@@ -67,15 +67,18 @@ impl Open {
         Ok(())
     }
 
-    /// "worked out afresh from the present counts with that limit": the leasts, and
-    /// whether the tree holds.
-    pub fn weighed(&self) -> (Vec<u64>, bool) {
-        let weighing = Weighing {
+    /// The tree under the totals of "the present counts with that limit".
+    fn weighing<'a>(&'a self, totals: &'a [u64]) -> Weighing<'a> {
+        Weighing {
             helpands: &self.helpands,
-            totals: &self.held.totals(),
+            totals,
             limit: self.limit,
-        };
-        (weighing.leasts(), weighing.holds())
+        }
+    }
+
+    /// "says whether the tree holds"
+    pub fn holds(&self) -> bool {
+        self.weighing(&self.held.totals()).holds()
     }
 
     /// The tally as the caller has it.
@@ -84,7 +87,8 @@ impl Open {
         tally.n = self.nodes() as u32;
         tally.limit = to_word(self.limit);
         tally.total = to_word(self.total());
-        let (totals, (leasts, _)) = (self.held.totals(), self.weighed());
+        let totals = self.held.totals();
+        let leasts = self.weighing(&totals).leasts();
         for node in 0..self.nodes() {
             tally.helpands[node] = self.helpands[node];
             tally.totals[node] = to_word(totals[node]);
@@ -97,7 +101,7 @@ impl Open {
     }
 
     /// The open tally that stands here. Nothing if no opening and calls can have given
-    /// what stands here, whatever the limit of the opening sheet was.
+    /// this, with whatever limit.
     fn of(tally: &Tally) -> Option<Open> {
         let n = NODES.contains(&tally.n).then_some(tally.n as usize)?;
         let tree = Plan {
@@ -107,17 +111,16 @@ impl Open {
             helpands: tally.helpands[..n].to_vec(),
             shares: vec![0; n],
         };
-        let plan = plan::read(&tree.bytes()).ok()?;
-        let row = |holder: usize| tally.counts[holder * 64..][..n].iter();
-        let open = Open {
-            held: Table {
-                counts: (0..n)
-                    .map(|node| row(node).map(|&it| it.into()).collect())
-                    .collect(),
-            },
+        let mut open = Open {
+            held: Table::empty(n),
             limit: u64::from(tally.limit),
-            helpands: plan.helpands,
+            helpands: plan::read(&tree.bytes()).ok()?.helpands,
         };
+        for (holder, counts) in open.held.counts.iter_mut().enumerate() {
+            for (subdomain, count) in counts.iter_mut().enumerate() {
+                *count = u64::from(tally.counts[holder * 64 + subdomain]);
+            }
+        }
         let fits = open.total() <= u64::from(MOST_PARTICLES);
         Some(open).filter(|open| fits && open.tally() == *tally)
     }
@@ -129,7 +132,7 @@ pub fn open_tally(sheet: &[u8], plan: &[u8], tally: &mut Tally) -> TalliedAnswer
     match Open::new(sheet, plan) {
         Ok(open) => {
             *tally = open.tally();
-            answers::tallied(open.weighed().1)
+            answers::tallied(open.holds())
         }
         Err(refusal) => {
             *tally = Tally::NONE;
@@ -158,7 +161,7 @@ fn call(tally: &mut Tally, change: &Change) -> TalliedAnswer {
     match open.change(change) {
         Ok(()) => {
             *tally = open.tally();
-            answers::tallied(open.weighed().1)
+            answers::tallied(open.holds())
         }
         Err(refusal) => Answer::refused(refusal),
     }

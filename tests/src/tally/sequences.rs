@@ -197,7 +197,7 @@ fn brink(open: &Open, change: &Change) -> Option<u32> {
     let holds_with = |more: u64| {
         let mut fuller = open.clone();
         *fuller.held.counts.get_mut(holder)?.get_mut(subdomain)? += more;
-        Some(fuller.weighed().1)
+        Some(fuller.holds())
     };
     if !holds_with(0)? {
         return None;
@@ -243,7 +243,7 @@ fn check(
     (answer, after): (TalliedAnswer, &Tally),
 ) -> Result<(), String> {
     let expected = match open.change(change) {
-        Ok(()) => answers::tallied(open.weighed().1),
+        Ok(()) => answers::tallied(open.holds()),
         Err(refusal) => Answer::refused(refusal),
     };
     let faults = faults(before, change);
