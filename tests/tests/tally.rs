@@ -4,7 +4,6 @@
 #![forbid(unsafe_code)]
 
 use firrozka_tests::answers::{tallied, Answer, TalliedAnswer};
-use firrozka_tests::demands::has_rival;
 use firrozka_tests::exhaustive::{rows, trees};
 use firrozka_tests::implementations::{Implementation, IMPLEMENTATIONS};
 use firrozka_tests::random::Random;
@@ -13,7 +12,9 @@ use firrozka_tests::records::sheets::{self, held};
 use firrozka_tests::refused;
 use firrozka_tests::settings::SEED;
 use firrozka_tests::steps::Step;
-use firrozka_tests::tally::{changes, compare, noise, of_words, openings, words, Change, Tally};
+use firrozka_tests::tally::{
+    changes, compare, has_division, noise, of_words, openings, words, Change, Tally,
+};
 use firrozka_tests::worked::{self, ONE_PERCENT, TEN_PERCENT};
 
 const MOST: u32 = 1_000_000_000;
@@ -236,16 +237,8 @@ fn lent_to_each_call() {
     }
 }
 
-/// Whether there is a division along the tally's tree within its limit.
-fn flows(tally: &Tally) -> bool {
-    let n = tally.n as usize;
-    let totals: Vec<u64> = tally.totals[..n].iter().map(|&it| it.into()).collect();
-    has_rival(&tally.helpands[..n], &totals, tally.limit.into()).expect("proven")
-}
-
 /// Every tree of up to four nodes with few particles, and every small call: what is said
-/// of the tree is what the flow says, and the tally is one that is opened from the
-/// present counts with the same limit.
+/// of the tree is what a flow says, and the call taken back leaves the tally as it was.
 #[test]
 fn every_small_tree() {
     for (n, bound) in [(2, 6), (3, 4), (4, 3)] {
@@ -262,7 +255,7 @@ fn every_small_tree() {
 
 fn every_small_call(by: &Implementation, step: &Step) {
     let (tally, holds) = opened(by, step);
-    assert_eq!(holds, flows(&tally));
+    assert_eq!(Ok(holds), has_division(&tally));
     for subdomain in 0..tally.n {
         for count in 1..=3 {
             for change in [
@@ -272,7 +265,8 @@ fn every_small_call(by: &Implementation, step: &Step) {
                 let mut after = tally.clone();
                 let answer = change.by(by, &mut after);
                 if answer.refusal == 0 {
-                    assert_eq!(answer, tallied(flows(&after)), "{change:?}\n{step}");
+                    let holds_now = has_division(&after).map(tallied);
+                    assert_eq!(Ok(answer), holds_now, "{change:?}\n{step}");
                     assert_eq!(change.back().by(by, &mut after), tallied(holds));
                 }
                 is(&after, &tally);

@@ -3,6 +3,7 @@
 use super::{Change, Tally, Way};
 use crate::bounds::{MOST_PARTICLES, NODES};
 use crate::random::Random;
+use crate::records::sheets::cell;
 
 /// Some call on this tally, which may be none that was opened.
 pub fn some(tally: &Tally, random: &mut Random) -> Change {
@@ -34,7 +35,7 @@ fn some_cell(tally: &Tally, way: Way, random: &mut Random) -> [u32; 2] {
 
 /// A number that is not below N: just so, far from it, or such that 64 times it is 0 in
 /// 32 bits.
-fn no_node(n: u32, random: &mut Random) -> u32 {
+pub fn no_node(n: u32, random: &mut Random) -> u32 {
     let more = n.saturating_add(random.below(64));
     let far = random.one_of(&[63, 64, 65, 1 << 26, 1 << 31, u32::MAX]);
     random.one_of(&[n, n, more, far]).max(n)
@@ -42,14 +43,11 @@ fn no_node(n: u32, random: &mut Random) -> u32 {
 
 /// One of the first N × N cells with a count above 0.
 fn filled(tally: &Tally, n: u32, random: &mut Random) -> Option<[u32; 2]> {
-    let filled = |&[holder, subdomain]: &[u32; 2]| tally.counts[at(holder, subdomain)] > 0;
+    let filled =
+        |&[holder, subdomain]: &[u32; 2]| tally.counts[cell(holder, subdomain) as usize] > 0;
     let cells = (0..n * n).map(|k| [k / n, k % n]).filter(filled);
     let cells: Vec<[u32; 2]> = cells.collect();
     (!cells.is_empty()).then(|| random.one_of(&cells))
-}
-
-fn at(holder: u32, subdomain: u32) -> usize {
-    (holder * 64 + subdomain) as usize
 }
 
 /// Counts for a call on this cell: 0, small ones, what the cell has, what is left to the
@@ -70,14 +68,14 @@ fn counts(tally: &Tally, change: &Change, random: &mut Random) -> Vec<u32> {
     }
     if change.holder.max(change.subdomain) < *NODES.end() {
         let least = tally.leasts[change.subdomain as usize];
-        let cell = tally.counts[at(change.holder, change.subdomain)];
+        let held = tally.counts[cell(change.holder, change.subdomain) as usize];
         let total = tally.totals[change.subdomain as usize];
         around(least);
         match change.way {
             Way::Add => around(tally.limit.saturating_sub(least)),
             Way::Remove => {
-                around(cell);
-                around(random.between(0, cell));
+                around(held);
+                around(random.between(0, held));
                 around(total);
                 around(least.saturating_sub(tally.limit));
             }

@@ -1,6 +1,7 @@
 //! Tallies that no opening and calls can have given: opened ones with some words
 //! changed, and noise.
 
+use super::changes::no_node;
 use super::{noise, openings, Tally};
 use crate::bounds::{MOST_LIMIT, MOST_PARTICLES, NODES};
 use crate::random::Random;
@@ -89,13 +90,6 @@ fn some_nodes(n: u32, random: &mut Random) -> u32 {
     random.one_of(&[n.wrapping_sub(1), n.wrapping_add(1), far, far])
 }
 
-/// A helpand that is not below N.
-fn no_node(n: u32, random: &mut Random) -> u32 {
-    random
-        .one_of(&[n, n.saturating_add(1), 63, 64, 1 << 31, u32::MAX])
-        .max(n)
-}
-
 /// A word beside what stands there, at a bound, or any.
 fn near(word: u32, bound: u32, random: &mut Random) -> u32 {
     let any = random.word();
@@ -123,11 +117,11 @@ fn second_root(tally: &mut Tally, random: &mut Random) {
 /// of helpands go round.
 fn without_root(tally: &mut Tally, random: &mut Random) {
     let n = tally.n.clamp(1, 64) as usize;
-    for at in (0..n)
-        .filter(|&at| tally.helpands[at] as usize == at)
-        .collect::<Vec<_>>()
-    {
-        tally.helpands[at] = ((at + 1 + random.place(n)) % n) as u32;
+    for at in 0..n {
+        if tally.helpands[at] as usize == at {
+            let further = 1 + random.place(n.max(2) - 1);
+            tally.helpands[at] = ((at + further) % n) as u32;
+        }
     }
 }
 

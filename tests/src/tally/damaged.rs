@@ -6,6 +6,7 @@ use crate::answers::TalliedAnswer;
 use crate::bounds::{MOST_LIMIT, MOST_PARTICLES};
 use crate::implementations::{Implementation, ARCHIVE};
 use crate::random::Random;
+use crate::reference::tree::helpers;
 use crate::reference::unopened::{self, reasons, Reason};
 use crate::settings::{seed, setting, SEED};
 
@@ -81,10 +82,9 @@ impl Called<'_> {
     /// Whether the subdomain's helpers spare more than a word holds.
     fn spares_much(&self) -> bool {
         let (tally, owner) = (self.after, self.change.subdomain as usize);
-        let helps = |&node: &usize| node != owner && tally.helpands[node] as usize == owner;
+        let helpers = helpers(&tally.helpands[..tally.n as usize], owner);
         let spare = |node: usize| u64::from(tally.limit.saturating_sub(tally.leasts[node]));
-        let all = (0..tally.n as usize).filter(helps).map(spare).sum::<u64>();
-        all > u64::from(u32::MAX)
+        helpers.into_iter().map(spare).sum::<u64>() > u64::from(u32::MAX)
     }
 }
 

@@ -18,6 +18,7 @@ pub mod openings;
 pub mod sequences;
 
 use crate::answers::TalliedAnswer;
+use crate::demands::has_rival;
 use crate::implementations::Implementation;
 use crate::random::Random;
 
@@ -145,6 +146,14 @@ pub fn shown(tally: &Tally) -> String {
     let head = [tally.n, tally.limit, tally.total];
     let nodes = [&tally.helpands, &tally.totals, &tally.leasts].map(|it| &it[..n]);
     format!("n, limit and total {head:?}, helpands, totals and leasts {nodes:?}")
+}
+
+/// Whether there is a division along the tally's tree within its limit, by a search for
+/// a flow.
+pub fn has_division(tally: &Tally) -> Result<bool, String> {
+    let n = tally.n as usize;
+    let totals: Vec<u64> = tally.totals[..n].iter().map(|&it| it.into()).collect();
+    has_rival(&tally.helpands[..n], &totals, tally.limit.into())
 }
 
 /// So many sequences of calls on open tallies, and calls on as many damaged ones. Gives

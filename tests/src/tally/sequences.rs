@@ -4,11 +4,10 @@
 //! be, and at the end of a sequence *weigh* and another opening say what the leasts are.
 
 use super::openings::{self, Opening};
-use super::{changes, compare, lent, shown, Change, Tally, Way};
+use super::{changes, compare, has_division, lent, shown, Change, Tally, Way};
 use crate::answers::{self, Answer, TalliedAnswer};
 use crate::bounds::{MOST_PARTICLES, TOLERANCE};
 use crate::coverage::Coverage;
-use crate::demands::has_rival;
 use crate::faults::{holding, pairs};
 use crate::implementations::{Implementation, ARCHIVE};
 use crate::random::Random;
@@ -96,6 +95,7 @@ pub fn test(usual: usize) {
     let sequences = setting("FIRROZKA_ROUNDS", usual);
     let met = run(&ARCHIVE, seed(), sequences).unwrap_or_else(|wrong| panic!("{wrong}"));
     println!("calls on tallies: {}", met.coverage);
+    println!("  {} tallies weighed at the end", met.weighed);
     let mut gaps = met.coverage.gaps(&OF_CALL, &pairs(&OF_CALL));
     if sequences >= usual {
         let corners = CORNERS.iter().zip(&met.corners);
@@ -266,13 +266,10 @@ fn check(
 
 /// A tree holds exactly when there is a division along it within the tally's limit.
 fn judge(answer: TalliedAnswer, tally: &Tally) -> Result<(), String> {
-    let n = tally.n as usize;
-    if n > FEW || answer.refusal != 0 {
+    if tally.n as usize > FEW || answer.refusal != 0 {
         return Ok(());
     }
-    let totals: Vec<u64> = tally.totals[..n].iter().map(|&it| it.into()).collect();
-    let rival = has_rival(&tally.helpands[..n], &totals, tally.limit.into())?;
-    match rival == (answer.holds == 1) {
+    match has_division(tally)? == (answer.holds == 1) {
         true => Ok(()),
         false => Err("the flow and the tally disagree".into()),
     }
