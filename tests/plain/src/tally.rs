@@ -91,7 +91,7 @@ fn helpers(helpands: &[u32]) -> Helpers {
 fn renew(tally: &mut Tally, node: usize) {
     let helpers = helpers(&tally.helpands[..tally.n as usize]);
     let mut at = node;
-    for _ in 0..tally.n {
+    for _ in 0..=tally.n {
         let mut least = tally.totals[at];
         let mut helper = helpers.first[at];
         while helper < NONE {
