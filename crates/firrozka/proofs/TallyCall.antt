@@ -1,6 +1,6 @@
 -- The functions that add and remove particles in a tally meet their contracts: they differ in one constant, so that one walk of their code,
--- by hand, serves both. The borrow is opened, the summary is copied out, the counts are lent to `change` where they lie and come back, the
--- summary that `change` returned is stored, and the borrow is closed. All that is known of `change` is its contract. Assumes nothing.
+-- by hand, serves both. The borrow is opened, the head is copied out, the cells are lent to `change` where they lie and come back, the
+-- head that `change` returned is stored, and the borrow is closed. All that is known of `change` is its contract. Assumes nothing.
 use mathlib.Core.Path.{_≡_, refl, ap}
 use mathlib.Core.Bool.{Bool, true, false}
 use Prim.Native.Nat.{ℕ, _+_, _<_, _^_}
@@ -47,11 +47,11 @@ use denote.Triple.Walked.{says, Stays, stay-ref, stay-none, walkOf, goes-none, g
 use denote.Exit.{yes}
 use Rattle.tally.specs.Call.{callOf}
 use Rattle.tally.specs.Tally.{tallyWith, callAnswer, tallyAfter, callResult}
-use Rattle.tally.specs.declared.Summary.{Summary}
+use Rattle.tally.specs.declared.Head.{Head}
 use Rattle.tally.specs.declared.Tally.{Tally}
 use Rattle.tally.specs.declared.Tallied.{Tallied}
-use Rattle.tally.proofs.Summary as S
-use Rattle.tally.proofs.Summary.Laws as S′
+use Rattle.tally.proofs.Head as S
+use Rattle.tally.proofs.Head.Laws as S′
 use Rattle.tally.proofs.Tally as T
 use Rattle.tally.proofs.Tally.Laws as T′
 use Rattle.tally.proofs.Tallied as D
@@ -87,7 +87,7 @@ function adds = record {
   params = 4;
   locals =
       of-type R′.mir ∷ of-type lent-tally ∷ of-type (tyInt w32) ∷ of-type (tyInt w32) ∷ of-type (tyInt w32) ∷ of-type D′.mir
-      ∷ of-type S′.mir ∷ of-type (tyRef erased mut (tyArray (tyInt w32) 4096)) ∷ [];
+      ∷ of-type S′.mir ∷ of-type (tyRef erased mut (tyArray (tyInt w32) 4224)) ∷ [];
   body =
       seq (assign (place 6 []) (rvOpd (copy (part-of 0)))) (
       seq (assign (place 7 []) (addrOf (part-of 1))) (
@@ -124,12 +124,12 @@ stayed = (
 abbrev pub Changes : {M : Type 1} (𝓤 : URA M) (H : Heap 𝓤) (A : Atoms 𝓤) (mem : Memory → SProp 𝓤) (run : Routine → Fun 𝓤) → Contract 𝓤
 Changes 𝓤 H A mem run = tripleOf 𝓤 H A change.signature (change.spec 𝓤 H A mem run)
 
--- the type of the counts, and how far into the tally they lie
+-- the type of the cells, and how far into the tally they lie
 abbrev pub Arr : RattleType
-Arr = Array u32 4096
+Arr = Array u32 4224
 
 abbrev pub far : ℕ
-far = 780
+far = 268
 
 module _ {M : Type 1} (𝓤 : URA M) (H : Heap 𝓤) (A : Atoms 𝓤) (W : Given 𝓤 H A) (at-mem : Memory → SProp 𝓤) (run : Routine → Fun 𝓤)
     (κ : Lft) (q : Share) (b o : ℕ) (γ : GName) (h : Tally) (n₁ n₂ n₃ : ℕ) (fits₁ : n₁ < 2 ^ 32) (fits₂ : n₂ < 2 ^ 32) (fits₃ : n₃ < 2 ^ 32)
@@ -140,62 +140,62 @@ module _ {M : Type 1} (𝓤 : URA M) (H : Heap 𝓤) (A : Atoms 𝓤) (W : Given
   abbrev at : List Val × (List Val × (List Val × (List Val × Unit {0})))
   at = (vptr b o ∷ [], (vint w32 n₁ ∷ [], (vint w32 n₂ ∷ [], (vint w32 n₃ ∷ [], tt))))
 
-  -- the machine values of a tally, of its summary and of an answer
+  -- the machine values of a tally, of its head and of an answer
   abbrev mach : Tally → Val
   mach t = LL.val T.the-type T′.the-laws t
 
-  abbrev summary : Summary → Val
-  summary s = LL.val S.the-type S′.the-laws s
+  abbrev head : Head → Val
+  head s = LL.val S.the-type S′.the-laws s
 
   abbrev answer : Tallied → Val
   answer r = LL.val R.the-type R′.the-laws (r .answer)
 
-  -- what `change` finds, the counts after it, and the tally in between and after it
+  -- what `change` finds, the cells after it, and the tally in between and after it
   abbrev found : Tallied
   found = callResult h (callOf adds n₁ n₂ n₃)
 
   abbrev ys : List ℕ
-  ys = tallyAfter h (callOf adds n₁ n₂ n₃) .counts
+  ys = tallyAfter h (callOf adds n₁ n₂ n₃) .cells
 
-  abbrev next : Summary → Tally
+  abbrev next : Head → Tally
   next s = tallyWith s ys
 
   abbrev Post : Val → SProp 𝓤
   Post = walkOf 𝓤 H A f.ended stayed (clauses 𝓤 adds) .post (((κ, tt), (q, tt), tt, x, at), tt)
 
-  -- the counts, out of the tally, and back with what `change` stored
-  counts-out : Cut 𝓤 H A fullShare T.the-row Arr far h (next (h .summary)) (h .counts) ys (b, o)
-  counts-out =
-      cut-array 𝓤 H A fullShare T.the-row u32 4096 far h (next (h .summary)) (h .counts) ys (b, o)
-      (put-at 𝓤 H A W fullShare T.the-type T′.the-laws 1 far refl refl (b, o) h (next (h .summary)) (h .summary, (h .counts, tt)) ys refl
+  -- the cells, out of the tally, and back with what `change` stored
+  cells-out : Cut 𝓤 H A fullShare T.the-row Arr far h (next (h .head)) (h .cells) ys (b, o)
+  cells-out =
+      cut-array 𝓤 H A fullShare T.the-row u32 4224 far h (next (h .head)) (h .cells) ys (b, o)
+      (put-at 𝓤 H A W fullShare T.the-type T′.the-laws 1 far refl refl (b, o) h (next (h .head)) (h .head, (h .cells, tt)) ys refl
       refl)
 
   -- what is known of the fields
-  summary-is : (t : Tally) (v : Val) → Is T.the-row t (v ∷ []) → Is S.the-row (t .summary) (summary (t .summary) ∷ [])
-  summary-is t v is = LL.owed T.the-type T′.the-laws t _ is .0
+  head-is : (t : Tally) (v : Val) → Is T.the-row t (v ∷ []) → Is S.the-row (t .head) (head (t .head) ∷ [])
+  head-is t v is = LL.owed T.the-type T′.the-laws t _ is .0
 
   answer-is : (r : Tallied) (v : Val) → Is D.the-row r (v ∷ []) → Is R.the-row (r .answer) (answer r ∷ [])
   answer-is r v is = LL.owed D.the-type D′.the-laws r _ is .0
 
-  next-is : (r : Tallied) (v : Val) → Is D.the-row r (v ∷ []) → Is S.the-row (r .summary) (summary (r .summary) ∷ [])
+  next-is : (r : Tallied) (v : Val) → Is D.the-row r (v ∷ []) → Is S.the-row (r .head) (head (r .head) ∷ [])
   next-is r v is = LL.owed D.the-type D′.the-laws r _ is .1 .0
 
-  made : (r : Tallied) (v w : Val) → Is D.the-row r (v ∷ []) → Is T.the-row (next (h .summary)) (w ∷ [])
-      → Is T.the-row (next (r .summary)) (mach (next (r .summary)) ∷ [])
+  made : (r : Tallied) (v w : Val) → Is D.the-row r (v ∷ []) → Is T.the-row (next (h .head)) (w ∷ [])
+      → Is T.the-row (next (r .head)) (mach (next (r .head)) ∷ [])
   made r v w is was =
-      LL.owes T.the-type T′.the-laws (next (r .summary)) (next-is r v is, LL.owed T.the-type T′.the-laws (next (h .summary)) _ was .1)
+      LL.owes T.the-type T′.the-laws (next (r .head)) (next-is r v is, LL.owed T.the-type T′.the-laws (next (h .head)) _ was .1)
 
   -- the last observation, the borrow and its token
   abbrev end : Tallied → List (Item 𝓤)
-  end r = ‵ (fobs γ (T.the-row .coded .code (next (r .summary)))) ∷ ‵ (fbor κ (Body (mem T.the-row) b o γ)) ∷ ‵ (flft κ q) ∷ []
+  end r = ‵ (fobs γ (T.the-row .coded .code (next (r .head)))) ∷ ‵ (fbor κ (Body (mem T.the-row) b o γ)) ∷ ‵ (flft κ q) ∷ []
 
   exits : (r : Tallied) → r ≡ found → Is R.the-row (r .answer) (answer r ∷ []) → ent 𝓤 (⋆ 𝓤 H A (end r)) (Post (answer r))
   exits r e is =
       qed W (end r) ∵
       suffices ! _
       (ends-at 𝓤 H A f.ended stayed (clauses 𝓤 adds) W (((κ, tt), (q, tt), tt, x, at), tt) (answer r) (r .answer)
-      (next (r .summary), (tt, (tt, (tt, tt)))) (tt, (tt, (tt, (tt, tt))))) $
-      says ! (ap (λ (d : Tallied). d .answer) e, ap (λ (d : Tallied). next (d .summary)) e) $ nothing ! $
+      (next (r .head), (tt, (tt, (tt, tt)))) (tt, (tt, (tt, (tt, tt))))) $
+      says ! (ap (λ (d : Tallied). d .answer) e, ap (λ (d : Tallied). next (d .head)) e) $ nothing ! $
       move ! (3 ∷ 0 ∷ []) $ join ! $ frame ! $
       feqI ! (List Val) (vptr b o ∷ []) (vptr b o ∷ []) refl $ fjoin3 ! $ nothing ! $
       owned ! u32 (Is u32) (uint-makes 𝓤 H A W w32) n₃ _ (refl, fits₃) $ fjoin ! $
@@ -203,15 +203,15 @@ module _ {M : Type 1} (𝓤 : URA M) (H : Heap 𝓤) (A : Atoms 𝓤) (W : Given
       owned ! u32 (Is u32) (uint-makes 𝓤 H A W w32) n₁ _ (refl, fits₁) $ fjoin ! $ move ! (1 ∷ 0 ∷ []) $ fjoin ! $ frame ! $
       owned ! R.the-row (Is R.the-row) (LL.makes R.the-type R′.the-plain 𝓤 H A) (r .answer) _ is $ done !
 
-  -- what `change` is handed: the counts lent for the lifetime α under the name δ
+  -- what `change` is handed: the cells lent for the lifetime α under the name δ
   abbrev lent : ℕ → GName → RefT (List ℕ)
-  lent α δ = record { ptr = (b, o + far); name = δ; now = h .counts }
+  lent α δ = record { ptr = (b, o + far); name = δ; now = h .cells }
 
   abbrev own-lent : ℕ → GName → Fml
   own-lent α δ = MutRef (named 0) (α ∷ []) Arr .own (lent α δ) (vptr b (o + far) ∷ [])
 
-  abbrev args : ℕ → GName → Summary × (RefT (List ℕ) × (ℕ × (ℕ × (ℕ × (Bool × Unit {0})))))
-  args α δ = (h .summary, (lent α δ, (n₁, (n₂, (n₃, (adds, tt))))))
+  abbrev args : ℕ → GName → Head × (RefT (List ℕ) × (ℕ × (ℕ × (ℕ × (Bool × Unit {0})))))
+  args α δ = (h .head, (lent α δ, (n₁, (n₂, (n₃, (adds, tt))))))
 
   abbrev to : ℕ → GName → Changes 𝓤 H A at-mem run .Ghost
   to α δ = (
@@ -221,14 +221,14 @@ module _ {M : Type 1} (𝓤 : URA M) (H : Heap 𝓤) (A : Atoms 𝓤) (W : Given
       tt,
       args α δ,
       (
-        summary (h .summary) ∷ [],
+        head (h .head) ∷ [],
         (vptr b (o + far) ∷ [], (vint w32 n₁ ∷ [], (vint w32 n₂ ∷ [], (vint w32 n₃ ∷ [], (vbool adds ∷ [], tt))))),
       ),
     ),
     tt,
   )
 
-  goes : (α : ℕ) (δ : GName) → Is S.the-row (h .summary) (summary (h .summary) ∷ [])
+  goes : (α : ℕ) (δ : GName) → Is S.the-row (h .head) (head (h .head) ∷ [])
       → ent 𝓤 (⋆ 𝓤 H A (‵ (flft (α ∷ []) fullShare) ∷ ‵ (own-lent α δ) ∷ [])) (Changes 𝓤 H A at-mem run .pre (to α δ))
   goes α δ is =
       qed W (‵ (flft (α ∷ []) fullShare) ∷ ‵ (own-lent α δ) ∷ []) ∵ nothing ! $
@@ -236,10 +236,10 @@ module _ {M : Type 1} (𝓤 : URA M) (H : Heap 𝓤) (A : Atoms 𝓤) (W : Given
       owned ! u32 (Is u32) (uint-makes 𝓤 H A W w32) n₃ _ (refl, fits₃) $ fjoin ! $
       owned ! u32 (Is u32) (uint-makes 𝓤 H A W w32) n₂ _ (refl, fits₂) $ fjoin ! $
       owned ! u32 (Is u32) (uint-makes 𝓤 H A W w32) n₁ _ (refl, fits₁) $ fjoin ! $ move ! (2 ∷ 0 ∷ []) $ fjoin ! $
-      owned ! S.the-row (Is S.the-row) (LL.makes S.the-type S′.the-plain 𝓤 H A) (h .summary) _ is $ fjoin ! $
+      owned ! S.the-row (Is S.the-row) (LL.makes S.the-type S′.the-plain 𝓤 H A) (h .head) _ is $ fjoin ! $
       nothing ! $ move ! (2 ∷ 0 ∷ []) $ join ! $ join ! $ frame ! $ done !
 
-  -- what `change` promised: its result, and the last value of the counts
+  -- what `change` promised: its result, and the last value of the cells
   said : (α : ℕ) (δ : GName) (r : Tallied)
       → ent 𝓤 (ensured 𝓤 H A change.ended (change.clauses 𝓤 H A at-mem run) (α ∷ [], tt) (args α δ) tt r)
       (guard 𝓤 (r ≡ found) (A .res δ (Arr .coded .code ys)))
@@ -266,19 +266,19 @@ module _ {M : Type 1} (𝓤 : URA M) (H : Heap 𝓤) (A : Atoms 𝓤) (W : Given
         -- [the tally's cell; what it owns; the open borrow; obs; auth; _7; …; _6; …; _5; …; _4; …; _3; …; _2; …; _1; …; room for _0; …]
         use1 W (‵ (fat fullShare T′.mir b o (mach h))) (W .laws .raw-at fullShare T′.mir b o (mach h)) $
         assigns ! (of-opd ! (load ! (from ! (hop ! (look ! 17 refl) (fld ! refl (stop !)))) (look-in ! 0 (sub ! 0 refl (whole !)))))
-        (from ! (stop !)) (init ! 7 refl (LL.lawful S.the-type S′.the-laws 𝓤 H A W .typed (h .summary) _ (summary-is h (mach h) is) .0)) $
+        (from ! (stop !)) (init ! 7 refl (LL.lawful S.the-type S′.the-laws 𝓤 H A W .typed (h .head) _ (head-is h (mach h) is) .0)) $
         assigns ! (addr ! (from ! (hop ! (look ! 17 refl) (fld ! refl (stop !))))) (from ! (stop !)) (init ! 5 refl (tt, tt)) $
-        -- the counts are taken out of the tally and lent
+        -- the cells are taken out of the tally and lent
         use2 W (‵ (partAt T.the-row fullShare h b o)) (part-in 𝓤 H A W T.the-row refl fullShare h b o (mach h)) $
         use1 W
-        (‵ (partAt Arr fullShare (h .counts) b (o + far))
-        ⊛ raw (wand 𝓤 (sem 𝓤 H A (partAt Arr fullShare ys b (o + far))) (sem 𝓤 H A (partAt T.the-row fullShare (next (h .summary)) b o))))
-        counts-out $ split ! $
+        (‵ (partAt Arr fullShare (h .cells) b (o + far))
+        ⊛ raw (wand 𝓤 (sem 𝓤 H A (partAt Arr fullShare ys b (o + far))) (sem 𝓤 H A (partAt T.the-row fullShare (next (h .head)) b o))))
+        cells-out $ split ! $
         lft-new ! tt (λ α. move ! (1 ∷ []) $
         use1 W (later (some (λ (δ : GName). ‵ (own-lent α δ) ⊛ ‵ (flent (α ∷ []) (Body (mem Arr) b (o + far) δ)))))
-        (lends-ref 𝓤 H A W Arr (named 0) (α ∷ []) (h .counts) b (o + far)) $ await ! tt $ pick ! (λ δ. split ! $
+        (lends-ref 𝓤 H A W Arr (named 0) (α ∷ []) (h .cells) b (o + far)) $ await ! tt $ pick ! (λ δ. split ! $
         -- [the reference; the lender's part; its token; the way back; the open borrow; obs; auth; _7; …]
-        move ! (2 ∷ 0 ∷ []) $ use2 W (raw (Changes 𝓤 H A at-mem run .pre (to α δ))) (goes α δ (summary-is h (mach h) is)) $
+        move ! (2 ∷ 0 ∷ []) $ use2 W (raw (Changes 𝓤 H A at-mem run .pre (to α δ))) (goes α δ (head-is h (mach h) is)) $
         calls-at ! fm (Changes 𝓤 H A at-mem run) known (to α δ)
         (and-then ! (load ! (from ! (stop !)) (look ! 8 refl)) (and-then ! (load ! (from ! (stop !)) (look ! 6 refl))
         (and-then ! (load ! (from ! (stop !)) (look ! 16 refl)) (and-then ! (load ! (from ! (stop !)) (look ! 14 refl))
@@ -289,29 +289,29 @@ module _ {M : Type 1} (𝓤 : URA M) (H : Heap 𝓤) (A : Atoms 𝓤) (W : Given
         await ! tt $ pick ! (λ r.
         split ! $ move ! (1 ∷ []) $ use1 W (given (r ≡ found) (‵ (fres δ (Arr .coded .code ys)))) (said α δ r) $ learn ! (λ e.
         move ! (1 ∷ []) $ split ! $ move ! (1 ∷ []) $ peeks ! D.the-row (Is D.the-row) (shows 𝓤 H A D.the-row) r (v ∷ []) (λ is′. drop ! $
-        -- [its token, and true; the last value of the counts; the lender's part; the way back; the open borrow; obs; auth; _7; …]
+        -- [its token, and true; the last value of the cells; the lender's part; the way back; the open borrow; obs; auth; _7; …]
         land ! (from ! (stop !)) (init ! 11 refl (LL.lawful D.the-type D′.the-laws 𝓤 H A W .typed r _ is′ .0)) $
         rewrite ! 11 (λ (u : Val). ‵ (fat fullShare D′.mir l₅ 0 u)) (ap only (LL.tells D.the-type D′.the-laws r (v ∷ []) is′)) refl $
-        -- the counts come back
+        -- the cells come back
         split ! $ lft-end ! tt $ move ! (0 ∷ 3 ∷ 2 ∷ []) $
         use3 W (later (‵ (partAt Arr fullShare ys b (o + far)))) (ref-back 𝓤 H A W Arr (α ∷ []) δ ys b (o + far)) $ await ! tt $
         move ! (0 ∷ 2 ∷ []) $ apply ! $
-        use1 W (some (λ (w : Val). ‵ (fat fullShare T′.mir b o w) ⊛ ‵ (T.the-row .own (next (h .summary)) (w ∷ []))))
-        (part-out 𝓤 H A W T.the-row refl fullShare (next (h .summary)) b o) $ pick ! (λ w. split ! $ move ! (1 ∷ []) $
-        peeks ! T.the-row (Is T.the-row) (shows 𝓤 H A T.the-row) (next (h .summary)) (w ∷ []) (λ is″. drop ! $
+        use1 W (some (λ (w : Val). ‵ (fat fullShare T′.mir b o w) ⊛ ‵ (T.the-row .own (next (h .head)) (w ∷ []))))
+        (part-out 𝓤 H A W T.the-row refl fullShare (next (h .head)) b o) $ pick ! (λ w. split ! $ move ! (1 ∷ []) $
+        peeks ! T.the-row (Is T.the-row) (shows 𝓤 H A T.the-row) (next (h .head)) (w ∷ []) (λ is″. drop ! $
         rewrite ! 0 (λ (u : Val). ‵ (fat fullShare T′.mir b o u))
-        (ap only (LL.tells T.the-type T′.the-laws (next (h .summary)) (w ∷ []) is″)) refl $
+        (ap only (LL.tells T.the-type T′.the-laws (next (h .head)) (w ∷ []) is″)) refl $
         -- [the tally's cell; true; the open borrow; obs; auth; _7; …]
         assigns ! (of-opd ! (load ! (from ! (fld ! refl (stop !))) (look-in ! 9 (sub ! 1 refl (whole !)))))
         (from ! (hop ! (look ! 17 refl) (fld ! refl (stop !))))
-        (store-in ! 0 (sub ! 0 refl (whole !)) (LL.lawful S.the-type S′.the-laws 𝓤 H A W .typed (r .summary) _ (next-is r v is′) .0)) $
+        (store-in ! 0 (sub ! 0 refl (whole !)) (LL.lawful S.the-type S′.the-laws 𝓤 H A W .typed (r .head) _ (next-is r v is′) .0)) $
         assigns ! (of-opd ! (load ! (from ! (fld ! refl (stop !))) (look-in ! 9 (sub ! 0 refl (whole !)))))
         (from ! (stop !)) (init ! 19 refl (LL.lawful R.the-type R′.the-laws 𝓤 H A W .typed (r .answer) _ (answer-is r v is′) .0)) $
         -- the borrow is closed at the next tally
-        use1 W (‵ (cellAt fullShare (T.the-row .mir) (mach (next (r .summary)) ∷ []) b o))
-        (W .laws .at-raw fullShare T′.mir b o (mach (next (r .summary)))) $
-        owned ! T.the-row (Is T.the-row) (LL.makes T.the-type T′.the-plain 𝓤 H A) (next (r .summary)) _ (made r v w is′ is″) $
-        move ! (1 ∷ 0 ∷ 3 ∷ 4 ∷ 5 ∷ []) $ closes ! tt T.the-row (next (r .summary)) (mach (next (r .summary)) ∷ []) b o $
+        use1 W (‵ (cellAt fullShare (T.the-row .mir) (mach (next (r .head)) ∷ []) b o))
+        (W .laws .at-raw fullShare T′.mir b o (mach (next (r .head)))) $
+        owned ! T.the-row (Is T.the-row) (LL.makes T.the-type T′.the-plain 𝓤 H A) (next (r .head)) _ (made r v w is′ is″) $
+        move ! (1 ∷ 0 ∷ 3 ∷ 4 ∷ 5 ∷ []) $ closes ! tt T.the-row (next (r .head)) (mach (next (r .head)) ∷ []) b o $
         -- [obs; the borrow; the token; true; _7; …; room for _0; …]
         returns ! (look ! 18 refl) $ forget ! 4 refl $ forget ! 6 refl $ forget ! 8 refl $ forget ! 10 refl $ forget ! 12 refl $
         forget ! 14 refl $ forget ! 16 refl $ forget ! 18 refl $

@@ -150,8 +150,8 @@ pub extern "C" fn firrozka_open_tally(sheet: &[u8], plan: &[u8], t: &mut Tally) 
         (r ≡ openAnswer (now (sheet .entry)) (now (plan .entry)))
         × (now (t .exit) ≡ opened (now (sheet .entry)) (now (plan .entry))) ⌝ }
 {
-    let done = tally::open(sheet, plan, &mut t.counts);
-    t.summary = done.summary;
+    let done = tally::open(sheet, plan, &mut t.cells);
+    t.head = done.head;
     done.answer
 }
 
@@ -167,8 +167,8 @@ pub extern "C" fn firrozka_tally_add(
         (r ≡ callAnswer (now (t .entry)) (callOf true holder subdomain count))
         × (now (t .exit) ≡ tallyAfter (now (t .entry)) (callOf true holder subdomain count)) ⌝ }
 {
-    let done = tally::change(t.summary, &mut t.counts, holder, subdomain, count, true);
-    t.summary = done.summary;
+    let done = tally::change(t.head, &mut t.cells, holder, subdomain, count, true);
+    t.head = done.head;
     done.answer
 }
 
@@ -184,8 +184,8 @@ pub extern "C" fn firrozka_tally_remove(
         (r ≡ callAnswer (now (t .entry)) (callOf false holder subdomain count))
         × (now (t .exit) ≡ tallyAfter (now (t .entry)) (callOf false holder subdomain count)) ⌝ }
 {
-    let done = tally::change(t.summary, &mut t.counts, holder, subdomain, count, false);
-    t.summary = done.summary;
+    let done = tally::change(t.head, &mut t.cells, holder, subdomain, count, false);
+    t.head = done.head;
     done.answer
 }
 

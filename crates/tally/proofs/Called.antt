@@ -3,7 +3,7 @@ use mathlib.Core.Path.{_≡_, refl, sym, _∙_}
 use mathlib.Core.Logic.{_≢_}
 use mathlib.Core.Bool.{Bool, true, false, not, cond, _&&_, _||_}
 use mathlib.Core.List.{List}
-use Prim.Native.Nat.{ℕ, _+_, _≤_, _<_}
+use Prim.Native.Nat.{ℕ, suc, _+_, _≤_, _<_}
 use native.Mathlib.Omega.{arith}
 use borrow.Author.Tests.{ltb-true, ltb-false, leb-true, ne-eqb, not-false}
 use lib.Dec.{eqb, ltb, leb}
@@ -14,13 +14,15 @@ use Rattle.limit.specs.Limit.{maxNodes, maxTotal}
 use Rattle.arrays.specs.Arrays.{at}
 use Rattle.plan.specs.Tree.{helpandsBelow}
 use Rattle.weigh.specs.Weigh.{refused, weighed}
-use Rattle.tally.specs.declared.Summary.{Summary}
+use Rattle.tally.specs.declared.Head.{Head}
 use Rattle.tally.specs.declared.Tally.{Tally}
 use Rattle.tally.specs.declared.Tallied.{Tallied}
 use Rattle.tally.specs.declared.TallyRefusal.{TallyRefusal}
 use Rattle.tally.specs.Call.{Call, callOf, cellOf, counted, callNumber}
-use Rattle.tally.specs.Tally.{numberOf, tallyWith, numberIn, summaryAfter, changed, tallyAfter, callAnswer, holding, callResult}
-use Rattle.tally.specs.Inner.{named, amountNumber, Countable, Changeable}
+use Rattle.tally.specs.Layout.{totalAt, countAt}
+use Rattle.tally.specs.Renew.{renewed}
+use Rattle.tally.specs.Tally.{numberOf, tallyWith, numberIn, headAfter, countedCells, cellsAfter, changed, tallyAfter, callAnswer, holding, callResult}
+use Rattle.tally.specs.Inner.{named, amountNumber, Countable, CellsChangeable}
 use Rattle.tally.proofs.Answers.{numbered}
 
 -- a test that makes no difference
@@ -63,84 +65,86 @@ amounts-fit false has own total count e =
     let z = ltb-false has count (b .0) in
     (omega arith, omega arith, omega arith)
 
-module _ (s : Summary) (counts : List ℕ) (adds : Bool) (k d count : ℕ) where
+module _ (h : Head) (cells : List ℕ) (adds : Bool) (k d count : ℕ) where
   abbrev t : Tally
-  t = tallyWith s counts
+  t = tallyWith h cells
 
   abbrev c : Call
   c = callOf adds k d count
 
-  abbrev has : ℕ
-  has = at counts (cellOf c)
-
   abbrev is-named : Bool
-  is-named = named (s .n) (at (s .helpands)) k d count
+  is-named = named (h .n) (at (h .helpands)) k d count
 
   abbrev amounts : ℕ
-  amounts = amountNumber has (at (s .totals) d) (s .total) count adds
+  amounts = amountNumber (countAt cells (cellOf c)) (totalAt cells d) (h .total) count adds
 
   number-parts : numberIn t c ≡ cond (not is-named) 58 amounts
   unfolding numberIn callNumber
   number-parts =
-      first-tests (leb (s .n) maxNodes) (ltb k (s .n)) (ltb d (s .n)) (eqb count 0) (helpandsBelow (s .n) (at (s .helpands)))
-      (leb has (at (s .totals) d) && leb (at (s .totals) d) (s .total)) _
+      first-tests (leb (h .n) maxNodes) (ltb k (h .n)) (ltb d (h .n)) (eqb count 0) (helpandsBelow (h .n) (at (h .helpands)))
+      (leb (countAt cells (cellOf c)) (totalAt cells d) && leb (totalAt cells d) (h .total)) _
 
   -- ---- the ways out
 
-  -- what is given, and the counts as they are then
+  -- what is given, and the cells as they are then
   abbrev pub Ends : Tallied → List ℕ → Type 0
-  Ends r counts₁ = (r ≡ callResult t c) × (counts₁ ≡ tallyAfter t c .counts)
+  Ends r cells₁ = (r ≡ callResult t c) × (cells₁ ≡ tallyAfter t c .cells)
 
-  ends-refused : (x : ℕ) → x ≢ 0 → numberIn t c ≡ x → Ends (record { answer = refused x; summary = s }) counts
+  ends-refused : (x : ℕ) → x ≢ 0 → numberIn t c ≡ x → Ends (record { answer = refused x; head = h }) cells
   unfolding callAnswer tallyAfter
   ends-refused x z e = (rw (e, ne-eqb x 0 z), rw (e, ne-eqb x 0 z))
 
-  pub ends-unnamed : is-named ≡ false → Ends (record { answer = refused 58; summary = s }) counts
+  pub ends-unnamed : is-named ≡ false → Ends (record { answer = refused 58; head = h }) cells
   ends-unnamed e = ends-refused 58 (λ z. omega arith) (number-parts ∙ rw e)
 
   module _ (yes-named : is-named ≡ true) where
     number-amounts : numberIn t c ≡ amounts
     number-amounts = number-parts ∙ rw yes-named
 
-    pub ends-amounts : (r : TallyRefusal) → numberOf r ≡ amounts → Ends (record { answer = refused (numberOf r); summary = s }) counts
+    pub ends-amounts : (r : TallyRefusal) → numberOf r ≡ amounts → Ends (record { answer = refused (numberOf r); head = h }) cells
     ends-amounts r e = ends-refused (numberOf r) (λ z. omega (arith, numbered r .0)) (number-amounts ∙ sym e)
 
-    pub ends-changed : 0 ≡ amounts → {after : Summary} → after ≡ summaryAfter s adds d count
-        → Ends (record { answer = weighed (holding after); summary = after }) (set counts (cellOf c) (counted adds count has))
-    unfolding callAnswer tallyAfter changed
-    ends-changed e is = (rw (is, number-amounts, ← e), rw (number-amounts, ← e))
+    pub ends-changed : 0 ≡ amounts → {after : List ℕ}
+        → after ≡ renewed (h .n) (at (h .helpands)) (h .limit) (suc (h .n)) d (countedCells cells c)
+        → Ends (record { answer = weighed (holding (h .n) (h .limit) after); head = headAfter h c }) after
+    unfolding callAnswer tallyAfter changed cellsAfter
+    ends-changed e is = (rw (is, number-amounts, ← e), rw (number-amounts, ← e) is)
 
     -- ---- what is known past the checks
 
-    few : s .n ≤ maxNodes
-    few = leb-true (s .n) maxNodes (and-left (leb (s .n) maxNodes) _ yes-named)
+    pub few : h .n ≤ maxNodes
+    few = leb-true (h .n) maxNodes (and-left (leb (h .n) maxNodes) _ yes-named)
 
-    past-few : (ltb k (s .n) && (ltb d (s .n) && (not (eqb count 0) && helpandsBelow (s .n) (at (s .helpands))))) ≡ true
-    past-few = and-right (leb (s .n) maxNodes) _ yes-named
+    past-few : (ltb k (h .n) && (ltb d (h .n) && (not (eqb count 0) && helpandsBelow (h .n) (at (h .helpands))))) ≡ true
+    past-few = and-right (leb (h .n) maxNodes) _ yes-named
 
-    past-holder : (ltb d (s .n) && (not (eqb count 0) && helpandsBelow (s .n) (at (s .helpands)))) ≡ true
-    past-holder = and-right (ltb k (s .n)) _ past-few
+    past-holder : (ltb d (h .n) && (not (eqb count 0) && helpandsBelow (h .n) (at (h .helpands)))) ≡ true
+    past-holder = and-right (ltb k (h .n)) _ past-few
 
     pub named-holder : k < 64
-    named-holder = omega (arith, few, ltb-true k (s .n) (and-left (ltb k (s .n)) _ past-few))
+    named-holder = omega (arith, few, ltb-true k (h .n) (and-left (ltb k (h .n)) _ past-few))
 
-    below : d < s .n
-    below = ltb-true d (s .n) (and-left (ltb d (s .n)) _ past-holder)
+    below : d < h .n
+    below = ltb-true d (h .n) (and-left (ltb d (h .n)) _ past-holder)
 
     pub named-subdomain : d < 64
     named-subdomain = omega (arith, few, below)
 
-    pub changeable : 0 ≡ amounts → Changeable s adds d count
-    changeable e =
-        let inside = and-right (not (eqb count 0)) _ (and-right (ltb d (s .n)) _ past-holder) in
-        let fit = amounts-fit adds has (at (s .totals) d) (s .total) count e in
-        record {
-          few = few;
-          below = below;
-          inside = λ j l. ltb-true (at (s .helpands) j) (s .n) (all-at (s .n) (λ i. ltb (at (s .helpands) i) (s .n)) inside j l);
-          own = fit .1;
-          all = fit .2;
-        }
+    module _ (e : 0 ≡ amounts) where
+      fit : (Countable adds count (countAt cells (cellOf c))) × (Countable adds count (totalAt cells d)) × (Countable adds count (h .total))
+      fit = amounts-fit adds (countAt cells (cellOf c)) (totalAt cells d) (h .total) count e
 
-    pub has-countable : 0 ≡ amounts → Countable adds count has
-    has-countable e = amounts-fit adds has (at (s .totals) d) (s .total) count e .0
+      pub changeable : CellsChangeable (h .n) (at (h .helpands)) cells c
+      changeable =
+          let inside = and-right (not (eqb count 0)) _ (and-right (ltb d (h .n)) _ past-holder) in
+          record {
+            few = few;
+            holder = named-holder;
+            subdomain = below;
+            inside = λ j l. ltb-true (at (h .helpands) j) (h .n) (all-at (h .n) (λ i. ltb (at (h .helpands) i) (h .n)) inside j l);
+            has = fit .0;
+            own = fit .1;
+          }
+
+      pub total-countable : Countable adds count (h .total)
+      total-countable = fit .2

@@ -25,6 +25,7 @@ use Rattle.weigh.proofs.Checks.{passes}
 use Rattle.weigh.specs.Weigh.{refused}
 use Rattle.tally.specs.declared.Tally.{Tally}
 use Rattle.tally.specs.Call.{Call, cellOf, callNumber}
+use Rattle.tally.specs.Layout.{countAt}
 use Rattle.tally.specs.Tally.{tallyOf, noTally, helpandsIn, opened, usable, numberIn, tallyAfter, callAnswer}
 use Rattle.tally.specs.Calls.{afterCalls, countsAfter, presentCounts, presentIn, holdsWith, Follows}
 use Rattle.tally.proofs.Called.{cond-same}
@@ -110,15 +111,15 @@ no-cell : (n has total : ℕ) (c : Call) → n ≡ 0 → callNumber n has total 
 unfolding callNumber
 no-cell n has total c e = rw (le-ltb (c .holder) n (omega arith))
 
-no-nodes : (t : Tally) → t .summary .n ≡ 0 → (c : Call) → numberIn t c ≡ 58
+no-nodes : (t : Tally) → t .head .n ≡ 0 → (c : Call) → numberIn t c ≡ 58
 unfolding numberIn
 no-nodes t e c =
-    rw (no-cell (t .summary .n) (at (t .counts) (cellOf c)) (t .summary .total) c e) (cond-same (not (usable t c)) 58)
+    rw (no-cell (t .head .n) (countAt (t .cells) (cellOf c)) (t .head .total) c e) (cond-same (not (usable t c)) 58)
 
 no-tally-number : (c : Call) → numberIn noTally c ≡ 58
 no-tally-number = no-nodes noTally none
   where
-    none : noTally .summary .n ≡ 0
+    none : noTally .head .n ≡ 0
     none = unfold noTally in refl
 
 after-none : (calls : List Call) → afterCalls noTally calls ≡ noTally

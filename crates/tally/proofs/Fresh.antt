@@ -10,11 +10,11 @@ use borrow.Author.Tests.{ltb-true, ltb-false, lt-ltb, le-leb, eq-eqb, ne-eqb, no
 use lib.Dec.{eqb, ltb, leb}
 use lib.ListN.{length, set}
 use Rattle.fold.specs.Sum.{sum}
-use Rattle.fold.proofs.Tests.{either, and-both, or-left, or-right, passed, all-of}
+use Rattle.fold.proofs.Tests.{either, and-both, or-left, or-right, passed, all-of, all-eq}
 use Rattle.fold.proofs.Sums.{sum-term}
 use Rattle.limit.specs.Limit.{maxNodes, maxTotal, tableSize}
 use Rattle.arrays.specs.Arrays.{at, tabulate}
-use Rattle.arrays.proofs.Tabulate.{tabulate-at}
+use Rattle.arrays.proofs.Tabulate.{tabulate-at, length-tabulate}
 use Rattle.sheet.specs.Table.{held}
 use Rattle.sheet.specs.Totals.{totalOf, totalsOf}
 use Rattle.sheet.proofs.Totalled.{total-le}
@@ -26,9 +26,11 @@ use Rattle.words.specs.Checks.{refuseAs}
 use Rattle.tally.specs.declared.Tally.{Tally}
 use Rattle.tally.specs.Call.{Call, cellOf, counted, callNumber}
 use Rattle.tally.specs.Renew.{renewed}
-use Rattle.tally.specs.Tally.{tallyOf, usable, numberIn, summaryAfter, changed, tallyAfter, callAnswer, holding}
+use Rattle.tally.specs.Layout.{totalAt, leastAt, countAt, laid}
+use Rattle.tally.specs.Tally.{tallyOf, usable, numberIn, countedCells, cellsAfter, changed, tallyAfter, callAnswer, holding}
 use Rattle.tally.specs.Calls.{numberOn, countsAfter}
 use Rattle.tally.proofs.Called.{cond-same}
+use Rattle.tally.proofs.Laid.{Rows, laid-total, laid-least, laid-count, set-total, set-count}
 use Rattle.tally.proofs.Renewing.{renewed-leasts}
 use Rattle.tally.proofs.Counting.{OneCell, counted-length, counted-all, counted-other, counted-totals}
 
@@ -63,21 +65,47 @@ pub record Valid (counts : List ℕ) : Type 0 where
   pub long : length counts ≡ tableSize
   pub within : sum tableSize (at counts) ≤ maxTotal
 
+module _ (n limit : ℕ) (helpands : List ℕ) (few : n ≤ maxNodes) (counts : List ℕ) where
+  abbrev lst : ℕ → ℕ
+  lst = least n (at helpands) (at (totalsOf n counts)) limit
+
+  fresh-rows : Rows (totalsOf n counts) (tabulate n lst)
+  fresh-rows = record { totals-long = length-tabulate n (totalOf n counts) few; leasts-long = length-tabulate n lst few }
+
+  -- by its leasts the tree holds as it should
+  holding-fresh : holding n limit (tallyOf n limit helpands counts .cells) ≡ holds n (at helpands) (at (totalsOf n counts)) limit
+  unfolding tallyOf
+  holding-fresh =
+      all-eq n (λ k. leb (leastAt (tallyOf n limit helpands counts .cells) k) limit) (λ k. leb (at (tabulate n lst) k) limit)
+      (λ k l. ap (λ (x : ℕ). leb x limit) (laid-least fresh-rows counts k (omega arith)))
+      ∙ holds-tabulated n (at helpands) (at (totalsOf n counts)) limit
+
 module _ (n limit : ℕ) (helpands : List ℕ) (few : n ≤ maxNodes) {r : ℕ} (t : Tree n (at helpands) r) (counts : List ℕ) where
   abbrev now : Tally
   now = tallyOf n limit helpands counts
+
+  abbrev leasts : List ℕ
+  leasts = tabulate n (least n (at helpands) (at (totalsOf n counts)) limit)
+
+  rows : Rows (totalsOf n counts) leasts
+  rows = fresh-rows n limit helpands few counts
+
+  total-is : (d : ℕ) → d < n → totalAt (laid (totalsOf n counts) leasts counts) d ≡ totalOf n counts d
+  total-is d l = laid-total rows counts d (omega arith) ∙ tabulate-at n (totalOf n counts) d l
 
   -- it is usable wherever a call names a cell
   now-usable : (c : Call) → c .holder < n → c .subdomain < n → usable now c ≡ true
   unfolding tallyOf
   now-usable c k d =
-      let total = tabulate-at n (totalOf n counts) (c .subdomain) d in
+      let total = total-is (c .subdomain) d in
+      let count = laid-count rows counts (cellOf c) in
       let part = sum-term n (λ j. held counts j (c .subdomain)) (c .holder) k in
       let whole = total-le counts n (c .subdomain) few (omega arith) in
-      let own = at (totalsOf n counts) (c .subdomain) in
+      let has = countAt (laid (totalsOf n counts) leasts counts) (cellOf c) in
+      let own = totalAt (laid (totalsOf n counts) leasts counts) (c .subdomain) in
       and-both (leb n maxNodes) _ (le-leb n maxNodes few)
       (and-both (helpandsBelow n (at helpands)) _ (all-of n (λ j. ltb (at helpands j) n) (λ j l. lt-ltb (at helpands j) n (t .inside j l)))
-      (and-both (leb (at counts (cellOf c)) own) _ (le-leb (at counts (cellOf c)) own (omega (arith, total, part)))
+      (and-both (leb has own) _ (le-leb has own (omega (arith, total, count, part)))
       (le-leb own (sum tableSize (at counts)) (omega (arith, total, whole)))))
 
   -- and refuses as the counts say
@@ -89,7 +117,7 @@ module _ (n limit : ℕ) (helpands : List ℕ) (few : n ≤ maxNodes) {r : ℕ} 
         let b = or-right (not (ltb (c .holder) n)) _ e in
         let k = ltb-true (c .holder) n (not-false _ (or-left (not (ltb (c .holder) n)) _ e)) in
         let d = ltb-true (c .subdomain) n (not-false _ (or-left (not (ltb (c .subdomain) n)) _ b)) in
-        rw (now-usable c k d)
+        rw (now-usable c k d, laid-count rows counts (cellOf c))
   ]
     where
       no-cell : Bool
@@ -113,17 +141,26 @@ module _ (n limit : ℕ) (helpands : List ℕ) (few : n ≤ maxNodes) {r : ℕ} 
         ≡ totalsOf n next
     next-totals = counted-totals one
 
-    next-leasts : renewed n (at helpands) (at (totalsOf n next)) limit (suc n) (c .subdomain)
-        (tabulate n (least n (at helpands) (at (totalsOf n counts)) limit))
-        ≡ tabulate n (least n (at helpands) (at (totalsOf n next)) limit)
-    next-leasts =
-        renewed-leasts n (at helpands) (at (totalsOf n counts)) (at (totalsOf n next)) limit few t (c .subdomain) (fit .subdomain)
-        (λ k l d. tabulate-at n (totalOf n counts) k l ∙ sym (counted-other one k l d) ∙ sym (tabulate-at n (totalOf n next) k l))
+    -- the count, the total and the leasts change in their places
+    next-cells : renewed n (at helpands) limit (suc n) (c .subdomain) (countedCells (laid (totalsOf n counts) leasts counts) c)
+        ≡ laid (totalsOf n next) (tabulate n (least n (at helpands) (at (totalsOf n next)) limit)) next
+    next-cells =
+        rw (
+          laid-count rows counts (cellOf c),
+          laid-total rows counts (c .subdomain) (omega (arith, fit .subdomain)),
+          set-count rows counts (cellOf c) (counted (c .adds) (c .count) (at counts (cellOf c))),
+          set-total rows next (c .subdomain) (counted (c .adds) (c .count) (at (totalsOf n counts) (c .subdomain)))
+              (omega (arith, fit .subdomain)),
+          next-totals,
+        )
+        (renewed-leasts n (at helpands) limit few t (totalsOf n next) (length-tabulate n (totalOf n next) few) next (at (totalsOf n counts))
+        (c .subdomain) (fit .subdomain)
+        (λ k l d. tabulate-at n (totalOf n counts) k l ∙ sym (counted-other one k l d) ∙ sym (tabulate-at n (totalOf n next) k l)))
 
     -- an accepted call gives the tally of the counts after it
     pub changed-fresh : changed now c ≡ tallyOf n limit helpands next
-    unfolding changed summaryAfter tallyOf
-    changed-fresh = rw (next-totals, next-leasts, ← next-all)
+    unfolding changed cellsAfter tallyOf
+    changed-fresh = rw (next-cells, ← next-all)
 
     pub next-valid : Valid next
     next-valid = record {
@@ -139,10 +176,6 @@ module _ (n limit : ℕ) (helpands : List ℕ) (few : n ≤ maxNodes) {r : ℕ} 
 
         less : c .adds ≡ false → counted (c .adds) (c .count) (sum tableSize (at counts)) ≤ sum tableSize (at counts)
         less q = rw q (omega arith)
-
-  holding-fresh : (xs : List ℕ) → holding (tallyOf n limit helpands xs .summary) ≡ holds n (at helpands) (at (totalsOf n xs)) limit
-  unfolding tallyOf
-  holding-fresh xs = holds-tabulated n (at helpands) (at (totalsOf n xs)) limit
 
   -- any call does
   module _ (v : Valid counts) (c : Call) where
@@ -163,10 +196,10 @@ module _ (n limit : ℕ) (helpands : List ℕ) (few : n ≤ maxNodes) {r : ℕ} 
     -- and says whether the tree holds with the counts after it
     pub answer-fresh : callAnswer now c ≡ refuseAs refused (numberOn n counts c)
         (weighed (holds n (at helpands) (at (totalsOf n (countsAfter n counts c))) limit))
-    unfolding callAnswer countsAfter
+    unfolding callAnswer countsAfter tallyOf
     answer-fresh = elim (ℕ-discrete (numberOn n counts c) 0) [
       | yes e ↦
           rw (number-same c, eq-eqb (numberOn n counts c) 0 e, changed-fresh v c e)
-          (ap weighed (holding-fresh (next v c e)))
+          (ap weighed (holding-fresh n limit helpands few (next v c e)))
       | no d ↦ rw (number-same c, ne-eqb (numberOn n counts c) 0 d)
     ]

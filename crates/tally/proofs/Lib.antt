@@ -1,4 +1,6 @@
 pub mod Answers
+pub mod Laid
+pub mod Copying
 pub mod Renewing
 pub mod Counting
 pub mod Called

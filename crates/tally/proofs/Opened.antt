@@ -1,5 +1,5 @@
 -- The ways out of an opening: it is refused, or the sheet and the plan were read. Assumes nothing.
-use mathlib.Core.Path.{_≡_, ap}
+use mathlib.Core.Path.{_≡_, ap, _∙_}
 use mathlib.Core.Logic.{_≢_}
 use mathlib.Core.List.{List}
 use Prim.Native.Nat.{ℕ}
@@ -23,17 +23,18 @@ use Rattle.weigh.specs.Weigh.{refused, weighed}
 use Rattle.weigh.specs.Inner.{Weighable}
 use Rattle.weigh.proofs.Answers.{numbered}
 use Rattle.weigh.proofs.Checks.{weighable-checked, facts}
-use Rattle.tally.specs.declared.Summary.{Summary}
+use Rattle.tally.specs.declared.Head.{Head}
 use Rattle.tally.specs.declared.Tallied.{Tallied}
+use Rattle.tally.specs.Layout.{laid}
 use Rattle.tally.specs.Tally.{tallyOf, noTally, openAnswer, opened, tallyWith, openResult}
 
 module _ (s p : List ℕ) where
-  -- what is given, and the counts as they are then
+  -- what is given, and the cells as they are then
   abbrev Ends : Tallied → List ℕ → Type 0
-  Ends r counts = (r ≡ openResult s p) × (counts ≡ opened s p .counts)
+  Ends r cells = (r ≡ openResult s p) × (cells ≡ opened s p .cells)
 
   pub ends-refused : (r : CheckRefusal) → checkNumber r ≡ checked s p
-      → Ends (record { answer = refused (checkNumber r); summary = noTally .summary }) (noTally .counts)
+      → Ends (record { answer = refused (checkNumber r); head = noTally .head }) (noTally .cells)
   unfolding openAnswer opened
   ends-refused r e =
       let d : checkNumber r ≢ 0 = λ z. omega (arith, numbered r .0) in
@@ -49,15 +50,16 @@ module _ {s p : List ℕ} {h : Sheet} (w : Weighable s p h) {table totals helpan
       let is = holds-tabulated (h .n) (at (helpandsOf p (h .n))) (at (totalsOf (h .n) (tableOf s (h .e)))) (h .limit) in
       rw (weighable-checked s p h w, ← w .sheet, l, a, padded-same (helpandsOf p (h .n)), o, t) (ap weighed is)
 
-  -- the summary that is made
-  abbrev summary : Summary
-  summary = record { n = h .n; limit = h .limit; total = h .p; helpands = helpands; totals = totals; leasts = leasts }
+  -- the head that is made
+  abbrev head : Head
+  head = record { n = h .n; limit = h .limit; total = h .p; helpands = helpands }
 
-  opened-is : tallyWith summary table ≡ opened s p
+  opened-is : tallyWith head (laid totals leasts table) ≡ opened s p
   unfolding opened tallyOf
   opened-is =
       let sum-is = table-sum s (accepted (h .n) (h .t) (h .e) (h .p) (h .limit)) (facts s p h w) in
       rw (weighable-checked s p h w, ← w .sheet, l, a, o, t, ← sum-is)
 
-  pub ends-opened : Ends s p (record { answer = weighed (all (h .n) (λ k. leb (at leasts k) (h .limit))); summary = summary }) table
-  ends-opened = (rw (answer-is, ← opened-is), rw (← opened-is))
+  pub ends-opened : {cells : List ℕ} → cells ≡ laid totals leasts table
+      → Ends s p (record { answer = weighed (all (h .n) (λ k. leb (at leasts k) (h .limit))); head = head }) cells
+  ends-opened e = (rw (answer-is, ← opened-is), e ∙ rw (← opened-is))

@@ -1,4 +1,5 @@
 pub mod Call
+pub mod Layout
 pub mod Renew
 pub mod Tally
 pub mod Calls

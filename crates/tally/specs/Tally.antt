@@ -1,7 +1,7 @@
 -- Request 2026-08, 'Arrivals between steps': "A tally is opened from a sheet and a plan of kind 1 or 2; its limit stays that of the opening
 -- sheet. The open tally is lent to each call, which adds or removes a count in a cell, named by holder and subdomain, and says whether the
 -- tree holds." *Tally* is the request's word.
-use Prim.Native.Nat.{ℕ, suc}
+use Prim.Native.Nat.{ℕ, suc, _+_}
 use mathlib.Core.Bool.{Bool, not, _&&_}
 use mathlib.Core.List.{List}
 use lib.Dec.{eqb, leb}
@@ -24,10 +24,11 @@ use Rattle.tally.specs.declared.TallyRefusal.{TallyRefusal}
 use Rattle.tally.specs.declared.TallyRefusal.the-variants.{Check, NoCell, TooFew, TooMany}
 use Rattle.tally.specs.declared.Tallying.{Tallying}
 use Rattle.tally.specs.declared.Tallying.the-variants.{Holding, Refused}
-use Rattle.tally.specs.declared.Summary.{Summary}
+use Rattle.tally.specs.declared.Head.{Head}
 use Rattle.tally.specs.declared.Tally.{Tally}
 use Rattle.tally.specs.declared.Tallied.{Tallied}
 use Rattle.tally.specs.Call.{Call, cellOf, counted, callNumber}
+use Rattle.tally.specs.Layout.{totalAt, leastAt, countAt, laid, cellsSize}
 use Rattle.tally.specs.Renew.{renewed}
 
 -- ---- answers: *weigh*'s, a number and whether the tree holds
@@ -48,15 +49,8 @@ answerOf (Refused r) = refused (numberOf r)
 
 unfoldable pub tallyOf : ℕ → ℕ → List ℕ → List ℕ → Tally
 tallyOf n limit helpands counts = record {
-  summary = record {
-    n = n;
-    limit = limit;
-    total = sum tableSize (at counts);
-    helpands = helpands;
-    totals = totalsOf n counts;
-    leasts = tabulate n (least n (at helpands) (at (totalsOf n counts)) limit);
-  };
-  counts = counts;
+  head = record { n = n; limit = limit; total = sum tableSize (at counts); helpands = helpands };
+  cells = laid (totalsOf n counts) (tabulate n (least n (at helpands) (at (totalsOf n counts)) limit)) counts;
 }
 
 -- ---- opening, from a sheet s and a plan p: "opening has those of *weigh* up to 24"
@@ -67,15 +61,8 @@ openAnswer s p = refuseAs refused (checked s p) (weighed (holdsIn s p))
 -- "A refused opening gives a tally with N 0": everything else in it is 0, too
 unfoldable pub noTally : Tally
 noTally = record {
-  summary = record {
-    n = 0;
-    limit = 0;
-    total = 0;
-    helpands = replicate 64 0;
-    totals = replicate 64 0;
-    leasts = replicate 64 0;
-  };
-  counts = replicate tableSize 0;
+  head = record { n = 0; limit = 0; total = 0; helpands = replicate 64 0 };
+  cells = replicate cellsSize 0;
 }
 
 -- the helpands of an accepted plan beside a sheet of as many nodes
@@ -90,53 +77,51 @@ opened s p = refuseIf (not (eqb (checked s p) 0)) noTally (tallyOf (readSheet s 
 -- what a call relies on, in a tally that may hold anything; every tally has it that an opening and calls have given
 abbrev pub usable : Tally → Call → Bool
 usable t c =
-    leb (t .summary .n) maxNodes && (helpandsBelow (t .summary .n) (at (t .summary .helpands))
-    && (leb (at (t .counts) (cellOf c)) (at (t .summary .totals) (c .subdomain))
-    && leb (at (t .summary .totals) (c .subdomain)) (t .summary .total)))
+    leb (t .head .n) maxNodes && (helpandsBelow (t .head .n) (at (t .head .helpands))
+    && (leb (countAt (t .cells) (cellOf c)) (totalAt (t .cells) (c .subdomain)) && leb (totalAt (t .cells) (c .subdomain)) (t .head .total)))
 
 -- its checks; a tally that no opening and calls can have given is refused with 58, as one that has no such cell
 unfoldable pub numberIn : Tally → Call → ℕ
-numberIn t c = refuseIf (not (usable t c)) 58 (callNumber (t .summary .n) (at (t .counts) (cellOf c)) (t .summary .total) c)
+numberIn t c = refuseIf (not (usable t c)) 58 (callNumber (t .head .n) (countAt (t .cells) (cellOf c)) (t .head .total) c)
 
--- the summary after an accepted call: "its limit stays"
-unfoldable pub summaryAfter : Summary → Bool → ℕ → ℕ → Summary
-summaryAfter s adds d count =
-    let totals = set (s .totals) d (counted adds count (at (s .totals) d)) in
-    record {
-      n = s .n;
-      limit = s .limit;
-      total = counted adds count (s .total);
-      helpands = s .helpands;
-      totals = totals;
-      leasts = renewed (s .n) (at (s .helpands)) (at totals) (s .limit) (suc (s .n)) d (s .leasts);
-    }
+-- the head after an accepted call: "its limit stays"
+abbrev pub headAfter : Head → Call → Head
+headAfter h c = record { n = h .n; limit = h .limit; total = counted (c .adds) (c .count) (h .total); helpands = h .helpands }
+
+-- the count of the cell and the total of its subdomain after an accepted call
+abbrev pub countedCells : List ℕ → Call → List ℕ
+countedCells cells c =
+    let count = counted (c .adds) (c .count) (countAt cells (cellOf c)) in
+    let total = counted (c .adds) (c .count) (totalAt cells (c .subdomain)) in
+    set (set cells (128 + cellOf c) count) (c .subdomain) total
+
+-- and the leasts renewed
+unfoldable pub cellsAfter : Head → List ℕ → Call → List ℕ
+cellsAfter h cells c = renewed (h .n) (at (h .helpands)) (h .limit) (suc (h .n)) (c .subdomain) (countedCells cells c)
 
 -- the tally after an accepted call
 unfoldable pub changed : Tally → Call → Tally
-changed t c = record {
-  summary = summaryAfter (t .summary) (c .adds) (c .subdomain) (c .count);
-  counts = set (t .counts) (cellOf c) (counted (c .adds) (c .count) (at (t .counts) (cellOf c)));
-}
+changed t c = record { head = headAfter (t .head) c; cells = cellsAfter (t .head) (t .cells) c }
 
 -- the tally after any call: "A refused call alters nothing."
 unfoldable pub tallyAfter : Tally → Call → Tally
 tallyAfter t c = refuseIf (not (eqb (numberIn t c) 0)) t (changed t c)
 
 -- whether the tree holds, by the leasts of a tally: "The tree holds if no least is above L."
-abbrev pub holding : Summary → Bool
-holding s = all (s .n) (λ k. leb (at (s .leasts) k) (s .limit))
+abbrev pub holding : ℕ → ℕ → List ℕ → Bool
+holding n limit cells = all n (λ k. leb (leastAt cells k) limit)
 
 -- a call "says whether the tree holds"
 unfoldable pub callAnswer : Tally → Call → WeighAnswer
-callAnswer t c = refuseAs refused (numberIn t c) (weighed (holding (changed t c .summary)))
+callAnswer t c = refuseAs refused (numberIn t c) (weighed (holding (t .head .n) (t .head .limit) (changed t c .cells)))
 
--- ---- the same in two parts, as the program has them: the summary by value, and the counts where they lie
+-- ---- the same in two parts, as the program has them: the head by value, and the cells where they lie
 
-abbrev pub tallyWith : Summary → List ℕ → Tally
-tallyWith summary counts = record { summary = summary; counts = counts }
+abbrev pub tallyWith : Head → List ℕ → Tally
+tallyWith head cells = record { head = head; cells = cells }
 
 abbrev pub openResult : List ℕ → List ℕ → Tallied
-openResult s p = record { answer = openAnswer s p; summary = opened s p .summary }
+openResult s p = record { answer = openAnswer s p; head = opened s p .head }
 
 abbrev pub callResult : Tally → Call → Tallied
-callResult t c = record { answer = callAnswer t c; summary = tallyAfter t c .summary }
+callResult t c = record { answer = callAnswer t c; head = tallyAfter t c .head }

@@ -1,45 +1,46 @@
 // Request 2026-08, arrivals between steps: a *tally* is opened from a sheet and a plan, and lent to each call, which adds or removes
-// particles in a cell and says whether the plan's tree holds. What lies in a tally is in its caller's hands, so a call relies on
-// nothing that it has not tested. The summary goes by value; the counts are lent, and of the 4,096 the one that changes is changed
-// where it lies. The C boundary lends the whole.
+// particles in a cell and says whether the plan's tree holds. What lies in a tally is in its caller's hands, so a call relies on nothing
+// that it has not tested. The head goes by value; the cells are lent, and what changes of them is changed where it lies. The C boundary
+// lends the whole.
 use limit::MAX_NODES;
 use limit::MAX_TOTAL;
-use limit::TABLE_SIZE;
 use sheet::Sheet;
 use weigh::WeighAnswer;
 use weigh::check::CheckRefusal;
 use weigh::check::PairReading;
 ghost use mathlib.Core.Path.{_≡_};
-ghost use Prim.Native.Nat.{_+_};
+ghost use Prim.Native.Nat.{suc, _+_, _≤_};
 ghost use lib.Dec.{ltb};
-ghost use Rattle.limit.specs.Limit.{maxTotal};
+ghost use Rattle.limit.specs.Limit.{maxNodes, maxTotal};
 ghost use Rattle.arrays.specs.Arrays.{at};
 ghost use Rattle.weigh.specs.Checks.{checkNumber};
 ghost use Rattle.weigh.specs.Weigh.{refused};
 ghost use Rattle.weigh.specs.Inner.{Weighable};
 ghost use Rattle.tally.specs.Call.{callOf, counted};
-ghost use Rattle.tally.specs.Tally.{numberOf, answerOf, noTally, opened, openResult, summaryAfter};
+ghost use Rattle.tally.specs.Renew.{renewed};
+ghost use Rattle.tally.specs.Tally.{numberOf, answerOf, noTally, opened, openResult, countedCells, holding};
 ghost use Rattle.tally.specs.Tally.{tallyWith, tallyAfter, callResult};
-ghost use Rattle.tally.specs.Inner.{named, checkedNumber, amountNumber, Countable, Changeable};
+ghost use Rattle.tally.specs.Inner.{named, checkedNumber, amountNumber, Countable, CellsChangeable};
 
+pub mod lay;
 pub mod renew;
 
-// What a tally has beside its counts.
+// 64 totals, 64 leasts, and 4,096 counts at 64 × holder + subdomain: in C they are three arrays. As one they are lent together.
+pub const CELLS: usize = 4224;
+
+// What a tally has beside its cells.
 #[repr(C)]
-pub struct Summary {
+pub struct Head {
     pub n: u32,
     pub limit: u32,
     pub total: u32,
     pub helpands: [u32; 64],
-    pub totals: [u32; 64],
-    pub leasts: [u32; 64],
 }
 
-// The counts lie at 64 × holder + subdomain.
 #[repr(C)]
 pub struct Tally {
-    pub summary: Summary,
-    pub counts: [u32; TABLE_SIZE],
+    pub head: Head,
+    pub cells: [u32; CELLS],
 }
 
 // Why an opening or a call is refused: as *weigh* up to 24; the call names no cell or no particles; it removes more than the cell has;
@@ -63,10 +64,10 @@ enum CallCheck {
     Refused(TallyRefusal),
 }
 
-// What an opening or a call gives: its answer, and the summary as it is then.
+// What an opening or a call gives: its answer, and the head as it is then.
 pub struct Tallied {
     pub answer: WeighAnswer,
-    pub summary: Summary,
+    pub head: Head,
 }
 
 // Document 02's number of a refusal.
@@ -98,11 +99,11 @@ fn answer(t: Tallying) -> WeighAnswer
 }
 
 // Opens a tally from a sheet and a plan that were read.
-fn open_read(sheet: &[u8], plan: &[u8], s: Sheet, counts: &mut [u32; TABLE_SIZE]) -> Tallied
+fn open_read(sheet: &[u8], plan: &[u8], s: Sheet, cells: &mut [u32; CELLS]) -> Tallied
     requires { ⌜ Weighable (now sheet) (now plan) s ⌝ }
     ensures { λ r. ⌜
         (r ≡ openResult (now (sheet .entry)) (now (plan .entry)))
-        × (now (counts .exit) ≡ opened (now (sheet .entry)) (now (plan .entry)) .counts) ⌝ }
+        × (now (cells .exit) ≡ opened (now (sheet .entry)) (now (plan .entry)) .cells) ⌝ }
 {
     let nodes = s.n as usize;
     let table = sheet::table::unpack(sheet, s.e as usize);
@@ -110,48 +111,44 @@ fn open_read(sheet: &[u8], plan: &[u8], s: Sheet, counts: &mut [u32; TABLE_SIZE]
     let helpands = words::words_64(plan, 3, nodes);
     let leasts = weigh::tree_leasts(totals, helpands, nodes, s.limit);
     let holds = tree::least::holds(leasts, nodes, s.limit);
-    *counts = table;
+    *cells = lay::lay_out(&totals, &leasts, &table);
     Tallied {
         answer: answer(Tallying::Holding(holds)),
-        summary: Summary {
+        head: Head {
             n: s.n,
             limit: s.limit,
             total: s.p,
             helpands: helpands,
-            totals: totals,
-            leasts: leasts,
         },
     }
 }
 
 // A refused opening: "a tally with N 0".
-fn open_refused(r: CheckRefusal, counts: &mut [u32; TABLE_SIZE]) -> Tallied
+fn open_refused(r: CheckRefusal, cells: &mut [u32; CELLS]) -> Tallied
     ensures { λ t. ⌜
-        (t ≡ record { answer = refused (checkNumber r); summary = noTally .summary }) × (now (counts .exit) ≡ noTally .counts) ⌝ }
+        (t ≡ record { answer = refused (checkNumber r); head = noTally .head }) × (now (cells .exit) ≡ noTally .cells) ⌝ }
 {
-    *counts = [0u32; TABLE_SIZE];
+    *cells = [0u32; CELLS];
     Tallied {
         answer: answer(Tallying::Refused(TallyRefusal::Check(r))),
-        summary: Summary {
+        head: Head {
             n: 0,
             limit: 0,
             total: 0,
             helpands: [0u32; 64],
-            totals: [0u32; 64],
-            leasts: [0u32; 64],
         },
     }
 }
 
 // Opens a tally.
-pub fn open(sheet: &[u8], plan: &[u8], counts: &mut [u32; TABLE_SIZE]) -> Tallied
+pub fn open(sheet: &[u8], plan: &[u8], cells: &mut [u32; CELLS]) -> Tallied
     ensures { λ r. ⌜
         (r ≡ openResult (now (sheet .entry)) (now (plan .entry)))
-        × (now (counts .exit) ≡ opened (now (sheet .entry)) (now (plan .entry)) .counts) ⌝ }
+        × (now (cells .exit) ≡ opened (now (sheet .entry)) (now (plan .entry)) .cells) ⌝ }
 {
     match weigh::check::read_pair(sheet, plan) {
-        PairReading::Refused(r) => open_refused(r, counts),
-        PairReading::Accepted(s) => open_read(sheet, plan, s, counts),
+        PairReading::Refused(r) => open_refused(r, cells),
+        PairReading::Accepted(s) => open_read(sheet, plan, s, cells),
     }
 }
 
@@ -211,72 +208,86 @@ fn count_in(x: u32, count: u32, adds: bool) -> u32
     if adds { x + count } else { x - count }
 }
 
-// The summary after an accepted call.
-fn change_summary(s: Summary, subdomain: usize, count: u32, adds: bool) -> Summary
-    requires { ⌜ Changeable s adds subdomain count ⌝ }
-    ensures { λ r. ⌜ r ≡ summaryAfter s adds subdomain count ⌝ }
+// Counts the particles of an accepted call, and renews the leasts. The helpands are those of the head, and n is the subdomain.
+fn change_cells(
+    cells: &mut [u32; CELLS],
+    helpands: &[u32; 64],
+    nodes: usize,
+    limit: u32,
+    holder: usize,
+    n: usize,
+    count: u32,
+    adds: bool,
+)
+    requires { ⌜ CellsChangeable nodes (at (now helpands)) (now cells) (callOf adds holder n count) ⌝ }
+    ensures { λ _. ⌜
+        now (cells .exit)
+        ≡ renewed nodes (at (now (helpands .entry))) limit (suc nodes) n (countedCells (now (cells .entry)) (callOf adds holder n count)) ⌝ }
 {
-    let nodes = s.n as usize;
-    let helpands = s.helpands;
-    let mut totals = s.totals;
-    let mut leasts = s.leasts;
-    totals[subdomain] = count_in(totals[subdomain], count, adds);
-    let links = tree::links::helper_links(&helpands, nodes);
-    renew::renew(
-        &totals,
-        &helpands,
-        &links,
-        nodes,
-        s.limit,
-        subdomain,
-        &mut leasts,
-    );
-    Summary {
-        n: s.n,
-        limit: s.limit,
-        total: count_in(s.total, count, adds),
-        helpands: helpands,
-        totals: totals,
-        leasts: leasts,
+    let cell = 128 + sheet::table::cell(holder, n);
+    let has = cells[cell];
+    let own = cells[n];
+    cells[cell] = count_in(has, count, adds);
+    cells[n] = count_in(own, count, adds);
+    let links = tree::links::helper_links(helpands, nodes);
+    renew::renew(helpands, &links, nodes, limit, n, cells);
+}
+
+// "The tree holds if no least is above L."
+fn holds(cells: &[u32; CELLS], nodes: usize, limit: u32) -> bool
+    requires { ⌜ nodes ≤ maxNodes ⌝ }
+    ensures { λ r. ⌜ r ≡ holding nodes limit (now (cells .entry)) ⌝ }
+{
+    let mut fine = true;
+    let mut k = 0;
+    while k < nodes {
+        if limit < cells[64 + k] {
+            fine = false;
+        }
+        k += 1;
     }
+    fine
 }
 
 // A call that adds or removes particles in the cell of a holder and a subdomain.
 pub fn change(
-    s: Summary,
-    counts: &mut [u32; TABLE_SIZE],
+    h: Head,
+    cells: &mut [u32; CELLS],
     holder: u32,
     subdomain: u32,
     count: u32,
     adds: bool,
 ) -> Tallied
     ensures { λ r. ⌜
-        (r ≡ callResult (tallyWith s (now (counts .entry))) (callOf adds holder subdomain count))
-        × (now (counts .exit) ≡ tallyAfter (tallyWith s (now (counts .entry))) (callOf adds holder subdomain count) .counts) ⌝ }
+        (r ≡ callResult (tallyWith h (now (cells .entry))) (callOf adds holder subdomain count))
+        × (now (cells .exit) ≡ tallyAfter (tallyWith h (now (cells .entry))) (callOf adds holder subdomain count) .cells) ⌝ }
 {
-    let helpands = s.helpands;
-    if !is_named(s.n, helpands, holder, subdomain, count) {
+    let helpands = h.helpands;
+    if !is_named(h.n, helpands, holder, subdomain, count) {
         return Tallied {
             answer: answer(Tallying::Refused(TallyRefusal::NoCell)),
-            summary: s,
+            head: h,
         };
     }
-    let d = subdomain as usize;
-    let cell = sheet::table::cell(holder as usize, d);
-    let has = counts[cell];
-    match check_amounts(has, s.totals[d], s.total, count, adds) {
+    let k = holder as usize;
+    let n = subdomain as usize;
+    let has = cells[128 + sheet::table::cell(k, n)];
+    match check_amounts(has, cells[n], h.total, count, adds) {
         CallCheck::Refused(r) => Tallied {
             answer: answer(Tallying::Refused(r)),
-            summary: s,
+            head: h,
         },
         CallCheck::Passed => {
-            counts[cell] = count_in(has, count, adds);
-            let after = change_summary(s, d, count, adds);
-            let leasts = after.leasts;
-            let holds = tree::least::holds(leasts, after.n as usize, after.limit);
+            let nodes = h.n as usize;
+            change_cells(cells, &helpands, nodes, h.limit, k, n, count, adds);
             Tallied {
-                answer: answer(Tallying::Holding(holds)),
-                summary: after,
+                answer: answer(Tallying::Holding(holds(cells, nodes, h.limit))),
+                head: Head {
+                    n: h.n,
+                    limit: h.limit,
+                    total: count_in(h.total, count, adds),
+                    helpands: helpands,
+                },
             }
         }
     }

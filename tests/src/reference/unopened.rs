@@ -88,7 +88,7 @@ pub fn reasons(tally: &Tally, change: &Change) -> Vec<Reason> {
 /// for N nodes.
 fn renew(tally: &mut Tally, subdomain: usize) {
     let mut node = subdomain;
-    for _ in 0..tally.n {
+    for _ in 0..=tally.n {
         let least = least(tally, node);
         let helpand = tally.helpands[node] as usize;
         if least == tally.leasts[node] {

@@ -1,5 +1,5 @@
--- `firrozka::firrozka_open_tally` meets its contract: a walk of its code, by hand. The borrow is opened, the counts are lent to `open` with
--- both slices and come back, the summary that `open` returned is stored, and the borrow is closed. All that is known of `open` is its
+-- `firrozka::firrozka_open_tally` meets its contract: a walk of its code, by hand. The borrow is opened, the cells are lent to `open` with
+-- both slices and come back, the head that `open` returned is stored, and the borrow is closed. All that is known of `open` is its
 -- contract. Assumes nothing.
 use mathlib.Core.Path.{_≡_, refl, ap}
 use Prim.Native.Nat.{ℕ, _+_}
@@ -47,11 +47,11 @@ use denote.Triple.Table.{entered, cited}
 use denote.Triple.Walked.{says, Stays, stay-ref, stay-none-slice, walkOf, goes-none-slice, goes-ref, Walks, ends-at, walked, walk-meets}
 use denote.Exit.{yes}
 use Rattle.tally.specs.Tally.{opened, tallyWith, openResult}
-use Rattle.tally.specs.declared.Summary.{Summary}
+use Rattle.tally.specs.declared.Head.{Head}
 use Rattle.tally.specs.declared.Tally.{Tally}
 use Rattle.tally.specs.declared.Tallied.{Tallied}
-use Rattle.tally.proofs.Summary as S
-use Rattle.tally.proofs.Summary.Laws as S′
+use Rattle.tally.proofs.Head as S
+use Rattle.tally.proofs.Head.Laws as S′
 use Rattle.tally.proofs.Tally as T
 use Rattle.tally.proofs.Tally.Laws as T′
 use Rattle.tally.proofs.Tallied as D
@@ -83,15 +83,15 @@ module _ {M : Type 1} (𝓤 : URA M) (H : Heap 𝓤) (A : Atoms 𝓤) (W : Given
   abbrev x : RefT (List ℕ) × (RefT (List ℕ) × (RefT Tally × Unit {0}))
   x = (s₁, (s₂, (record { ptr = (b, o); name = γ; now = h }, tt)))
 
-  -- the machine values of a slice, of a tally, of its summary and of an answer
+  -- the machine values of a slice, of a tally, of its head and of an answer
   abbrev sv : RefT (List ℕ) → Val
   sv s = sliceVal (s .ptr) (length (s .now))
 
   abbrev mach : Tally → Val
   mach t = LL.val T.the-type T′.the-laws t
 
-  abbrev summary : Summary → Val
-  summary s = LL.val S.the-type S′.the-laws s
+  abbrev head : Head → Val
+  head s = LL.val S.the-type S′.the-laws s
 
   abbrev answer : Tallied → Val
   answer r = LL.val R.the-type R′.the-laws (r .answer)
@@ -109,42 +109,42 @@ module _ {M : Type 1} (𝓤 : URA M) (H : Heap 𝓤) (A : Atoms 𝓤) (W : Given
   abbrev toks : Item 𝓤
   toks = ‵ (flft κ₁ q₁) ⊛ (‵ (flft κ₂ q₂) ⊛ ‵ ftrue)
 
-  -- what `open` finds, the counts after it, and the tally in between and after it
+  -- what `open` finds, the cells after it, and the tally in between and after it
   abbrev found : Tallied
   found = openResult (s₁ .now) (s₂ .now)
 
   abbrev ys : List ℕ
-  ys = opened (s₁ .now) (s₂ .now) .counts
+  ys = opened (s₁ .now) (s₂ .now) .cells
 
-  abbrev next : Summary → Tally
+  abbrev next : Head → Tally
   next s = tallyWith s ys
 
   abbrev Post : Val → SProp 𝓤
   Post = walkOf 𝓤 H A f.ended stayed (f.clauses 𝓤 H A at-mem run) .post (((κ₁, (κ₂, (κ, tt))), (q₁, (q₂, (q, tt))), tt, x, at), tt)
 
-  -- the counts, out of the tally, and back with what `open` stored
-  counts-out : Cut 𝓤 H A fullShare T.the-row Arr far h (next (h .summary)) (h .counts) ys (b, o)
-  counts-out =
-      cut-array 𝓤 H A fullShare T.the-row u32 4096 far h (next (h .summary)) (h .counts) ys (b, o)
-      (put-at 𝓤 H A W fullShare T.the-type T′.the-laws 1 far refl refl (b, o) h (next (h .summary)) (h .summary, (h .counts, tt)) ys refl
+  -- the cells, out of the tally, and back with what `open` stored
+  cells-out : Cut 𝓤 H A fullShare T.the-row Arr far h (next (h .head)) (h .cells) ys (b, o)
+  cells-out =
+      cut-array 𝓤 H A fullShare T.the-row u32 4224 far h (next (h .head)) (h .cells) ys (b, o)
+      (put-at 𝓤 H A W fullShare T.the-type T′.the-laws 1 far refl refl (b, o) h (next (h .head)) (h .head, (h .cells, tt)) ys refl
       refl)
 
   -- what is known of the fields
   answer-is : (r : Tallied) (v : Val) → Is D.the-row r (v ∷ []) → Is R.the-row (r .answer) (answer r ∷ [])
   answer-is r v is = LL.owed D.the-type D′.the-laws r _ is .0
 
-  next-is : (r : Tallied) (v : Val) → Is D.the-row r (v ∷ []) → Is S.the-row (r .summary) (summary (r .summary) ∷ [])
+  next-is : (r : Tallied) (v : Val) → Is D.the-row r (v ∷ []) → Is S.the-row (r .head) (head (r .head) ∷ [])
   next-is r v is = LL.owed D.the-type D′.the-laws r _ is .1 .0
 
-  made : (r : Tallied) (v w : Val) → Is D.the-row r (v ∷ []) → Is T.the-row (next (h .summary)) (w ∷ [])
-      → Is T.the-row (next (r .summary)) (mach (next (r .summary)) ∷ [])
+  made : (r : Tallied) (v w : Val) → Is D.the-row r (v ∷ []) → Is T.the-row (next (h .head)) (w ∷ [])
+      → Is T.the-row (next (r .head)) (mach (next (r .head)) ∷ [])
   made r v w is was =
-      LL.owes T.the-type T′.the-laws (next (r .summary)) (next-is r v is, LL.owed T.the-type T′.the-laws (next (h .summary)) _ was .1)
+      LL.owes T.the-type T′.the-laws (next (r .head)) (next-is r v is, LL.owed T.the-type T′.the-laws (next (h .head)) _ was .1)
 
   -- the last observation, the borrow, all tokens and both slices
   abbrev end : Tallied → List (Item 𝓤)
   end r =
-      ‵ (fobs γ (T.the-row .coded .code (next (r .summary)))) ∷ ‵ (fbor κ (Body (mem T.the-row) b o γ)) ∷ ‵ (flft κ q)
+      ‵ (fobs γ (T.the-row .coded .code (next (r .head)))) ∷ ‵ (fbor κ (Body (mem T.the-row) b o γ)) ∷ ‵ (flft κ q)
       ∷ ‵ (flft κ₂ q₂) ∷ ‵ (flft κ₁ q₁) ∷ ‵ Own₁ ∷ ‵ Own₂ ∷ []
 
   exits : (r : Tallied) → r ≡ found → Is R.the-row (r .answer) (answer r ∷ []) → ent 𝓤 (⋆ 𝓤 H A (end r)) (Post (answer r))
@@ -152,17 +152,17 @@ module _ {M : Type 1} (𝓤 : URA M) (H : Heap 𝓤) (A : Atoms 𝓤) (W : Given
       qed W (end r) ∵
       suffices ! _
       (ends-at 𝓤 H A f.ended stayed (f.clauses 𝓤 H A at-mem run) W (((κ₁, (κ₂, (κ, tt))), (q₁, (q₂, (q, tt))), tt, x, at), tt) (answer r)
-      (r .answer) (tt, (tt, (next (r .summary), tt))) (tt, (tt, (tt, tt)))) $
-      says ! (ap (λ (d : Tallied). d .answer) e, ap (λ (d : Tallied). next (d .summary)) e) $ nothing ! $
+      (r .answer) (tt, (tt, (next (r .head), tt))) (tt, (tt, (tt, tt)))) $
+      says ! (ap (λ (d : Tallied). d .answer) e, ap (λ (d : Tallied). next (d .head)) e) $ nothing ! $
       -- [true; obs; the borrow; its token; the second slice's; the first's; both slices]
       move ! (3 ∷ 0 ∷ []) $ join ! $ move ! (3 ∷ 0 ∷ []) $ join ! $ move ! (3 ∷ 0 ∷ []) $ join ! $ frame ! $
       feqI ! (List Val) (vptr b o ∷ []) (vptr b o ∷ []) refl $ fjoin3 ! $ nothing ! $ move ! (1 ∷ 0 ∷ []) $ fjoin ! $
       move ! (2 ∷ 0 ∷ []) $ fjoin ! $ move ! (1 ∷ 0 ∷ []) $ fjoin ! $ frame ! $
       owned ! R.the-row (Is R.the-row) (LL.makes R.the-type R′.the-plain 𝓤 H A) (r .answer) _ is $ done !
 
-  -- what `open` is handed: both slices, and the counts lent for the lifetime α under the name δ
+  -- what `open` is handed: both slices, and the cells lent for the lifetime α under the name δ
   abbrev lent : ℕ → GName → RefT (List ℕ)
-  lent α δ = record { ptr = (b, o + far); name = δ; now = h .counts }
+  lent α δ = record { ptr = (b, o + far); name = δ; now = h .cells }
 
   abbrev own-lent : ℕ → GName → Fml
   own-lent α δ = MutRef (named 2) (α ∷ []) Arr .own (lent α δ) (vptr b (o + far) ∷ [])
@@ -192,7 +192,7 @@ module _ {M : Type 1} (𝓤 : URA M) (H : Heap 𝓤) (A : Atoms 𝓤) (W : Given
       move ! (6 ∷ 1 ∷ []) $ fjoin ! $ move ! (4 ∷ 0 ∷ []) $ fjoin ! $ move ! (3 ∷ 0 ∷ []) $ fjoin ! $
       nothing ! $ move ! (4 ∷ 0 ∷ []) $ join ! $ move ! (2 ∷ 0 ∷ []) $ join ! $ move ! (2 ∷ 0 ∷ []) $ join ! $ join ! $ frame ! $ done !
 
-  -- what `open` promised: its result, and the last value of the counts
+  -- what `open` promised: its result, and the last value of the cells
   said : (α : ℕ) (δ : GName) (r : Tallied)
       → ent 𝓤 (ensured 𝓤 H A opener.ended (opener.clauses 𝓤 H A at-mem run) (κ₁, (κ₂, (α ∷ [], tt))) (args α δ) tt r)
       (guard 𝓤 (r ≡ found) (A .res δ (Arr .coded .code ys)))
@@ -229,15 +229,15 @@ module _ {M : Type 1} (𝓤 : URA M) (H : Heap 𝓤) (A : Atoms 𝓤) (W : Given
         -- [the tally's cell; what it owns; the open borrow; obs; auth; _5; …; _4; …; _3; …; _2; …; _1; …; room for _0; …; tokens; …]
         use1 W (‵ (fat fullShare T′.mir b o (mach h))) (W .laws .raw-at fullShare T′.mir b o (mach h)) $
         assigns ! (addr ! (from ! (hop ! (look ! 9 refl) (fld ! refl (stop !))))) (from ! (stop !)) (init ! 5 refl (tt, tt)) $
-        -- the counts are taken out of the tally and lent
+        -- the cells are taken out of the tally and lent
         use2 W (‵ (partAt T.the-row fullShare h b o)) (part-in 𝓤 H A W T.the-row refl fullShare h b o (mach h)) $
         use1 W
-        (‵ (partAt Arr fullShare (h .counts) b (o + far))
-        ⊛ raw (wand 𝓤 (sem 𝓤 H A (partAt Arr fullShare ys b (o + far))) (sem 𝓤 H A (partAt T.the-row fullShare (next (h .summary)) b o))))
-        counts-out $ split ! $
+        (‵ (partAt Arr fullShare (h .cells) b (o + far))
+        ⊛ raw (wand 𝓤 (sem 𝓤 H A (partAt Arr fullShare ys b (o + far))) (sem 𝓤 H A (partAt T.the-row fullShare (next (h .head)) b o))))
+        cells-out $ split ! $
         lft-new ! tt (λ α. move ! (1 ∷ []) $
         use1 W (later (some (λ (δ : GName). ‵ (own-lent α δ) ⊛ ‵ (flent (α ∷ []) (Body (mem Arr) b (o + far) δ)))))
-        (lends-ref 𝓤 H A W Arr (named 2) (α ∷ []) (h .counts) b (o + far)) $ await ! tt $ pick ! (λ δ. split ! $
+        (lends-ref 𝓤 H A W Arr (named 2) (α ∷ []) (h .cells) b (o + far)) $ await ! tt $ pick ! (λ δ. split ! $
         -- [the reference; the lender's part; its token; the way back; the open borrow; obs; auth; _5; …; the slices' tokens; both; ..]
         move ! (19 ∷ 20 ∷ 21 ∷ 2 ∷ 0 ∷ []) $ join ! $ join ! $ join ! $ join ! $
         use1 W (raw (Opens 𝓤 H A at-mem run .pre (to α δ))) (goes α δ) $
@@ -252,31 +252,31 @@ module _ {M : Type 1} (𝓤 : URA M) (H : Heap 𝓤) (A : Atoms 𝓤) (W : Given
         await ! tt $ pick ! (λ r.
         split ! $ move ! (1 ∷ []) $ use1 W (given (r ≡ found) (‵ (fres δ (Arr .coded .code ys)))) (said α δ r) $ learn ! (λ e.
         move ! (1 ∷ []) $ split ! $ move ! (1 ∷ []) $ peeks ! D.the-row (Is D.the-row) (shows 𝓤 H A D.the-row) r (v ∷ []) (λ is. drop ! $
-        -- [the tokens; the last value of the counts; the lender's part; the way back; the open borrow; obs; auth; _5; …]
+        -- [the tokens; the last value of the cells; the lender's part; the way back; the open borrow; obs; auth; _5; …]
         land ! (from ! (stop !)) (init ! 9 refl (LL.lawful D.the-type D′.the-laws 𝓤 H A W .typed r _ is .0)) $
         rewrite ! 9 (λ (u : Val). ‵ (fat fullShare D′.mir l₄ 0 u)) (ap only (LL.tells D.the-type D′.the-laws r (v ∷ []) is)) refl $
-        -- the counts come back
+        -- the cells come back
         split ! $ move ! (1 ∷ []) $ split ! $ move ! (1 ∷ []) $ split ! $ lft-end ! tt $
         -- [the token's end; true; the second slice's token; the first's; the last value; the lender's part; the way back; ..]
         move ! (0 ∷ 5 ∷ 4 ∷ []) $
         use3 W (later (‵ (partAt Arr fullShare ys b (o + far)))) (ref-back 𝓤 H A W Arr (α ∷ []) δ ys b (o + far)) $ await ! tt $
         move ! (0 ∷ 4 ∷ []) $ apply ! $
-        use1 W (some (λ (w : Val). ‵ (fat fullShare T′.mir b o w) ⊛ ‵ (T.the-row .own (next (h .summary)) (w ∷ []))))
-        (part-out 𝓤 H A W T.the-row refl fullShare (next (h .summary)) b o) $ pick ! (λ w. split ! $ move ! (1 ∷ []) $
-        peeks ! T.the-row (Is T.the-row) (shows 𝓤 H A T.the-row) (next (h .summary)) (w ∷ []) (λ is′. drop ! $
+        use1 W (some (λ (w : Val). ‵ (fat fullShare T′.mir b o w) ⊛ ‵ (T.the-row .own (next (h .head)) (w ∷ []))))
+        (part-out 𝓤 H A W T.the-row refl fullShare (next (h .head)) b o) $ pick ! (λ w. split ! $ move ! (1 ∷ []) $
+        peeks ! T.the-row (Is T.the-row) (shows 𝓤 H A T.the-row) (next (h .head)) (w ∷ []) (λ is′. drop ! $
         rewrite ! 0 (λ (u : Val). ‵ (fat fullShare T′.mir b o u))
-        (ap only (LL.tells T.the-type T′.the-laws (next (h .summary)) (w ∷ []) is′)) refl $
+        (ap only (LL.tells T.the-type T′.the-laws (next (h .head)) (w ∷ []) is′)) refl $
         -- [the tally's cell; true; both slices' tokens; the open borrow; obs; auth; _5; …; _4; …; _3; …; _2; …; _1; …; room for _0; …]
         assigns ! (of-opd ! (load ! (from ! (fld ! refl (stop !))) (look-in ! 9 (sub ! 1 refl (whole !)))))
         (from ! (hop ! (look ! 11 refl) (fld ! refl (stop !))))
-        (store-in ! 0 (sub ! 0 refl (whole !)) (LL.lawful S.the-type S′.the-laws 𝓤 H A W .typed (r .summary) _ (next-is r v is) .0)) $
+        (store-in ! 0 (sub ! 0 refl (whole !)) (LL.lawful S.the-type S′.the-laws 𝓤 H A W .typed (r .head) _ (next-is r v is) .0)) $
         assigns ! (of-opd ! (load ! (from ! (fld ! refl (stop !))) (look-in ! 9 (sub ! 0 refl (whole !)))))
         (from ! (stop !)) (init ! 17 refl (LL.lawful R.the-type R′.the-laws 𝓤 H A W .typed (r .answer) _ (answer-is r v is) .0)) $
         -- the borrow is closed at the opened tally
-        use1 W (‵ (cellAt fullShare (T.the-row .mir) (mach (next (r .summary)) ∷ []) b o))
-        (W .laws .at-raw fullShare T′.mir b o (mach (next (r .summary)))) $
-        owned ! T.the-row (Is T.the-row) (LL.makes T.the-type T′.the-plain 𝓤 H A) (next (r .summary)) _ (made r v w is is′) $
-        move ! (1 ∷ 0 ∷ 5 ∷ 6 ∷ 7 ∷ []) $ closes ! tt T.the-row (next (r .summary)) (mach (next (r .summary)) ∷ []) b o $
+        use1 W (‵ (cellAt fullShare (T.the-row .mir) (mach (next (r .head)) ∷ []) b o))
+        (W .laws .at-raw fullShare T′.mir b o (mach (next (r .head)))) $
+        owned ! T.the-row (Is T.the-row) (LL.makes T.the-type T′.the-plain 𝓤 H A) (next (r .head)) _ (made r v w is is′) $
+        move ! (1 ∷ 0 ∷ 5 ∷ 6 ∷ 7 ∷ []) $ closes ! tt T.the-row (next (r .head)) (mach (next (r .head)) ∷ []) b o $
         -- [obs; the borrow; its token; true; the second slice's token; the first's; _5; …; _0; …; both slices; true]
         returns ! (look ! 16 refl) $ forget ! 6 refl $ forget ! 8 refl $ forget ! 10 refl $ forget ! 12 refl $ forget ! 14 refl $
         forget ! 16 refl $ move ! (16 ∷ 17 ∷ []) $ free1 ! $ move ! (14 ∷ 15 ∷ []) $ free1 ! $ move ! (12 ∷ 13 ∷ []) $ free1 ! $

@@ -1,18 +1,18 @@
--- `tally::change` meets its contract: the first check that refuses decides, and otherwise the cell and the summary change. Assumes nothing.
+-- `tally::change` meets its contract: the first check that refuses decides, and otherwise the cells and the total change. Assumes nothing.
 use borrow.Author.Needs.{needs}
 use borrow.Author.Tests.{not-true, not-false}
 use mathlib.Core.Path.{_≡_, sym, ap, _∙_}
 use mathlib.Core.Bool.{Bool, true}
 use mathlib.Core.List.{List}
-use Prim.Native.Nat.{ℕ, _<_}
+use Prim.Native.Nat.{ℕ, _+_, _<_}
 use native.Mathlib.Omega.{arith}
 use denote.Ref.{now}
 use Rattle.arrays.specs.Arrays.{at}
 use Rattle.sheet.specs.Sheet.{cell}
-use Rattle.tally.specs.declared.Summary.{Summary}
-use Rattle.tally.specs.Tally.{summaryAfter}
-use Rattle.tally.specs.Inner.{named, amountNumber, checkedNumber, Changeable}
-use Rattle.tally.proofs.Called.{ends-unnamed, ends-amounts, ends-changed, named-holder, named-subdomain, changeable, has-countable}
+use Rattle.tally.specs.declared.Head.{Head}
+use Rattle.tally.specs.Layout.{totalAt, countAt}
+use Rattle.tally.specs.Inner.{named, amountNumber, checkedNumber}
+use Rattle.tally.proofs.Called.{ends-unnamed, ends-amounts, ends-changed, few, named-holder, named-subdomain, changeable, total-countable}
 use Rattle.tally.proofs.change.Statement.{statement}
 use Rattle.tally.proofs.change.Tie as tie
 
@@ -21,7 +21,7 @@ returns c =
     let t = c .before in
     let n = t .before in
     let a = n .before .before .args in
-    let x = ends-unnamed (a .t1) (now (a .counts)) (a .adds) (a .holder) (a .subdomain) (a .count)
+    let x = ends-unnamed (a .h) (now (a .cells)) (a .adds) (a .holder) (a .subdomain) (a .count)
     (sym (n .is-named .ensures) ∙ not-true _ (t .if1 .taken)) in
     (rw (c .answer .ensures) (x .0), x .1)
 
@@ -30,11 +30,11 @@ module _ (c : tie.Else1) where
   abbrev start : tie.Start
   start = c .before .before .before
 
-  abbrev summary : Summary
-  summary = start .args .t1
+  abbrev head : Head
+  head = start .args .h
 
-  abbrev counts : List ℕ
-  counts = now (start .args .counts)
+  abbrev cells : List ℕ
+  cells = now (start .args .cells)
 
   abbrev adds : Bool
   adds = start .args .adds
@@ -48,16 +48,20 @@ module _ (c : tie.Else1) where
   abbrev count : ℕ
   count = start .args .count
 
-  is-named : named (summary .n) (at (summary .helpands)) holder subdomain count ≡ true
+  is-named : named (head .n) (at (head .helpands)) holder subdomain count ≡ true
   is-named = sym (c .before .is-named .ensures) ∙ not-false _ (c .if1 .left)
 
   holder-below : holder < 64
-  holder-below = named-holder summary counts adds holder subdomain count is-named
+  holder-below = named-holder head cells adds holder subdomain count is-named
 
   subdomain-below : subdomain < 64
-  subdomain-below = named-subdomain summary counts adds holder subdomain count is-named
+  subdomain-below = named-subdomain head cells adds holder subdomain count is-named
 
-cell-below : (c : tie.After-cell) → c .cell .result < 4096
+  -- what the checks of the amounts say
+  abbrev amounts : ℕ
+  amounts = amountNumber (countAt cells (cell holder subdomain)) (totalAt cells subdomain) (head .total) count adds
+
+cell-below : (c : tie.After-cell) → 128 + c .cell .result < 4224
 cell-below c = omega (arith, c .cell .ensures, holder-below (c .before), subdomain-below (c .before))
 
 -- the amounts were checked
@@ -68,14 +72,11 @@ module _ (c : tie.After-check-amounts) where
   abbrev past-named : tie.Else1
   past-named = at-cell .before
 
-  checked : let p = past-named in
-      let has = at (counts p) (cell (holder p) (subdomain p)) in
-      checkedNumber (c .check-amounts .result)
-      ≡ amountNumber has (at (summary p .totals) (subdomain p)) (summary p .total) (count p) (adds p)
+  checked : checkedNumber (c .check-amounts .result) ≡ amounts past-named
   checked =
       let p = past-named in
       c .check-amounts .ensures
-      ∙ ap (λ (x : ℕ). amountNumber (at (counts p) x) (at (summary p .totals) (subdomain p)) (summary p .total) (count p) (adds p))
+      ∙ ap (λ (x : ℕ). amountNumber (countAt (cells p) x) (totalAt (cells p) (subdomain p)) (head p .total) (count p) (adds p))
       (at-cell .cell .ensures)
 
 returns-2 : tie.Need-returns-2
@@ -84,53 +85,49 @@ returns-2 c =
     let r = k .r .given in
     let a = k .before .before in
     let p = past-named a in
-    let x = ends-amounts (summary p) (counts p) (adds p) (holder p) (subdomain p) (count p) (is-named p) (r .0 .0)
+    let x = ends-amounts (head p) (cells p) (adds p) (holder p) (subdomain p) (count p) (is-named p) (r .0 .0)
     (ap checkedNumber (sym (r .1)) ∙ checked a) in
     (rw (c .answer2 .ensures) (x .0), x .1)
 
 -- they pass
 module _ (c : tie.After-enum-told) where
-  abbrev amounts : tie.After-check-amounts
-  amounts = c .before .before
-
   abbrev named-call : tie.Else1
-  named-call = past-named amounts
+  named-call = past-named (c .before .before)
 
-  passed : let p = named-call in
-      let has = at (counts p) (cell (holder p) (subdomain p)) in
-      0 ≡ amountNumber has (at (summary p .totals) (subdomain p)) (summary p .total) (count p) (adds p)
-  passed = ap checkedNumber (sym (c .enum-told .given .1)) ∙ checked amounts
+  passed : 0 ≡ amounts named-call
+  passed = ap checkedNumber (sym (c .enum-told .given .1)) ∙ checked (c .before .before)
 
-  can-change : let p = named-call in Changeable (summary p) (adds p) (subdomain p) (count p)
-  can-change =
-      let p = named-call in
-      changeable (summary p) (counts p) (adds p) (holder p) (subdomain p) (count p) (is-named p) passed
+change-cells-requires : tie.Need-change-cells-requires
+change-cells-requires c κs =
+    let e = c .before .before .before in
+    let p = named-call e in
+    changeable (head p) (cells p) (adds p) (holder p) (subdomain p) (count p) (is-named p) (passed e)
+
+-- the cells were changed
+abbrev told : tie.After-change-cells → tie.After-enum-told
+told c = c .before .before .before .before
+
+holds-requires : tie.Need-holds-requires
+holds-requires c κs =
+    let p = named-call (told (c .before)) in
+    few (head p) (cells p) (adds p) (holder p) (subdomain p) (count p) (is-named p)
 
 count-in-requires : tie.Need-count-in-requires
 count-in-requires c κs =
-    let p = named-call c in
-    rw (at-cell (amounts c) .cell .ensures)
-    (has-countable (summary p) (counts p) (adds p) (holder p) (subdomain p) (count p) (is-named p) (passed c))
-
--- the summary was changed
-abbrev told : tie.After-change-summary → tie.After-enum-told
-told c = c .before .before
-
-holds-requires : tie.Need-holds-requires
-unfolding summaryAfter
-holds-requires c κs =
-    let m = c .before .before in
-    rw (m .change-summary .ensures) (can-change (told m) .few)
+    let e = told (c .before .before .before) in
+    let p = named-call e in
+    total-countable (head p) (cells p) (adds p) (holder p) (subdomain p) (count p) (is-named p) (passed e)
 
 returns-3 : tie.Need-returns-3
 returns-3 c =
-    let h = c .before in
-    let m = h .before .before .before in
-    let t = told m in
-    let p = named-call t in
-    let x = ends-changed (summary p) (counts p) (adds p) (holder p) (subdomain p) (count p) (is-named p) (passed t)
-    (m .change-summary .ensures) in
-    (rw (c .answer3 .ensures, h .holds .ensures) (x .0), rw (m .before .count-in .ensures, at-cell (amounts t) .cell .ensures) (x .1))
+    let a = c .before in
+    let h = a .before in
+    let m = h .before .before in
+    let e = told m in
+    let p = named-call e in
+    let x = ends-changed (head p) (cells p) (adds p) (holder p) (subdomain p) (count p) (is-named p) (passed e)
+    (m .change-cells .ensures) in
+    (rw (a .answer3 .ensures, h .holds .ensures, c .count-in .ensures) (x .0), x .1)
 
 pub change-spec : {M : Type 1} → statement M
 change-spec =
@@ -140,20 +137,19 @@ change-spec =
     (λ c κs. search needs)  -- answer-requires
     returns
     (λ c κs. (holder-below c, omega (arith, subdomain-below c)))  -- cell-requires
+    (λ c. omega (arith, cell-below c))  -- add-has
     (λ c. search needs)  -- mul-has
     cell-below  -- element-copy-out-has
     (λ c. search needs)  -- mul-check-amounts
-    (λ c. subdomain-below (c .before .before))  -- element-copy-out-check-amounts
+    (λ c. omega (arith, subdomain-below (c .before .before)))  -- element-copy-out-check-amounts
     (λ c κs. search needs)  -- check-amounts-requires
     (λ c. search needs)  -- enum-known-r
     (λ c κs. search needs)  -- answer-requires-2
     (λ c. search needs)  -- enum-told
-    count-in-requires
-    (λ c. search needs)  -- mul-counts
-    (λ c. cell-below (at-cell (c .before .before .before)))  -- element-write-counts
-    (λ c κs. can-change (c .before))  -- change-summary-requires
-    (λ c. search needs)  -- cast-holds
+    (λ c. search needs)  -- cast-nodes
+    change-cells-requires
     holds-requires
     (λ c κs. search needs)  -- answer-requires-3
+    count-in-requires
     returns-2
     returns-3)

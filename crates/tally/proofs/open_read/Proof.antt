@@ -44,13 +44,14 @@ tree-leasts-requires c κs =
 
 returns : tie.Need-returns
 returns c =
-    let h = c .before in
+    let y = c .before in
+    let h = y .before .before .before .before in
     let l = h .before in
     let w = l .before in
     let t = w .before in
     let u = t .before .before in
     let x = ends-opened (start (u .before) .pre) (u .unpack .ensures) (t .totals .ensures) (w .words-64 .ensures)
-    (l .tree-leasts .ensures) in
+    (l .tree-leasts .ensures) (y .lay-out .ensures) in
     (rw (c .answer .ensures, h .holds .ensures) (x .0), x .1)
 
 pub open-read-spec : {M : Type 1} → statement M
@@ -64,5 +65,6 @@ open-read-spec =
     words-64-requires
     tree-leasts-requires
     (λ c κs. read (c .before .before .before .before .before) .n-high)  -- holds-requires
+    (λ c κs. search needs)  -- lay-out-requires
     (λ c κs. search needs)  -- answer-requires
     returns)

@@ -8,7 +8,7 @@ use Rattle.tally.proofs.open_refused.Tie as tie
 
 returns : tie.Need-returns
 unfolding noTally
-returns c = (ap (λ (a : WeighAnswer). record { answer = a; summary = noTally .summary }) (c .answer .ensures), refl)
+returns c = (ap (λ (a : WeighAnswer). record { answer = a; head = noTally .head }) (c .answer .ensures), refl)
 
 pub open-refused-spec : {M : Type 1} → statement M
 open-refused-spec =

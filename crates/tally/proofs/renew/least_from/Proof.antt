@@ -8,15 +8,16 @@ use Rattle.fold.specs.First.{FirstFrom}
 use Rattle.arrays.specs.Arrays.{at}
 use Rattle.tree.specs.Family.{helps}
 use Rattle.tree.proofs.Linking.{link-first, link-next, Left, left-first, left-next, left-all}
+use Rattle.tally.specs.Layout.{totalAt, leastAt}
 use Rattle.tally.proofs.renew.least_from.Statement.{statement}
 use Rattle.tally.proofs.renew.least_from.Tie as tie
 
 abbrev Inv : tie.InvT-loop
-Inv totals helpands links nodes limit leasts n left₀ k₀ left k =
-    Left nodes (at helpands) n (λ j. limit - at leasts j) (at totals n) left k
+Inv cells helpands links nodes limit n left₀ k₀ left k =
+    Left nodes (at helpands) n (λ j. limit - leastAt cells j) (totalAt cells n) left k
 
 abbrev μ : tie.MeasureT-loop
-μ totals helpands links nodes limit leasts n left₀ k₀ left k = nodes - k
+μ cells helpands links nodes limit n left₀ k₀ left k = nodes - k
 
 -- a turn begins
 module _ (c : tie.In-loop Inv μ) where
@@ -51,6 +52,7 @@ least-from-spec =
     (λ c. search needs)  -- element-copy-out-left
     (λ c κs. search needs)  -- first-requires
     (λ c. left-first refl (link-first (c .before .before .pre .0 .linked) _ (c .before .before .pre .1) (c .first .ensures)))  -- loop-holds
+    (λ c. search needs)  -- add-saturating-sub
     (λ c. search needs)  -- mul-saturating-sub
     (λ c. search needs)  -- element-copy-out-saturating-sub
     (λ c κs. search needs)  -- saturating-sub-requires

@@ -14,12 +14,11 @@ use Rattle.tally.proofs.renew.renew.Statement.{statement}
 use Rattle.tally.proofs.renew.renew.Tie as tie
 
 abbrev Inv : tie.InvT-loop
-Inv totals helpands links nodes limit first leasts₀ n₀ more₀ leasts n more =
-    (n < nodes) × (renewed nodes (at helpands) (at totals) limit more n leasts
-    ≡ renewed nodes (at helpands) (at totals) limit (suc nodes) first leasts₀)
+Inv helpands links nodes limit first cells₀ n₀ more₀ cells n more =
+    (n < nodes) × (renewed nodes (at helpands) limit more n cells ≡ renewed nodes (at helpands) limit (suc nodes) first cells₀)
 
 abbrev μ : tie.MeasureT-loop
-μ totals helpands links nodes limit first leasts₀ n₀ more₀ leasts n more = more
+μ helpands links nodes limit first cells₀ n₀ more₀ cells n more = more
 
 -- a turn begins
 module _ (c : tie.In-loop Inv μ) where
@@ -49,7 +48,7 @@ returns : tie.Need-returns Inv μ
 returns c =
     let f = c .before .before in
     let l = turn f .before .loop in
-    sym (renewed-same _ _ _ _ _ _ (f .least-from .ensures) (l .more) (some-left (turn f)) (c .if1 .taken)) ∙ l .inv .1
+    sym (renewed-same _ _ _ _ _ (f .least-from .ensures) (l .more) (some-left (turn f)) (c .if1 .taken)) ∙ l .inv .1
 
 -- it is noted, and the helpand is read
 module _ (c : tie.After-helpand Inv μ) where
@@ -64,7 +63,7 @@ returns-2 c =
     let h = c .before in
     let f = found h in
     let l = turn f .before .loop in
-    sym (renewed-root _ _ _ _ _ _ (f .least-from .ensures) (l .more) (some-left (turn f)) (renewing h .if1 .left) (c .if2 .taken))
+    sym (renewed-root _ _ _ _ _ (f .least-from .ensures) (l .more) (some-left (turn f)) (renewing h .if1 .left) (c .if2 .taken))
     ∙ l .inv .1
 
 loop-again : tie.Need-loop-again Inv μ
@@ -73,7 +72,7 @@ loop-again c =
     let f = found h in
     let l = turn f .before .loop in (
       helpand-below (turn f),
-      sym (renewed-up _ _ _ _ _ _ (f .least-from .ensures) (l .more) (some-left (turn f)) (renewing h .if1 .left) (c .if2 .left))
+      sym (renewed-up _ _ _ _ _ (f .least-from .ensures) (l .more) (some-left (turn f)) (renewing h .if1 .left) (c .if2 .left))
           ∙ l .inv .1,
     )
 
@@ -82,7 +81,7 @@ returns-3 c =
     let l = c .before .loop in
     let a = c .before .before .args in
     let none : l .more ≡ 0 = omega (arith, c .loop-test .left) in
-    sym (renewed-none (a .nodes) (at (now (a .helpands))) (at (now (a .totals))) (a .limit) (l .n) (l .leasts)) ∙ rw (← none) (l .inv .1)
+    sym (renewed-none (a .nodes) (at (now (a .helpands))) (a .limit) (l .n) (l .cells)) ∙ rw (← none) (l .inv .1)
 
 pub renew-spec : {M : Type 1} → statement M
 renew-spec =
@@ -93,11 +92,13 @@ renew-spec =
     (λ c. search needs)  -- add-more
     (λ c. (c .pre .1, rw (add-one (c .args .nodes))))  -- loop-holds
     (λ c κs. (start (c .before) .pre .0, below (c .before)))  -- least-from-requires
+    (λ c. omega (arith, inside (turn c)))  -- add-if1
     (λ c. search needs)  -- mul-if1
-    (λ c. inside (turn c))  -- element-copy-out-if1
+    (λ c. omega (arith, inside (turn c)))  -- element-copy-out-if1
     returns
-    (λ c. search needs)  -- mul-leasts
-    (λ c. inside (turn (c .before .before)))  -- element-write-leasts
+    (λ c. omega (arith, inside (turn (c .before .before))))  -- add-cells
+    (λ c. search needs)  -- mul-cells
+    (λ c. omega (arith, inside (turn (c .before .before))))  -- element-write-cells
     (λ c. search needs)  -- mul-helpand
     (λ c. inside (turn (c .before .before)))  -- element-copy-out-helpand
     (λ c.
