@@ -1,7 +1,7 @@
 -- The functions that add and remove particles in a tally meet their contracts: they differ in one constant, so that one walk of their code,
 -- by hand, serves both. The borrow is opened, the head is copied out, the cells are lent to `change` where they lie and come back, the
--- head that `change` returned is stored, and the borrow is closed. All that is known of `change` is its contract. Assumes nothing.
-use mathlib.Core.Path.{_≡_, refl, ap}
+-- total that `change` returned is stored, and the borrow is closed. All that is known of `change` is its contract. Assumes nothing.
+use mathlib.Core.Path.{_≡_, refl, ap, _∙_}
 use mathlib.Core.Bool.{Bool, true, false}
 use Prim.Native.Nat.{ℕ, _+_, _<_, _^_}
 use mathlib.Core.List.{[], _∷_, List}
@@ -46,16 +46,17 @@ use denote.Triple.Clauses.{Clauses, closing, ensured, lasts}
 use denote.Triple.Walked.{says, Stays, stay-ref, stay-none, walkOf, goes-none, goes-ref, Walks, ends-at, walked, walk-meets}
 use denote.Exit.{yes}
 use Rattle.tally.specs.Call.{callOf}
-use Rattle.tally.specs.Tally.{tallyWith, callAnswer, tallyAfter, callResult}
+use Rattle.tally.specs.Tally.{tallyWith, withTotal, callAnswer, tallyAfter, callResult}
+use Rattle.tally.proofs.Calling.{head-stays}
 use Rattle.tally.specs.declared.Head.{Head}
 use Rattle.tally.specs.declared.Tally.{Tally}
-use Rattle.tally.specs.declared.Tallied.{Tallied}
+use Rattle.tally.specs.declared.Called.{Called}
 use Rattle.tally.proofs.Head as S
 use Rattle.tally.proofs.Head.Laws as S′
 use Rattle.tally.proofs.Tally as T
 use Rattle.tally.proofs.Tally.Laws as T′
-use Rattle.tally.proofs.Tallied as D
-use Rattle.tally.proofs.Tallied.Laws as D′
+use Rattle.tally.proofs.Called as D
+use Rattle.tally.proofs.Called.Laws as D′
 use Rattle.weigh.proofs.WeighAnswer as R
 use Rattle.weigh.proofs.WeighAnswer.Laws as R′
 use Rattle.tally.proofs.change as change
@@ -94,7 +95,7 @@ function adds = record {
       seq (call #tally·change (
       copy (place 6 []) ∷ copy (place 7 []) ∷ copy (place 2 []) ∷ copy (place 3 []) ∷ copy (place 4 []) ∷ constant adds ∷ []
       ) (place 5 [])) (
-      seq (assign (part-of 0) (rvOpd (copy (place 5 (field 1 ∷ []))))) (
+      seq (assign (place 1 (deref T′.mir ∷ field 0 ∷ field 2 ∷ [])) (rvOpd (copy (place 5 (field 1 ∷ []))))) (
       seq (assign (place 0 []) (rvOpd (copy (place 5 (field 0 ∷ []))))) return))));
 }
 
@@ -147,55 +148,60 @@ module _ {M : Type 1} (𝓤 : URA M) (H : Heap 𝓤) (A : Atoms 𝓤) (W : Given
   abbrev head : Head → Val
   head s = LL.val S.the-type S′.the-laws s
 
-  abbrev answer : Tallied → Val
+  abbrev answer : Called → Val
   answer r = LL.val R.the-type R′.the-laws (r .answer)
 
   -- what `change` finds, the cells after it, and the tally in between and after it
-  abbrev found : Tallied
+  abbrev found : Called
   found = callResult h (callOf adds n₁ n₂ n₃)
 
   abbrev ys : List ℕ
   ys = tallyAfter h (callOf adds n₁ n₂ n₃) .cells
 
-  abbrev next : Head → Tally
-  next s = tallyWith s ys
+  abbrev between : Tally
+  between = tallyWith (h .head) ys
+
+  abbrev next : Called → Tally
+  next r = tallyWith (withTotal (h .head) (r .total)) ys
 
   abbrev Post : Val → SProp 𝓤
   Post = walkOf 𝓤 H A f.ended stayed (clauses 𝓤 adds) .post (((κ, tt), (q, tt), tt, x, at), tt)
 
   -- the cells, out of the tally, and back with what `change` stored
-  cells-out : Cut 𝓤 H A fullShare T.the-row Arr far h (next (h .head)) (h .cells) ys (b, o)
+  cells-out : Cut 𝓤 H A fullShare T.the-row Arr far h (between) (h .cells) ys (b, o)
   cells-out =
-      cut-array 𝓤 H A fullShare T.the-row u32 4224 far h (next (h .head)) (h .cells) ys (b, o)
-      (put-at 𝓤 H A W fullShare T.the-type T′.the-laws 1 far refl refl (b, o) h (next (h .head)) (h .head, (h .cells, tt)) ys refl
+      cut-array 𝓤 H A fullShare T.the-row u32 4224 far h (between) (h .cells) ys (b, o)
+      (put-at 𝓤 H A W fullShare T.the-type T′.the-laws 1 far refl refl (b, o) h (between) (h .head, (h .cells, tt)) ys refl
       refl)
 
   -- what is known of the fields
   head-is : (t : Tally) (v : Val) → Is T.the-row t (v ∷ []) → Is S.the-row (t .head) (head (t .head) ∷ [])
   head-is t v is = LL.owed T.the-type T′.the-laws t _ is .0
 
-  answer-is : (r : Tallied) (v : Val) → Is D.the-row r (v ∷ []) → Is R.the-row (r .answer) (answer r ∷ [])
+  answer-is : (r : Called) (v : Val) → Is D.the-row r (v ∷ []) → Is R.the-row (r .answer) (answer r ∷ [])
   answer-is r v is = LL.owed D.the-type D′.the-laws r _ is .0
 
-  next-is : (r : Tallied) (v : Val) → Is D.the-row r (v ∷ []) → Is S.the-row (r .head) (head (r .head) ∷ [])
-  next-is r v is = LL.owed D.the-type D′.the-laws r _ is .1 .0
+  total-is : (r : Called) (v : Val) → Is D.the-row r (v ∷ []) → Is u32 (r .total) (vint w32 (r .total) ∷ [])
+  total-is r v is = LL.owed D.the-type D′.the-laws r _ is .1 .0
 
-  made : (r : Tallied) (v w : Val) → Is D.the-row r (v ∷ []) → Is T.the-row (next (h .head)) (w ∷ [])
-      → Is T.the-row (next (r .head)) (mach (next (r .head)) ∷ [])
+  made : (r : Called) (v w : Val) → Is D.the-row r (v ∷ []) → Is T.the-row between (w ∷ []) → Is T.the-row (next r) (mach (next r) ∷ [])
   made r v w is was =
-      LL.owes T.the-type T′.the-laws (next (r .head)) (next-is r v is, LL.owed T.the-type T′.the-laws (next (h .head)) _ was .1)
+      let t = LL.owed T.the-type T′.the-laws between _ was in
+      let f = LL.owed S.the-type S′.the-laws (h .head) _ (t .0) in
+      LL.owes T.the-type T′.the-laws (next r)
+      (LL.owes S.the-type S′.the-laws (withTotal (h .head) (r .total)) (f .0, (f .1 .0, (total-is r v is, f .1 .1 .1))), t .1)
 
   -- the last observation, the borrow and its token
-  abbrev end : Tallied → List (Item 𝓤)
-  end r = ‵ (fobs γ (T.the-row .coded .code (next (r .head)))) ∷ ‵ (fbor κ (Body (mem T.the-row) b o γ)) ∷ ‵ (flft κ q) ∷ []
+  abbrev end : Called → List (Item 𝓤)
+  end r = ‵ (fobs γ (T.the-row .coded .code (next r))) ∷ ‵ (fbor κ (Body (mem T.the-row) b o γ)) ∷ ‵ (flft κ q) ∷ []
 
-  exits : (r : Tallied) → r ≡ found → Is R.the-row (r .answer) (answer r ∷ []) → ent 𝓤 (⋆ 𝓤 H A (end r)) (Post (answer r))
+  exits : (r : Called) → r ≡ found → Is R.the-row (r .answer) (answer r ∷ []) → ent 𝓤 (⋆ 𝓤 H A (end r)) (Post (answer r))
   exits r e is =
       qed W (end r) ∵
       suffices ! _
       (ends-at 𝓤 H A f.ended stayed (clauses 𝓤 adds) W (((κ, tt), (q, tt), tt, x, at), tt) (answer r) (r .answer)
-      (next (r .head), (tt, (tt, (tt, tt)))) (tt, (tt, (tt, (tt, tt))))) $
-      says ! (ap (λ (d : Tallied). d .answer) e, ap (λ (d : Tallied). next (d .head)) e) $ nothing ! $
+      (next r, (tt, (tt, (tt, tt)))) (tt, (tt, (tt, (tt, tt))))) $
+      says ! (ap (λ (d : Called). d .answer) e, ap next e ∙ head-stays h (callOf adds n₁ n₂ n₃)) $ nothing ! $
       move ! (3 ∷ 0 ∷ []) $ join ! $ frame ! $
       feqI ! (List Val) (vptr b o ∷ []) (vptr b o ∷ []) refl $ fjoin3 ! $ nothing ! $
       owned ! u32 (Is u32) (uint-makes 𝓤 H A W w32) n₃ _ (refl, fits₃) $ fjoin ! $
@@ -240,7 +246,7 @@ module _ {M : Type 1} (𝓤 : URA M) (H : Heap 𝓤) (A : Atoms 𝓤) (W : Given
       nothing ! $ move ! (2 ∷ 0 ∷ []) $ join ! $ join ! $ frame ! $ done !
 
   -- what `change` promised: its result, and the last value of the cells
-  said : (α : ℕ) (δ : GName) (r : Tallied)
+  said : (α : ℕ) (δ : GName) (r : Called)
       → ent 𝓤 (ensured 𝓤 H A change.ended (change.clauses 𝓤 H A at-mem run) (α ∷ [], tt) (args α δ) tt r)
       (guard 𝓤 (r ≡ found) (A .res δ (Arr .coded .code ys)))
   said α δ r = exE 𝓤 _ (λ ws.
@@ -272,7 +278,7 @@ module _ {M : Type 1} (𝓤 : URA M) (H : Heap 𝓤) (A : Atoms 𝓤) (W : Given
         use2 W (‵ (partAt T.the-row fullShare h b o)) (part-in 𝓤 H A W T.the-row refl fullShare h b o (mach h)) $
         use1 W
         (‵ (partAt Arr fullShare (h .cells) b (o + far))
-        ⊛ raw (wand 𝓤 (sem 𝓤 H A (partAt Arr fullShare ys b (o + far))) (sem 𝓤 H A (partAt T.the-row fullShare (next (h .head)) b o))))
+        ⊛ raw (wand 𝓤 (sem 𝓤 H A (partAt Arr fullShare ys b (o + far))) (sem 𝓤 H A (partAt T.the-row fullShare (between) b o))))
         cells-out $ split ! $
         lft-new ! tt (λ α. move ! (1 ∷ []) $
         use1 W (later (some (λ (δ : GName). ‵ (own-lent α δ) ⊛ ‵ (flent (α ∷ []) (Body (mem Arr) b (o + far) δ)))))
@@ -284,7 +290,7 @@ module _ {M : Type 1} (𝓤 : URA M) (H : Heap 𝓤) (A : Atoms 𝓤) (W : Given
         (and-then ! (load ! (from ! (stop !)) (look ! 16 refl)) (and-then ! (load ! (from ! (stop !)) (look ! 14 refl))
         (and-then ! (load ! (from ! (stop !)) (look ! 12 refl)) (and-then ! (constant-is ! adds) (no-more !))))))) (λ v.
         use1 W
-        (later (some (λ (r : Tallied). ((‵ (flft (α ∷ []) fullShare) ⊛ ‵ ftrue) ⊛ ‵ (D.the-row .own r (v ∷ [])))
+        (later (some (λ (r : Called). ((‵ (flft (α ∷ []) fullShare) ⊛ ‵ ftrue) ⊛ ‵ (D.the-row .own r (v ∷ [])))
         ⊛ raw (ensured 𝓤 H A change.ended (change.clauses 𝓤 H A at-mem run) (α ∷ [], tt) (args α δ) tt r)))) (id⊢ 𝓤 _) $
         await ! tt $ pick ! (λ r.
         split ! $ move ! (1 ∷ []) $ use1 W (given (r ≡ found) (‵ (fres δ (Arr .coded .code ys)))) (said α δ r) $ learn ! (λ e.
@@ -296,22 +302,22 @@ module _ {M : Type 1} (𝓤 : URA M) (H : Heap 𝓤) (A : Atoms 𝓤) (W : Given
         split ! $ lft-end ! tt $ move ! (0 ∷ 3 ∷ 2 ∷ []) $
         use3 W (later (‵ (partAt Arr fullShare ys b (o + far)))) (ref-back 𝓤 H A W Arr (α ∷ []) δ ys b (o + far)) $ await ! tt $
         move ! (0 ∷ 2 ∷ []) $ apply ! $
-        use1 W (some (λ (w : Val). ‵ (fat fullShare T′.mir b o w) ⊛ ‵ (T.the-row .own (next (h .head)) (w ∷ []))))
-        (part-out 𝓤 H A W T.the-row refl fullShare (next (h .head)) b o) $ pick ! (λ w. split ! $ move ! (1 ∷ []) $
-        peeks ! T.the-row (Is T.the-row) (shows 𝓤 H A T.the-row) (next (h .head)) (w ∷ []) (λ is″. drop ! $
+        use1 W (some (λ (w : Val). ‵ (fat fullShare T′.mir b o w) ⊛ ‵ (T.the-row .own (between) (w ∷ []))))
+        (part-out 𝓤 H A W T.the-row refl fullShare (between) b o) $ pick ! (λ w. split ! $ move ! (1 ∷ []) $
+        peeks ! T.the-row (Is T.the-row) (shows 𝓤 H A T.the-row) (between) (w ∷ []) (λ is″. drop ! $
         rewrite ! 0 (λ (u : Val). ‵ (fat fullShare T′.mir b o u))
-        (ap only (LL.tells T.the-type T′.the-laws (next (h .head)) (w ∷ []) is″)) refl $
+        (ap only (LL.tells T.the-type T′.the-laws (between) (w ∷ []) is″)) refl $
         -- [the tally's cell; true; the open borrow; obs; auth; _7; …]
         assigns ! (of-opd ! (load ! (from ! (fld ! refl (stop !))) (look-in ! 9 (sub ! 1 refl (whole !)))))
-        (from ! (hop ! (look ! 17 refl) (fld ! refl (stop !))))
-        (store-in ! 0 (sub ! 0 refl (whole !)) (LL.lawful S.the-type S′.the-laws 𝓤 H A W .typed (r .head) _ (next-is r v is′) .0)) $
+        (from ! (hop ! (look ! 17 refl) (fld ! refl (fld ! refl (stop !)))))
+        (store-in ! 0 (sub ! 2 refl (sub ! 0 refl (whole !))) (tt, record { fits = total-is r v is′ .1 })) $
         assigns ! (of-opd ! (load ! (from ! (fld ! refl (stop !))) (look-in ! 9 (sub ! 0 refl (whole !)))))
         (from ! (stop !)) (init ! 19 refl (LL.lawful R.the-type R′.the-laws 𝓤 H A W .typed (r .answer) _ (answer-is r v is′) .0)) $
         -- the borrow is closed at the next tally
-        use1 W (‵ (cellAt fullShare (T.the-row .mir) (mach (next (r .head)) ∷ []) b o))
-        (W .laws .at-raw fullShare T′.mir b o (mach (next (r .head)))) $
-        owned ! T.the-row (Is T.the-row) (LL.makes T.the-type T′.the-plain 𝓤 H A) (next (r .head)) _ (made r v w is′ is″) $
-        move ! (1 ∷ 0 ∷ 3 ∷ 4 ∷ 5 ∷ []) $ closes ! tt T.the-row (next (r .head)) (mach (next (r .head)) ∷ []) b o $
+        use1 W (‵ (cellAt fullShare (T.the-row .mir) (mach (next r) ∷ []) b o))
+        (W .laws .at-raw fullShare T′.mir b o (mach (next r))) $
+        owned ! T.the-row (Is T.the-row) (LL.makes T.the-type T′.the-plain 𝓤 H A) (next r) _ (made r v w is′ is″) $
+        move ! (1 ∷ 0 ∷ 3 ∷ 4 ∷ 5 ∷ []) $ closes ! tt T.the-row (next r) (mach (next r) ∷ []) b o $
         -- [obs; the borrow; the token; true; _7; …; room for _0; …]
         returns ! (look ! 18 refl) $ forget ! 4 refl $ forget ! 6 refl $ forget ! 8 refl $ forget ! 10 refl $ forget ! 12 refl $
         forget ! 14 refl $ forget ! 16 refl $ forget ! 18 refl $

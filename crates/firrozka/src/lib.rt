@@ -168,7 +168,7 @@ pub extern "C" fn firrozka_tally_add(
         × (now (t .exit) ≡ tallyAfter (now (t .entry)) (callOf true holder subdomain count)) ⌝ }
 {
     let done = tally::change(t.head, &mut t.cells, holder, subdomain, count, true);
-    t.head = done.head;
+    t.head.total = done.total;
     done.answer
 }
 
@@ -185,7 +185,7 @@ pub extern "C" fn firrozka_tally_remove(
         × (now (t .exit) ≡ tallyAfter (now (t .entry)) (callOf false holder subdomain count)) ⌝ }
 {
     let done = tally::change(t.head, &mut t.cells, holder, subdomain, count, false);
-    t.head = done.head;
+    t.head.total = done.total;
     done.answer
 }
 

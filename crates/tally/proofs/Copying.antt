@@ -40,7 +40,8 @@ module _ {totals leasts counts before first second cells : List ℕ} (r : Rows t
     | no d ↦ elim (decLt i 128) [
       | yes x ↦
           let e : 64 + (i - 64) ≡ i = omega arith in
-          rw e at (c .below (64 + (i - 64)) (omega arith) ∙ b .inside (i - 64) (omega arith) ∙ sym (laid-least r counts (i - 64) (omega arith)))
+          let least = b .inside (i - 64) (omega arith) ∙ sym (laid-least r counts (i - 64) (omega arith)) in
+          rw e at (c .below (64 + (i - 64)) (omega arith) ∙ least)
       | no f ↦
           let e : 128 + (i - 128) ≡ i = omega arith in
           rw e at (c .inside (i - 128) (omega arith) ∙ sym (laid-count r counts (i - 128)))

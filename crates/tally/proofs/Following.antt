@@ -1,12 +1,14 @@
 -- Request 2026-08, its theorem: after any calls on an opened tally, the tally is that of the present counts, and each call answers as the
 -- present counts say. Assumes nothing.
-use mathlib.Core.Path.{_≡_, refl, ap, _∙_}
+use mathlib.Core.Path.{_≡_, refl, sym, ap, _∙_}
 use mathlib.Core.Logic.{_≢_, _↔_}
-use mathlib.Core.Bool.{true, not}
+use mathlib.Core.Bool.{Bool, true, false, not}
 use mathlib.Core.List.{List, [], _∷_}
 use Prim.Native.Nat.{ℕ, _≤_}
 use native.Mathlib.Omega.{arith}
 use borrow.Author.Tests.{le-ltb, eq-eqb, ne-eqb}
+use Rattle.fold.specs.Sum.{only}
+use Rattle.fold.proofs.Tests.{only-is, handed}
 use Rattle.limit.specs.Limit.{maxNodes}
 use Rattle.arrays.specs.Arrays.{at}
 use Rattle.arrays.proofs.Padded.{padded-same}
@@ -22,13 +24,14 @@ use Rattle.tree.specs.Division.{WithinLimit}
 use Rattle.tree.proofs.Keeping.{division-iff-holds}
 use Rattle.weigh.specs.Checks.{checked}
 use Rattle.weigh.proofs.Checks.{passes}
-use Rattle.weigh.specs.Weigh.{refused}
+use Rattle.weigh.specs.declared.WeighAnswer.{WeighAnswer}
+use Rattle.weigh.specs.Weigh.{refused, weighed}
 use Rattle.tally.specs.declared.Tally.{Tally}
 use Rattle.tally.specs.Call.{Call, cellOf, callNumber}
 use Rattle.tally.specs.Layout.{countAt}
 use Rattle.tally.specs.Tally.{tallyOf, noTally, helpandsIn, opened, usable, numberIn, tallyAfter, callAnswer}
-use Rattle.tally.specs.Calls.{afterCalls, countsAfter, presentCounts, presentIn, holdsWith, Follows}
-use Rattle.tally.proofs.Called.{cond-same}
+use Rattle.tally.specs.Calls.{afterCalls, numberOn, countsAfter, presentCounts, presentIn, holdsWith, Follows}
+use Rattle.tally.proofs.Calling.{cond-same}
 use Rattle.tally.proofs.Fresh.{Valid, after-fresh, after-valid, answer-fresh}
 
 -- ---- the tally of any counts
@@ -94,6 +97,24 @@ module _ (s p : List ℕ) (z : checked s p ≡ 0) where
       ↔ (holdsWith s p counts ≡ true)
   holds-division counts =
       division-iff-holds n₀ (at (helpandsIn s p)) (at (totalsOf n₀ counts)) (readSheet s .limit) (opened-tree .0) (opened-tree .1)
+
+  -- THEOREM. After any calls on an opened tally, a further call that is accepted says that the tree holds exactly when a division within
+  -- the opening sheet's limit exists, with the counts after it.
+  pub holds-says : (calls : List Call) (c : Call) → callAnswer (afterCalls (opened s p) calls) c .refusal ≡ 0
+      → let totals = totalsOf n₀ (countsAfter n₀ (presentIn s calls) c) in
+      ((own : ℕ → ℕ) × (share : ℕ → ℕ) × WithinLimit n₀ (at (helpandsIn s p)) (at totals) (readSheet s .limit) own share)
+      ↔ (callAnswer (afterCalls (opened s p) calls) c .holds ≡ 1)
+  holds-says calls c z =
+      let a = follows calls .answer c in
+      let after = countsAfter n₀ (presentIn s calls) c in
+      let k = numberOn n₀ (presentIn s calls) c in
+      let zero = handed (λ (x : WeighAnswer). x .refusal) refused (λ j. refl) k (weighed (holdsWith s p after)) (rw a at z) .0 in
+      let says : callAnswer (afterCalls (opened s p) calls) c .holds ≡ only (holdsWith s p after) 1 = rw (a, eq-eqb k 0 zero) in
+      ((λ w. says ∙ only-is (holdsWith s p after) 1 (holds-division after .0 w)), (λ e. holds-division after .1 (one (holdsWith s p after) (sym says ∙ e))))
+    where
+      one : (b : Bool) → only b 1 ≡ 1 → b ≡ true
+      one true e = refl
+      one false e = absurd (omega arith)
 
 -- ---- refusals
 

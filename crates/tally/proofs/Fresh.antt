@@ -29,7 +29,7 @@ use Rattle.tally.specs.Renew.{renewed}
 use Rattle.tally.specs.Layout.{totalAt, leastAt, countAt, laid}
 use Rattle.tally.specs.Tally.{tallyOf, usable, numberIn, countedCells, cellsAfter, changed, tallyAfter, callAnswer, holding}
 use Rattle.tally.specs.Calls.{numberOn, countsAfter}
-use Rattle.tally.proofs.Called.{cond-same}
+use Rattle.tally.proofs.Calling.{cond-same}
 use Rattle.tally.proofs.Laid.{Rows, laid-total, laid-least, laid-count, set-total, set-count}
 use Rattle.tally.proofs.Renewing.{renewed-leasts}
 use Rattle.tally.proofs.Counting.{OneCell, counted-length, counted-all, counted-other, counted-totals}

@@ -3,7 +3,8 @@ pub mod Laid
 pub mod Copying
 pub mod Renewing
 pub mod Counting
-pub mod Called
-pub mod Opened
+pub mod Calling
+pub mod Opening
 pub mod Fresh
 pub mod Following
+pub mod Vectors

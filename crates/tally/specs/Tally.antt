@@ -26,7 +26,8 @@ use Rattle.tally.specs.declared.Tallying.{Tallying}
 use Rattle.tally.specs.declared.Tallying.the-variants.{Holding, Refused}
 use Rattle.tally.specs.declared.Head.{Head}
 use Rattle.tally.specs.declared.Tally.{Tally}
-use Rattle.tally.specs.declared.Tallied.{Tallied}
+use Rattle.tally.specs.declared.Opened.{Opened}
+use Rattle.tally.specs.declared.Called.{Called}
 use Rattle.tally.specs.Call.{Call, cellOf, counted, callNumber}
 use Rattle.tally.specs.Layout.{totalAt, leastAt, countAt, laid, cellsSize}
 use Rattle.tally.specs.Renew.{renewed}
@@ -77,16 +78,17 @@ opened s p = refuseIf (not (eqb (checked s p) 0)) noTally (tallyOf (readSheet s 
 -- what a call relies on, in a tally that may hold anything; every tally has it that an opening and calls have given
 abbrev pub usable : Tally → Call → Bool
 usable t c =
-    leb (t .head .n) maxNodes && (helpandsBelow (t .head .n) (at (t .head .helpands))
-    && (leb (countAt (t .cells) (cellOf c)) (totalAt (t .cells) (c .subdomain)) && leb (totalAt (t .cells) (c .subdomain)) (t .head .total)))
+    let has = countAt (t .cells) (cellOf c) in
+    let own = totalAt (t .cells) (c .subdomain) in
+    leb (t .head .n) maxNodes && (helpandsBelow (t .head .n) (at (t .head .helpands)) && (leb has own && leb own (t .head .total)))
 
 -- its checks; a tally that no opening and calls can have given is refused with 58, as one that has no such cell
 unfoldable pub numberIn : Tally → Call → ℕ
 numberIn t c = refuseIf (not (usable t c)) 58 (callNumber (t .head .n) (countAt (t .cells) (cellOf c)) (t .head .total) c)
 
--- the head after an accepted call: "its limit stays"
-abbrev pub headAfter : Head → Call → Head
-headAfter h c = record { n = h .n; limit = h .limit; total = counted (c .adds) (c .count) (h .total); helpands = h .helpands }
+-- a head with another total: "its limit stays"
+abbrev pub withTotal : Head → ℕ → Head
+withTotal h total = record { n = h .n; limit = h .limit; total = total; helpands = h .helpands }
 
 -- the count of the cell and the total of its subdomain after an accepted call
 abbrev pub countedCells : List ℕ → Call → List ℕ
@@ -101,7 +103,10 @@ cellsAfter h cells c = renewed (h .n) (at (h .helpands)) (h .limit) (suc (h .n))
 
 -- the tally after an accepted call
 unfoldable pub changed : Tally → Call → Tally
-changed t c = record { head = headAfter (t .head) c; cells = cellsAfter (t .head) (t .cells) c }
+changed t c = record {
+  head = withTotal (t .head) (counted (c .adds) (c .count) (t .head .total));
+  cells = cellsAfter (t .head) (t .cells) c;
+}
 
 -- the tally after any call: "A refused call alters nothing."
 unfoldable pub tallyAfter : Tally → Call → Tally
@@ -120,8 +125,9 @@ callAnswer t c = refuseAs refused (numberIn t c) (weighed (holding (t .head .n) 
 abbrev pub tallyWith : Head → List ℕ → Tally
 tallyWith head cells = record { head = head; cells = cells }
 
-abbrev pub openResult : List ℕ → List ℕ → Tallied
+abbrev pub openResult : List ℕ → List ℕ → Opened
 openResult s p = record { answer = openAnswer s p; head = opened s p .head }
 
-abbrev pub callResult : Tally → Call → Tallied
-callResult t c = record { answer = callAnswer t c; head = tallyAfter t c .head }
+-- of the head a call changes the total alone
+abbrev pub callResult : Tally → Call → Called
+callResult t c = record { answer = callAnswer t c; total = tallyAfter t c .head .total }

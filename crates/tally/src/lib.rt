@@ -64,10 +64,16 @@ enum CallCheck {
     Refused(TallyRefusal),
 }
 
-// What an opening or a call gives: its answer, and the head as it is then.
-pub struct Tallied {
+// What an opening gives: its answer, and the head of the tally.
+pub struct Opened {
     pub answer: WeighAnswer,
     pub head: Head,
+}
+
+// What a call gives: its answer, and the total as it is then.
+pub struct Called {
+    pub answer: WeighAnswer,
+    pub total: u32,
 }
 
 // Document 02's number of a refusal.
@@ -99,7 +105,7 @@ fn answer(t: Tallying) -> WeighAnswer
 }
 
 // Opens a tally from a sheet and a plan that were read.
-fn open_read(sheet: &[u8], plan: &[u8], s: Sheet, cells: &mut [u32; CELLS]) -> Tallied
+fn open_read(sheet: &[u8], plan: &[u8], s: Sheet, cells: &mut [u32; CELLS]) -> Opened
     requires { ⌜ Weighable (now sheet) (now plan) s ⌝ }
     ensures { λ r. ⌜
         (r ≡ openResult (now (sheet .entry)) (now (plan .entry)))
@@ -112,7 +118,7 @@ fn open_read(sheet: &[u8], plan: &[u8], s: Sheet, cells: &mut [u32; CELLS]) -> T
     let leasts = weigh::tree_leasts(totals, helpands, nodes, s.limit);
     let holds = tree::least::holds(leasts, nodes, s.limit);
     *cells = lay::lay_out(&totals, &leasts, &table);
-    Tallied {
+    Opened {
         answer: answer(Tallying::Holding(holds)),
         head: Head {
             n: s.n,
@@ -124,12 +130,12 @@ fn open_read(sheet: &[u8], plan: &[u8], s: Sheet, cells: &mut [u32; CELLS]) -> T
 }
 
 // A refused opening: "a tally with N 0".
-fn open_refused(r: CheckRefusal, cells: &mut [u32; CELLS]) -> Tallied
+fn open_refused(r: CheckRefusal, cells: &mut [u32; CELLS]) -> Opened
     ensures { λ t. ⌜
         (t ≡ record { answer = refused (checkNumber r); head = noTally .head }) × (now (cells .exit) ≡ noTally .cells) ⌝ }
 {
     *cells = [0u32; CELLS];
-    Tallied {
+    Opened {
         answer: answer(Tallying::Refused(TallyRefusal::Check(r))),
         head: Head {
             n: 0,
@@ -141,7 +147,7 @@ fn open_refused(r: CheckRefusal, cells: &mut [u32; CELLS]) -> Tallied
 }
 
 // Opens a tally.
-pub fn open(sheet: &[u8], plan: &[u8], cells: &mut [u32; CELLS]) -> Tallied
+pub fn open(sheet: &[u8], plan: &[u8], cells: &mut [u32; CELLS]) -> Opened
     ensures { λ r. ⌜
         (r ≡ openResult (now (sheet .entry)) (now (plan .entry)))
         × (now (cells .exit) ≡ opened (now (sheet .entry)) (now (plan .entry)) .cells) ⌝ }
@@ -222,7 +228,8 @@ fn change_cells(
     requires { ⌜ CellsChangeable nodes (at (now helpands)) (now cells) (callOf adds holder n count) ⌝ }
     ensures { λ _. ⌜
         now (cells .exit)
-        ≡ renewed nodes (at (now (helpands .entry))) limit (suc nodes) n (countedCells (now (cells .entry)) (callOf adds holder n count)) ⌝ }
+        ≡ renewed nodes (at (now (helpands .entry))) limit (suc nodes) n
+        (countedCells (now (cells .entry)) (callOf adds holder n count)) ⌝ }
 {
     let cell = 128 + sheet::table::cell(holder, n);
     let has = cells[cell];
@@ -257,37 +264,32 @@ pub fn change(
     subdomain: u32,
     count: u32,
     adds: bool,
-) -> Tallied
+) -> Called
     ensures { λ r. ⌜
         (r ≡ callResult (tallyWith h (now (cells .entry))) (callOf adds holder subdomain count))
         × (now (cells .exit) ≡ tallyAfter (tallyWith h (now (cells .entry))) (callOf adds holder subdomain count) .cells) ⌝ }
 {
     let helpands = h.helpands;
     if !is_named(h.n, helpands, holder, subdomain, count) {
-        return Tallied {
+        return Called {
             answer: answer(Tallying::Refused(TallyRefusal::NoCell)),
-            head: h,
+            total: h.total,
         };
     }
     let k = holder as usize;
     let n = subdomain as usize;
     let has = cells[128 + sheet::table::cell(k, n)];
     match check_amounts(has, cells[n], h.total, count, adds) {
-        CallCheck::Refused(r) => Tallied {
+        CallCheck::Refused(r) => Called {
             answer: answer(Tallying::Refused(r)),
-            head: h,
+            total: h.total,
         },
         CallCheck::Passed => {
             let nodes = h.n as usize;
             change_cells(cells, &helpands, nodes, h.limit, k, n, count, adds);
-            Tallied {
+            Called {
                 answer: answer(Tallying::Holding(holds(cells, nodes, h.limit))),
-                head: Head {
-                    n: h.n,
-                    limit: h.limit,
-                    total: count_in(h.total, count, adds),
-                    helpands: helpands,
-                },
+                total: count_in(h.total, count, adds),
             }
         }
     }

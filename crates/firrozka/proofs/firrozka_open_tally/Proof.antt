@@ -49,13 +49,13 @@ use denote.Exit.{yes}
 use Rattle.tally.specs.Tally.{opened, tallyWith, openResult}
 use Rattle.tally.specs.declared.Head.{Head}
 use Rattle.tally.specs.declared.Tally.{Tally}
-use Rattle.tally.specs.declared.Tallied.{Tallied}
+use Rattle.tally.specs.declared.Opened.{Opened}
 use Rattle.tally.proofs.Head as S
 use Rattle.tally.proofs.Head.Laws as S′
 use Rattle.tally.proofs.Tally as T
 use Rattle.tally.proofs.Tally.Laws as T′
-use Rattle.tally.proofs.Tallied as D
-use Rattle.tally.proofs.Tallied.Laws as D′
+use Rattle.tally.proofs.Opened as D
+use Rattle.tally.proofs.Opened.Laws as D′
 use Rattle.weigh.proofs.WeighAnswer as R
 use Rattle.weigh.proofs.WeighAnswer.Laws as R′
 use Rattle.tally.proofs.open as opener
@@ -93,7 +93,7 @@ module _ {M : Type 1} (𝓤 : URA M) (H : Heap 𝓤) (A : Atoms 𝓤) (W : Given
   abbrev head : Head → Val
   head s = LL.val S.the-type S′.the-laws s
 
-  abbrev answer : Tallied → Val
+  abbrev answer : Opened → Val
   answer r = LL.val R.the-type R′.the-laws (r .answer)
 
   abbrev at : List Val × (List Val × (List Val × Unit {0}))
@@ -110,7 +110,7 @@ module _ {M : Type 1} (𝓤 : URA M) (H : Heap 𝓤) (A : Atoms 𝓤) (W : Given
   toks = ‵ (flft κ₁ q₁) ⊛ (‵ (flft κ₂ q₂) ⊛ ‵ ftrue)
 
   -- what `open` finds, the cells after it, and the tally in between and after it
-  abbrev found : Tallied
+  abbrev found : Opened
   found = openResult (s₁ .now) (s₂ .now)
 
   abbrev ys : List ℕ
@@ -130,30 +130,30 @@ module _ {M : Type 1} (𝓤 : URA M) (H : Heap 𝓤) (A : Atoms 𝓤) (W : Given
       refl)
 
   -- what is known of the fields
-  answer-is : (r : Tallied) (v : Val) → Is D.the-row r (v ∷ []) → Is R.the-row (r .answer) (answer r ∷ [])
+  answer-is : (r : Opened) (v : Val) → Is D.the-row r (v ∷ []) → Is R.the-row (r .answer) (answer r ∷ [])
   answer-is r v is = LL.owed D.the-type D′.the-laws r _ is .0
 
-  next-is : (r : Tallied) (v : Val) → Is D.the-row r (v ∷ []) → Is S.the-row (r .head) (head (r .head) ∷ [])
+  next-is : (r : Opened) (v : Val) → Is D.the-row r (v ∷ []) → Is S.the-row (r .head) (head (r .head) ∷ [])
   next-is r v is = LL.owed D.the-type D′.the-laws r _ is .1 .0
 
-  made : (r : Tallied) (v w : Val) → Is D.the-row r (v ∷ []) → Is T.the-row (next (h .head)) (w ∷ [])
+  made : (r : Opened) (v w : Val) → Is D.the-row r (v ∷ []) → Is T.the-row (next (h .head)) (w ∷ [])
       → Is T.the-row (next (r .head)) (mach (next (r .head)) ∷ [])
   made r v w is was =
       LL.owes T.the-type T′.the-laws (next (r .head)) (next-is r v is, LL.owed T.the-type T′.the-laws (next (h .head)) _ was .1)
 
   -- the last observation, the borrow, all tokens and both slices
-  abbrev end : Tallied → List (Item 𝓤)
+  abbrev end : Opened → List (Item 𝓤)
   end r =
       ‵ (fobs γ (T.the-row .coded .code (next (r .head)))) ∷ ‵ (fbor κ (Body (mem T.the-row) b o γ)) ∷ ‵ (flft κ q)
       ∷ ‵ (flft κ₂ q₂) ∷ ‵ (flft κ₁ q₁) ∷ ‵ Own₁ ∷ ‵ Own₂ ∷ []
 
-  exits : (r : Tallied) → r ≡ found → Is R.the-row (r .answer) (answer r ∷ []) → ent 𝓤 (⋆ 𝓤 H A (end r)) (Post (answer r))
+  exits : (r : Opened) → r ≡ found → Is R.the-row (r .answer) (answer r ∷ []) → ent 𝓤 (⋆ 𝓤 H A (end r)) (Post (answer r))
   exits r e is =
       qed W (end r) ∵
       suffices ! _
       (ends-at 𝓤 H A f.ended stayed (f.clauses 𝓤 H A at-mem run) W (((κ₁, (κ₂, (κ, tt))), (q₁, (q₂, (q, tt))), tt, x, at), tt) (answer r)
       (r .answer) (tt, (tt, (next (r .head), tt))) (tt, (tt, (tt, tt)))) $
-      says ! (ap (λ (d : Tallied). d .answer) e, ap (λ (d : Tallied). next (d .head)) e) $ nothing ! $
+      says ! (ap (λ (d : Opened). d .answer) e, ap (λ (d : Opened). next (d .head)) e) $ nothing ! $
       -- [true; obs; the borrow; its token; the second slice's; the first's; both slices]
       move ! (3 ∷ 0 ∷ []) $ join ! $ move ! (3 ∷ 0 ∷ []) $ join ! $ move ! (3 ∷ 0 ∷ []) $ join ! $ frame ! $
       feqI ! (List Val) (vptr b o ∷ []) (vptr b o ∷ []) refl $ fjoin3 ! $ nothing ! $ move ! (1 ∷ 0 ∷ []) $ fjoin ! $
@@ -193,7 +193,7 @@ module _ {M : Type 1} (𝓤 : URA M) (H : Heap 𝓤) (A : Atoms 𝓤) (W : Given
       nothing ! $ move ! (4 ∷ 0 ∷ []) $ join ! $ move ! (2 ∷ 0 ∷ []) $ join ! $ move ! (2 ∷ 0 ∷ []) $ join ! $ join ! $ frame ! $ done !
 
   -- what `open` promised: its result, and the last value of the cells
-  said : (α : ℕ) (δ : GName) (r : Tallied)
+  said : (α : ℕ) (δ : GName) (r : Opened)
       → ent 𝓤 (ensured 𝓤 H A opener.ended (opener.clauses 𝓤 H A at-mem run) (κ₁, (κ₂, (α ∷ [], tt))) (args α δ) tt r)
       (guard 𝓤 (r ≡ found) (A .res δ (Arr .coded .code ys)))
   said α δ r = exE 𝓤 _ (λ ws.
@@ -246,7 +246,7 @@ module _ {M : Type 1} (𝓤 : URA M) (H : Heap 𝓤) (A : Atoms 𝓤) (W : Given
         (and-then ! (load ! (from ! (stop !)) (look ! 14 refl)) (and-then ! (load ! (from ! (stop !)) (look ! 12 refl))
         (and-then ! (load ! (from ! (stop !)) (look ! 6 refl)) (no-more !)))) (λ v.
         use1 W
-        (later (some (λ (r : Tallied).
+        (later (some (λ (r : Opened).
         ((‵ (flft κ₁ q₁) ⊛ (‵ (flft κ₂ q₂) ⊛ (‵ (flft (α ∷ []) fullShare) ⊛ ‵ ftrue))) ⊛ ‵ (D.the-row .own r (v ∷ [])))
         ⊛ raw (ensured 𝓤 H A opener.ended (opener.clauses 𝓤 H A at-mem run) (κ₁, (κ₂, (α ∷ [], tt))) (args α δ) tt r)))) (id⊢ 𝓤 _) $
         await ! tt $ pick ! (λ r.

@@ -12,7 +12,7 @@ use Rattle.sheet.specs.Sheet.{cell}
 use Rattle.tally.specs.declared.Head.{Head}
 use Rattle.tally.specs.Layout.{totalAt, countAt}
 use Rattle.tally.specs.Inner.{named, amountNumber, checkedNumber}
-use Rattle.tally.proofs.Called.{ends-unnamed, ends-amounts, ends-changed, few, named-holder, named-subdomain, changeable, total-countable}
+use Rattle.tally.proofs.Calling.{ends-unnamed, ends-amounts, ends-changed, few, named-holder, named-subdomain, changeable, total-countable}
 use Rattle.tally.proofs.change.Statement.{statement}
 use Rattle.tally.proofs.change.Tie as tie
 

@@ -2,7 +2,7 @@
 use borrow.Author.Needs.{needs}
 use mathlib.Core.Path.{_∙_}
 use Rattle.weigh.proofs.Checks.{pair-refused, pair-accepted}
-use Rattle.tally.proofs.Opened.{ends-refused}
+use Rattle.tally.proofs.Opening.{ends-refused}
 use Rattle.tally.proofs.open.Statement.{statement}
 use Rattle.tally.proofs.open.Tie as tie
 

@@ -9,7 +9,7 @@ use Rattle.sheet.specs.Sheet.{accepted}
 use Rattle.sheet.proofs.Accepted.{Accepted, sheet-unpackable}
 use Rattle.plan.proofs.Accepted.{plan-accepted}
 use Rattle.weigh.proofs.Checks.{facts, sum-within, array-tree}
-use Rattle.tally.proofs.Opened.{ends-opened}
+use Rattle.tally.proofs.Opening.{ends-opened}
 use Rattle.tally.proofs.open_read.Statement.{statement}
 use Rattle.tally.proofs.open_read.Tie as tie
 

@@ -3,7 +3,6 @@ use borrow.Author.Needs.{needs}
 use mathlib.Core.Path.{_≡_}
 use Prim.Native.Nat.{_-_, _≤_}
 use native.Mathlib.Omega.{arith}
-use denote.Ref.{now}
 use Rattle.limit.specs.Limit.{tableSize}
 use Rattle.tally.specs.Inner.{Copied}
 use Rattle.tally.proofs.Copying.{copied-none, copied-next}

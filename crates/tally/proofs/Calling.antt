@@ -7,8 +7,6 @@ use Prim.Native.Nat.{ℕ, suc, _+_, _≤_, _<_}
 use native.Mathlib.Omega.{arith}
 use borrow.Author.Tests.{ltb-true, ltb-false, leb-true, ne-eqb, not-false}
 use lib.Dec.{eqb, ltb, leb}
-use lib.ListN.{set}
-use Rattle.fold.specs.All.{all}
 use Rattle.fold.proofs.Tests.{and-left, and-right, passed, all-at}
 use Rattle.limit.specs.Limit.{maxNodes, maxTotal}
 use Rattle.arrays.specs.Arrays.{at}
@@ -16,12 +14,12 @@ use Rattle.plan.specs.Tree.{helpandsBelow}
 use Rattle.weigh.specs.Weigh.{refused, weighed}
 use Rattle.tally.specs.declared.Head.{Head}
 use Rattle.tally.specs.declared.Tally.{Tally}
-use Rattle.tally.specs.declared.Tallied.{Tallied}
+use Rattle.tally.specs.declared.Called.{Called}
 use Rattle.tally.specs.declared.TallyRefusal.{TallyRefusal}
 use Rattle.tally.specs.Call.{Call, callOf, cellOf, counted, callNumber}
 use Rattle.tally.specs.Layout.{totalAt, countAt}
 use Rattle.tally.specs.Renew.{renewed}
-use Rattle.tally.specs.Tally.{numberOf, tallyWith, numberIn, headAfter, countedCells, cellsAfter, changed, tallyAfter, callAnswer, holding, callResult}
+use Rattle.tally.specs.Tally.{numberOf, tallyWith, withTotal, numberIn, countedCells, cellsAfter, changed, tallyAfter, callAnswer, holding, callResult}
 use Rattle.tally.specs.Inner.{named, amountNumber, Countable, CellsChangeable}
 use Rattle.tally.proofs.Answers.{numbered}
 
@@ -29,6 +27,16 @@ use Rattle.tally.proofs.Answers.{numbered}
 pub cond-same : {A : Type 0} (b : Bool) (x : A) → cond b x x ≡ x
 cond-same true x = refl
 cond-same false x = refl
+
+-- of the head a call changes the total alone
+pub head-stays : (t : Tally) (c : Call)
+    → tallyWith (withTotal (t .head) (tallyAfter t c .head .total)) (tallyAfter t c .cells) ≡ tallyAfter t c
+unfolding tallyAfter changed
+head-stays t c = stays (not (eqb (numberIn t c) 0))
+  where
+    stays : (b : Bool) → let u = cond b t (changed t c) in tallyWith (withTotal (t .head) (u .head .total)) (u .cells) ≡ u
+    stays true = refl
+    stays false = refl
 
 -- ---- the checks, in the order in which the program makes them
 
@@ -87,26 +95,26 @@ module _ (h : Head) (cells : List ℕ) (adds : Bool) (k d count : ℕ) where
   -- ---- the ways out
 
   -- what is given, and the cells as they are then
-  abbrev pub Ends : Tallied → List ℕ → Type 0
+  abbrev pub Ends : Called → List ℕ → Type 0
   Ends r cells₁ = (r ≡ callResult t c) × (cells₁ ≡ tallyAfter t c .cells)
 
-  ends-refused : (x : ℕ) → x ≢ 0 → numberIn t c ≡ x → Ends (record { answer = refused x; head = h }) cells
+  ends-refused : (x : ℕ) → x ≢ 0 → numberIn t c ≡ x → Ends (record { answer = refused x; total = h .total }) cells
   unfolding callAnswer tallyAfter
   ends-refused x z e = (rw (e, ne-eqb x 0 z), rw (e, ne-eqb x 0 z))
 
-  pub ends-unnamed : is-named ≡ false → Ends (record { answer = refused 58; head = h }) cells
+  pub ends-unnamed : is-named ≡ false → Ends (record { answer = refused 58; total = h .total }) cells
   ends-unnamed e = ends-refused 58 (λ z. omega arith) (number-parts ∙ rw e)
 
   module _ (yes-named : is-named ≡ true) where
     number-amounts : numberIn t c ≡ amounts
     number-amounts = number-parts ∙ rw yes-named
 
-    pub ends-amounts : (r : TallyRefusal) → numberOf r ≡ amounts → Ends (record { answer = refused (numberOf r); head = h }) cells
+    pub ends-amounts : (r : TallyRefusal) → numberOf r ≡ amounts → Ends (record { answer = refused (numberOf r); total = h .total }) cells
     ends-amounts r e = ends-refused (numberOf r) (λ z. omega (arith, numbered r .0)) (number-amounts ∙ sym e)
 
     pub ends-changed : 0 ≡ amounts → {after : List ℕ}
         → after ≡ renewed (h .n) (at (h .helpands)) (h .limit) (suc (h .n)) d (countedCells cells c)
-        → Ends (record { answer = weighed (holding (h .n) (h .limit) after); head = headAfter h c }) after
+        → Ends (record { answer = weighed (holding (h .n) (h .limit) after); total = counted adds count (h .total) }) after
     unfolding callAnswer tallyAfter changed cellsAfter
     ends-changed e is = (rw (is, number-amounts, ← e), rw (number-amounts, ← e) is)
 
