@@ -92,7 +92,7 @@ fn climb_with(
     goes_on: fn(&Tally, usize) -> bool,
 ) {
     let mut node = change.cell()[1];
-    for _ in nodes(tally) {
+    for _ in 0..=nodes(tally).len() {
         let new = least(tally, node);
         if new == tally.leasts[node] {
             return;
@@ -634,9 +634,9 @@ fn damaged_tallies() {
         "64 nodes where a chain goes round", |tally, change| {
             way_up(tally, change, 64, |[before, after], _| before != after);
         };
-        "N − 1 nodes where a chain goes round", |tally, change| {
+        "N nodes where a chain goes round", |tally, change| {
             let steps = match goes_round(tally, change) {
-                true => nodes(tally).len() - 1,
+                true => nodes(tally).len(),
                 false => 64,
             };
             way_up(tally, change, steps, |[before, after], _| before != after);

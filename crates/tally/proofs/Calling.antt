@@ -28,16 +28,6 @@ pub cond-same : {A : Type 0} (b : Bool) (x : A) → cond b x x ≡ x
 cond-same true x = refl
 cond-same false x = refl
 
--- of the head a call changes the total alone
-pub head-stays : (t : Tally) (c : Call)
-    → tallyWith (withTotal (t .head) (tallyAfter t c .head .total)) (tallyAfter t c .cells) ≡ tallyAfter t c
-unfolding tallyAfter changed
-head-stays t c = stays (not (eqb (numberIn t c) 0))
-  where
-    stays : (b : Bool) → let u = cond b t (changed t c) in tallyWith (withTotal (t .head) (u .head .total)) (u .cells) ≡ u
-    stays true = refl
-    stays false = refl
-
 -- ---- the checks, in the order in which the program makes them
 
 -- of the tests of 58, those come first that look at no counts
@@ -156,3 +146,13 @@ module _ (h : Head) (cells : List ℕ) (adds : Bool) (k d count : ℕ) where
 
       pub total-countable : Countable adds count (h .total)
       total-countable = fit .2
+
+-- of the head a call changes the total alone
+pub head-stays : (t : Tally) (c : Call)
+    → tallyWith (withTotal (t .head) (tallyAfter t c .head .total)) (tallyAfter t c .cells) ≡ tallyAfter t c
+unfolding tallyAfter changed
+head-stays t c = stays (not (eqb (numberIn t c) 0))
+  where
+    stays : (b : Bool) → let u = cond b t (changed t c) in tallyWith (withTotal (t .head) (u .head .total)) (u .cells) ≡ u
+    stays true = refl
+    stays false = refl

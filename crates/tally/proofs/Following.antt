@@ -109,8 +109,10 @@ module _ (s p : List ℕ) (z : checked s p ≡ 0) where
       let after = countsAfter n₀ (presentIn s calls) c in
       let k = numberOn n₀ (presentIn s calls) c in
       let zero = handed (λ (x : WeighAnswer). x .refusal) refused (λ j. refl) k (weighed (holdsWith s p after)) (rw a at z) .0 in
-      let says : callAnswer (afterCalls (opened s p) calls) c .holds ≡ only (holdsWith s p after) 1 = rw (a, eq-eqb k 0 zero) in
-      ((λ w. says ∙ only-is (holdsWith s p after) 1 (holds-division after .0 w)), (λ e. holds-division after .1 (one (holdsWith s p after) (sym says ∙ e))))
+      let says : callAnswer (afterCalls (opened s p) calls) c .holds ≡ only (holdsWith s p after) 1 = rw (a, eq-eqb k 0 zero) in (
+        (λ w. says ∙ only-is (holdsWith s p after) 1 (holds-division after .0 w)),
+        (λ e. holds-division after .1 (one (holdsWith s p after) (sym says ∙ e))),
+      )
     where
       one : (b : Bool) → only b 1 ≡ 1 → b ≡ true
       one true e = refl

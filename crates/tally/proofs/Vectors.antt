@@ -14,12 +14,14 @@ abbrev cells : List ℕ → List ℕ → List ℕ
 cells totals leasts = laid (padded totals) (padded leasts) []
 
 -- a particle of subdomain 2 arrives: node 2 can spare one fewer, so that node 1 keeps one more; it could spare none before
-pub one-arrives : renewed 3 (at (0 ∷ 0 ∷ 1 ∷ [])) 36 4 2 (cells (28 ∷ 72 ∷ 1 ∷ []) (28 ∷ 36 ∷ 0 ∷ [])) ≡ cells (28 ∷ 72 ∷ 1 ∷ []) (28 ∷ 37 ∷ 1 ∷ [])
+pub one-arrives : renewed 3 (at (0 ∷ 0 ∷ 1 ∷ [])) 36 4 2 (cells (28 ∷ 72 ∷ 1 ∷ []) (28 ∷ 36 ∷ 0 ∷ []))
+    ≡ cells (28 ∷ 72 ∷ 1 ∷ []) (28 ∷ 37 ∷ 1 ∷ [])
 unfolding renewed sum
 one-arrives = refl
 
 -- ten of subdomain 1 leave: node 1 can spare ten, which node 0 need not keep
-pub ten-leave : renewed 3 (at (0 ∷ 0 ∷ 1 ∷ [])) 36 4 1 (cells (28 ∷ 62 ∷ 0 ∷ []) (28 ∷ 36 ∷ 0 ∷ [])) ≡ cells (28 ∷ 62 ∷ 0 ∷ []) (18 ∷ 26 ∷ 0 ∷ [])
+pub ten-leave : renewed 3 (at (0 ∷ 0 ∷ 1 ∷ [])) 36 4 1 (cells (28 ∷ 62 ∷ 0 ∷ []) (28 ∷ 36 ∷ 0 ∷ []))
+    ≡ cells (28 ∷ 62 ∷ 0 ∷ []) (18 ∷ 26 ∷ 0 ∷ [])
 unfolding renewed sum
 ten-leave = refl
 

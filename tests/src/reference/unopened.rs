@@ -85,7 +85,7 @@ pub fn reasons(tally: &Tally, change: &Change) -> Vec<Reason> {
 
 /// Works out the least of a node anew. If it is what stood there the work ends;
 /// otherwise it is noted, and the same is done for the node's helpand, up to a root or
-/// for N nodes.
+/// N steps up.
 fn renew(tally: &mut Tally, subdomain: usize) {
     let mut node = subdomain;
     for _ in 0..=tally.n {
