@@ -5,10 +5,16 @@ use mathlib.Core.List.{List}
 use Prim.Native.Nat.{ℕ}
 use Rattle.sheet.specs.declared.Sheet.{Sheet}
 use Rattle.sheet.specs.Sheet.{readSheet, accepted as sheetAccepted}
-use Rattle.plan.specs.Plan.{readPlan}
+use Rattle.plan.specs.declared.Plan.{Plan}
+use Rattle.plan.specs.Plan.{readPlan, accepted as planAccepted}
 use Rattle.weigh.specs.Checks.{checkNumber, checked}
 use Rattle.weigh.specs.declared.check.PairReading.{PairReading}
 use Rattle.weigh.specs.declared.check.PairReading.the-variants.{Accepted, Refused}
+
+-- the sheet and the plan were read as these
+pub record BothRead (s p : List ℕ) (h : Sheet) (q : Plan) : Type 0 where
+  pub sheet : sheetAccepted (h .n) (h .t) (h .e) (h .p) (h .limit) ≡ readSheet s
+  pub plan : planAccepted (q .n) (q .kind) (q .limit) ≡ readPlan p
 
 -- the sheet was read as this, and the plan has a tree of as many nodes
 pub record Weighable (s p : List ℕ) (h : Sheet) : Type 0 where

@@ -1,4 +1,4 @@
-// The checks of *weigh* up to 24, which are those of opening a tally, too.
+// The checks of *weigh* up to 24, as the opening of a tally makes them, too.
 use plan::PlanReading;
 use plan::PlanRefusal;
 use sheet::Sheet;

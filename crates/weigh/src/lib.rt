@@ -1,8 +1,11 @@
 // *Weigh*: the leasts of a plan's tree under a sheet's limit, written to a lent buffer, and whether the tree holds.
-// The checks up to 24 stand in `check`.
+// The checks up to 24 stand in `check`, too, for the opening of a tally. They are made here in their places: in one function for both they
+// would take *weigh* a twentieth of its time on a dense sheet.
 use check::CheckRefusal;
-use check::PairReading;
+use plan::Plan;
+use plan::PlanReading;
 use sheet::Sheet;
+use sheet::SheetReading;
 ghost use mathlib.Core.Path.{_≡_};
 ghost use Prim.Native.Nat.{ℕ, _≤_};
 ghost use lib.ListN.{length};
@@ -11,7 +14,7 @@ ghost use Rattle.arrays.specs.Arrays.{at, tabulate};
 ghost use Rattle.plan.specs.Tree.{Tree};
 ghost use Rattle.tree.specs.Least.{least};
 ghost use Rattle.weigh.specs.Weigh.{leastIn, weighAnswer, weighBytes, numberOf, answerOf};
-ghost use Rattle.weigh.specs.Inner.{Weighable};
+ghost use Rattle.weigh.specs.Inner.{BothRead, Weighable};
 
 pub mod check;
 
@@ -56,11 +59,17 @@ fn leasts_of(sheet: &[u8], plan: &[u8], s: Sheet) -> [u32; 64]
 }
 
 // Weighs a sheet and a plan that were read.
-fn weigh_read(sheet: &[u8], plan: &[u8], s: Sheet, least: &mut [u8]) -> Weighing
-    requires { ⌜ Weighable (now sheet) (now plan) s ⌝ }
+fn weigh_read(sheet: &[u8], plan: &[u8], s: Sheet, p: Plan, least: &mut [u8]) -> Weighing
+    requires { ⌜ BothRead (now sheet) (now plan) s p ⌝ }
     ensures answer { λ r. ⌜ answerOf r ≡ weighAnswer (now (sheet .entry)) (now (plan .entry)) (length (now (least .entry))) ⌝ }
     ensures bytes { λ _. ⌜ now (least .exit) ≡ weighBytes (now (sheet .entry)) (now (plan .entry)) (now (least .entry)) ⌝ }
 {
+    if s.n != p.n {
+        return Weighing::Refused(WeighRefusal::Check(CheckRefusal::NodesDiffer));
+    }
+    if p.kind == 0 {
+        return Weighing::Refused(WeighRefusal::Check(CheckRefusal::Primary));
+    }
     let nodes = s.n as usize;
     if least.len() < 4 * nodes {
         return Weighing::Refused(WeighRefusal::Buffer);
@@ -75,9 +84,14 @@ pub fn weigh(sheet: &[u8], plan: &[u8], least: &mut [u8]) -> Weighing
     ensures answer { λ r. ⌜ answerOf r ≡ weighAnswer (now (sheet .entry)) (now (plan .entry)) (length (now (least .entry))) ⌝ }
     ensures bytes { λ _. ⌜ now (least .exit) ≡ weighBytes (now (sheet .entry)) (now (plan .entry)) (now (least .entry)) ⌝ }
 {
-    match check::read_pair(sheet, plan) {
-        PairReading::Refused(r) => Weighing::Refused(WeighRefusal::Check(r)),
-        PairReading::Accepted(s) => weigh_read(sheet, plan, s, least),
+    match sheet::read_sheet(sheet) {
+        SheetReading::Refused(r) => Weighing::Refused(WeighRefusal::Check(CheckRefusal::Sheet(r))),
+        SheetReading::Accepted(s) => match plan::read_plan(plan) {
+            PlanReading::Refused(r) => Weighing::Refused(WeighRefusal::Check(CheckRefusal::Plan(
+                r,
+            ))),
+            PlanReading::Accepted(p) => weigh_read(sheet, plan, s, p, least),
+        },
     }
 }
 

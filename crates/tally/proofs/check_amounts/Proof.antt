@@ -24,17 +24,17 @@ returns-4 c =
     let e = a .before in
     rw (le-leb _ _ (e .before .if1 .left), le-leb _ _ (e .if2 .left), a .if3 .taken, ← x .exceeds .ensures, c .if4 .left)
 
-returns-5 : tie.Need-returns-5
-returns-5 c =
-    let a = c .before in
-    let e = a .before in
-    rw (le-leb _ _ (e .before .if1 .left), le-leb _ _ (e .if2 .left), a .if3 .left, lt-ltb _ _ (c .if5 .taken))
-
 returns-6 : tie.Need-returns-6
 returns-6 c =
     let a = c .before in
     let e = a .before in
     rw (le-leb _ _ (e .before .if1 .left), le-leb _ _ (e .if2 .left), a .if3 .left, le-ltb _ _ (c .if5 .left))
+
+returns-5 : tie.Need-returns-5
+returns-5 c =
+    let a = c .before in
+    let e = a .before in
+    rw (le-leb _ _ (e .before .if1 .left), le-leb _ _ (e .if2 .left), a .if3 .left, lt-ltb _ _ (c .if5 .taken))
 
 pub check-amounts-spec : {M : Type 1} → statement M
 check-amounts-spec =
