@@ -32,7 +32,8 @@ returns c =
     let r = c .before .r .given in
     ends-refused _ _ _ (Sheet (r .0 .0))
     (stops-sheet _ _ (sheetNumber (r .0 .0))
-    (ap (λ (x : SheetAnswer). x .refusal) (ap sheetAnswer (sym (r .1)) ∙ f .read-sheet .ensures)) (λ z. omega (arith, sheet-more (r .0 .0))))
+    (ap (λ (x : SheetAnswer). x .refusal) (ap sheetAnswer (sym (r .1)) ∙ f .read-sheet .ensures))
+    (λ z. omega (arith, sheet-more (r .0 .0))))
 
 -- it was accepted, and the plan was read
 module _ (c : tie.After-read-plan) where
