@@ -19,9 +19,9 @@
 extern "C" {
 #endif
 
-/* The version, 100 × major + minor: 1.8 is 108. CHANGELOG.md says what each brought. firrozka_version() is the library's own: where the
+/* The version, 100 × major + minor: 1.9 is 109. CHANGELOG.md says what each brought. firrozka_version() is the library's own: where the
  * two differ, a program was compiled with the header of another version. */
-#define FIRROZKA_VERSION 108
+#define FIRROZKA_VERSION 109
 uint32_t firrozka_version(void);
 
 /* Buffers of so many bytes are long enough for every call. FIRROZKA_ARCHIVE_BYTES is the length of every archive. */

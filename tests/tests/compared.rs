@@ -138,6 +138,7 @@ fn each_version_has_its_rules() {
         (106, &WITH_LEAST),
         (107, &REFERENCE),
         (108, &REFERENCE),
+        (109, &REFERENCE),
     ];
     for row in some_rows() {
         let (job, planned) = (row.job(64), row.measured == Measured::PlanStep);

@@ -86,8 +86,27 @@ macro_rules! places {
             "odd holders the other way round",
                 place: |_, h, s| position(h, if h % 2 == 0 { s } else { 63 - s });
             "the bits of both added", place: |_, h, s| position(h ^ s, s);
+            "entries 1 and 64 exchanged", place: |_, h, s| exchanged(h, s, [1, 64]);
+            "entries 2,047 and 2,048 exchanged",
+                place: |_, h, s| exchanged(h, s, [2_047, 2_048]);
+            "the last two entries exchanged", place: |_, h, s| exchanged(h, s, [4_094, 4_095]);
+            "the entries of holders 4 and 5 exchanged",
+                place: |_, h, s| position(if h / 2 == 2 { h ^ 1 } else { h }, s);
+            "entry 650 in the place of 651",
+                place: |_, h, s| position(h, if (h, s) == (10, 11) { 10 } else { s });
+            "each entry one cell early", place: |_, h, s| place_of((64 * h + s + 1) as u32 % 4_096);
+            "0 in the place of the last entry", place: |_, h, s| position(h, s) % 4_095;
         }
     };
+}
+
+/// A position from a table in which the entries of two cells are exchanged.
+fn exchanged(holder: usize, subdomain: usize, cells: [u32; 2]) -> usize {
+    let cell = (64 * holder + subdomain) as u32;
+    match cells.into_iter().position(|it| it == cell) {
+        Some(which) => place_of(cells[1 - which]),
+        None => place_of(cell),
+    }
 }
 
 /// Six bits in the other direction.

@@ -1,5 +1,6 @@
 //! Request 2026-05, the archive in Z order: where each count stands, both ways, and
-//! every refusal in its order. The expectations are the papers' or worked out by hand.
+//! every refusal in its order; with 2026-09, by a table, all of it stays. The
+//! expectations are the papers' or worked out by hand.
 #![forbid(unsafe_code)]
 
 use firrozka_tests::answers::SheetAnswer;
@@ -148,6 +149,16 @@ fn every_cell() {
         let mut taken = to_words(&archive)[2..].to_vec();
         taken.sort_unstable();
         assert_eq!(taken, all, "{}", implementation.name);
+    }
+}
+
+/// Request 2026-09, "a fixed table of 4,096 positions": each entry by itself, with a
+/// particle in its cell alone, stands where the order is drawn.
+#[test]
+fn every_entry_alone() {
+    for (position, (holder, subdomain)) in in_z_order().into_iter().enumerate() {
+        let sheet = held(64, 35, [(holder, subdomain, 1)]);
+        both_ways(&sheet, &archive(64, 35, [(position, 1)]));
     }
 }
 

@@ -8,7 +8,6 @@ use native.Mathlib.Omega.{arith}
 use Rattle.fold.specs.Sum.{sum}
 use Rattle.limit.specs.Limit.{tableSize}
 use Rattle.archive.specs.ZOrder.{bit, position, positionOf}
-use Rattle.archive.specs.Inner.{spreadOf}
 
 -- the k lowest bits of x, bit i at bit 2i
 unfoldable spread : ℕ → ℕ → ℕ
@@ -22,11 +21,9 @@ gather (suc k) x = x % 2 + 2 * gather k (x / 4)
 
 -- ---- the rule, bit by bit
 
--- the sum, written out
-pub spread-terms : (x : ℕ) → x % 2 + 4 * (x / 2 % 2) + 16 * (x / 4 % 2) + 64 * (x / 8 % 2) + 256 * (x / 16 % 2) + 1024 * (x / 32 % 2)
-    ≡ spreadOf x
-unfolding spreadOf sum
-spread-terms x = omega arith
+-- bit i of x at bit 2i, for i from 0 to 5, as a sum
+unfoldable spreadOf : ℕ → ℕ
+spreadOf x = sum 6 (λ i. 2 ^ (2 * i) * bit i x)
 
 -- six terms side by side, and one in the other
 nested : (a b c d e f : ℕ) → 0 + 1 * a + 4 * b + 16 * c + 64 * d + 256 * e + 1024 * f
@@ -47,13 +44,6 @@ position-spreads : (holder subdomain : ℕ) → position holder subdomain ≡ sp
 unfolding position spreadOf sum
 position-spreads holder subdomain = omega arith
 
--- the cells of a holder one after the other
-pub row-position : (holder n : ℕ) → n < 64 → positionOf (64 * holder + n) ≡ spreadOf n + 2 * spreadOf holder
-row-position holder n h =
-    let e : (64 * holder + n) / 64 ≡ holder = omega arith in
-    let m : (64 * holder + n) % 64 ≡ n = omega arith in
-    ap₂ position e m ∙ position-spreads holder n
-
 position-is : (holder subdomain : ℕ) → position holder subdomain ≡ spread 6 subdomain + 2 * spread 6 holder
 position-is holder subdomain =
     omega (arith, position-spreads holder subdomain, spread-is holder, spread-is subdomain)
@@ -69,10 +59,6 @@ gather-small : (k x : ℕ) → gather k x < 2 ^ k
 unfolding gather
 gather-small zero x = omega arith
 gather-small (suc k) x = omega (arith, gather-small k (x / 4))
-
--- six bits at even places
-pub spread-of-small : {r : ℕ} (x : ℕ) → r ≡ spreadOf x → r ≤ 1365
-spread-of-small x e = omega (arith, e, spread-is x, spread-small 6 x)
 
 -- ---- two numbers interleaved, without their lowest bits
 

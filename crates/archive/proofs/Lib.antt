@@ -1,4 +1,5 @@
 pub mod Bits
+pub mod Listed
 pub mod Ordered
 pub mod Storing
 pub mod Answers

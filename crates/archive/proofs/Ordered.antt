@@ -2,7 +2,7 @@
 -- archive has them at their cells again. Assumes nothing.
 use mathlib.Core.Path.{_≡_, refl, sym, _∙_}
 use mathlib.Core.List.{List}
-use Prim.Native.Nat.{ℕ, zero, suc, _+_, _≤_, _<_}
+use Prim.Native.Nat.{ℕ, zero, suc, _≤_, _<_}
 use native.Mathlib.Decide.{ℕ-discrete}
 use native.Mathlib.Omega.{arith}
 use lib.ListN.{length, set, length-set}
@@ -10,22 +10,10 @@ use lib.Seq.{getD-set-same, getD-set-other, ext-getD}
 use Rattle.limit.specs.Limit.{tableSize}
 use Rattle.arrays.specs.Arrays.{at}
 use Rattle.arrays.proofs.Padded.{zeros-at}
-use Rattle.arrays.proofs.Tabulate.{length-row, row-at, filled-more}
+use Rattle.arrays.proofs.Tabulate.{length-row, row-at}
 use Rattle.archive.specs.ZOrder.{positionOf}
 use Rattle.archive.specs.Archive.{noCounts, inOrder, countIn, tableFrom}
-use Rattle.archive.specs.Inner.{PositionsBelow}
 use Rattle.archive.proofs.Bits.{position-below, positions-differ, positions-fill}
-
--- ---- an array of positions: one cell more
-
-pub below-more : (xs : List ℕ) (n : ℕ) {m v : ℕ} → m ≡ n → PositionsBelow xs n → n < tableSize → v ≡ positionOf n
-    → PositionsBelow (set xs m v) (n + 1)
-below-more xs n {m} {v} i p h e =
-    rw i (record { size = length-set xs n v ∙ p .size; each = filled-more positionOf xs n v (omega (arith, p .size)) e (p .each) })
-
--- the same number of cells, written otherwise
-pub below-is : (xs : List ℕ) {n m : ℕ} → n ≡ m → PositionsBelow xs n → PositionsBelow xs m
-below-is xs e p = rw (← e) p
 
 -- ---- no counts
 

@@ -1,44 +1,27 @@
--- `archive::order::positions` meets its contract: the cells of the holders passed have their positions. Assumes nothing.
-use borrow.Author.Needs.{needs}
-use Prim.Native.Nat.{ℕ, _*_, _-_, _≤_}
-use native.Mathlib.Omega.{arith}
-use lib.ListN.{length-replicate}
-use Rattle.archive.specs.Inner.{Spreads, PositionsBelow}
+-- `archive::order::positions` meets its contract: the rule of the Z order is computed for each entry of the table and compared with it.
+-- Assumes nothing.
+use mathlib.Core.Path.{_≡_, refl}
+use mathlib.Core.Bool.{true}
+use mathlib.Core.List.{List}
+use Prim.Native.Nat.{ℕ}
+use Rattle.fold.specs.Sum.{sum}
+use Rattle.archive.specs.ZOrder.{position, positionOf}
+use Rattle.archive.proofs.Listed.{lists, listed}
+use Rattle.archive.proofs.order.positions.Lts.{answer}
 use Rattle.archive.proofs.order.positions.Statement.{statement}
 use Rattle.archive.proofs.order.positions.Tie as tie
 
-abbrev Inv-loop : tie.InvT-loop
-Inv-loop spreads out₀ holder₀ out holder = (holder ≤ 64) × Spreads spreads × PositionsBelow out (64 * holder)
+-- the table, as the code gives it
+abbrev table : List ℕ
+table = answer tt tt
 
-abbrev μ-loop : tie.MeasureT-loop
-μ-loop spreads out₀ holder₀ out holder = 64 - holder
+-- the test of all entries
+right : lists positionOf 0 table ≡ true
+unfolding position sum
+right = refl
 
-loop-holds : tie.Need-loop-holds Inv-loop μ-loop
-loop-holds c =
-    (omega arith, c .spreads .ensures, record { size = length-replicate {A = ℕ} 4096 0; each = λ k h. absurd (omega arith) })
-
-put-row-requires : tie.Need-put-row-requires Inv-loop μ-loop
-put-row-requires c κs =
-    let t = c .before .before in
-    let v = t .before .loop .inv in
-    (t .loop-test .taken, v .1, v .2)
-
-loop-again : tie.Need-loop-again Inv-loop μ-loop
-loop-again c = (omega arith, c .before .before .before .before .loop .inv .1, c .put-row .ensures)
-
-returns : tie.Need-returns Inv-loop μ-loop
-returns c k h = c .before .loop .inv .2 .each k (omega arith)
+returns : tie.Need-returns
+returns c k h = listed positionOf table right k h
 
 pub positions-spec : {M : Type 1} → statement M
-positions-spec =
-    tie.close
-    (tie.spec
-    Inv-loop
-    μ-loop
-    (λ c κs. search needs)  -- spreads-requires
-    loop-holds
-    put-row-requires
-    (λ c. search needs)  -- add-holder
-    (λ c. search needs)  -- loop-less
-    loop-again
-    returns)
+positions-spec = tie.close (tie.spec returns)
