@@ -14,6 +14,7 @@ ghost use Rattle.arrays.specs.Arrays.{at};
 ghost use Rattle.limit.specs.Limit.{tableSize};
 ghost use Rattle.words.specs.Buffer.{afterCall};
 ghost use Rattle.sheet.specs.Sheet.{cellFine};
+ghost use Rattle.archive.specs.ZOrder.{Positions};
 ghost use Rattle.archive.specs.Archive.{archiveSize, tableFrom, countsFine, sheetFrom, countsAnswer, readAnswer, sheetAfter, readNumber, readingOf};
 ghost use Rattle.archive.specs.Inner.{HeadRead};
 
@@ -32,12 +33,11 @@ pub enum ArchiveReading {
     Refused(ReadRefusal),
 }
 
-// The table of an archive's counts.
-fn unpack(a: &[u8]) -> [u32; TABLE_SIZE]
-    requires { ⌜ archiveSize ≤ length (now a) ⌝ }
+// The table of an archive's counts, each read at its cell's position.
+fn unpack(a: &[u8], positions: &[u16; TABLE_SIZE]) -> [u32; TABLE_SIZE]
+    requires { ⌜ (archiveSize ≤ length (now a)) × Positions (now positions) ⌝ }
     ensures { λ r. ⌜ r ≡ tableFrom (now (a .entry)) ⌝ }
 {
-    let positions = order::positions();
     let mut table = [0u32; TABLE_SIZE];
     let mut c = 0;
     while c < TABLE_SIZE {
@@ -101,7 +101,8 @@ fn read_counts(a: &[u8], n: u32, t: u32, out: &mut [u8]) -> ArchiveReading
         now (out .exit)
         ≡ afterCall (countsAnswer (now (a .entry)) (length (now (out .entry))) .refusal) (sheetFrom (now (a .entry))) (now (out .entry)) ⌝ }
 {
-    let table = unpack(a);
+    let positions = order::positions();
+    let table = unpack(a, &positions);
     if !counts_fine(&table, n) {
         return ArchiveReading::Refused(ReadRefusal::Count);
     }

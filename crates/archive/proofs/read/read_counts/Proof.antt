@@ -25,7 +25,7 @@ module _ (c : tie.After-counts-fine) where
   unpacked = c .before .before
 
   abbrev start : tie.Start
-  start = unpacked .before .before .before
+  start = unpacked .before .before .before .before .before
 
   abbrev a₀ : List ℕ
   a₀ = now (start .args .a)
@@ -103,7 +103,7 @@ returns-4 c =
     (x .0, w .write-sheet .ensures .1 ∙ x .1)
 
 -- the length that the writer gives fits
-cast : tie.Need-cast-t21
+cast : tie.Need-cast-t24
 cast c =
     let size = c .before .size .given in
     let w = c .before .before .before .before .before in
@@ -115,7 +115,8 @@ pub read-counts-spec : {M : Type 1} → statement M
 read-counts-spec =
     tie.close
     (tie.spec
-    (λ c κs. omega (arith, c .before .before .pre .size))  -- unpack-requires
+    (λ c κs. search needs)  -- positions-requires
+    (λ c κs. (omega (arith, c .before .before .before .before .pre .size), c .before .positions .ensures))  -- unpack-requires
     (λ c κs. search needs)  -- counts-fine-requires
     returns
     (λ c κs. search needs)  -- wide-requires

@@ -24,12 +24,12 @@ abbrev μ-loop : tie.MeasureT-loop
 μ-loop a positions table₀ c₀ table c = tableSize - c
 
 loop-holds : tie.Need-loop-holds Inv-loop μ-loop
-loop-holds c = (omega arith, c .positions .ensures, length-replicate {A = ℕ} 4096 0, λ k h. absurd (omega arith))
+loop-holds c = (omega arith, c .before .pre .1, length-replicate {A = ℕ} 4096 0, λ k h. absurd (omega arith))
 
 -- what is read from the array is the cell's position
 module _ (c : tie.In-loop Inv-loop μ-loop) where
   abbrev p : ℕ
-  p = at (c .before .before .positions .result) (c .before .loop .c)
+  p = at (now (c .before .before .before .args .positions)) (c .before .loop .c)
 
   is : p ≡ positionOf (c .before .loop .c)
   is = c .before .loop .inv .1 (c .before .loop .c) (c .loop-test .taken)
@@ -39,20 +39,20 @@ module _ (c : tie.In-loop Inv-loop μ-loop) where
 
 loop-again : tie.Need-loop-again Inv-loop μ-loop
 loop-again c =
-    let l = c .before .before in
-    let a = now (l .before .before .before .args .a) in
+    let l = c .before .before .before in
+    let a = now (l .before .before .args .a) in
     let count : ℕ → ℕ = λ k. countIn a (positionOf k) in (
       omega arith,
       l .loop .inv .1,
       simp length-set (l .loop .inv .2),
-      filled-more count (l .loop .table) (l .loop .c) (c .word-number .result) (omega (arith, c .before .loop-test .taken))
-          (c .word-number .ensures ∙ ap (λ (q : ℕ). getD (words a) (2 + q) 0) (is (c .before))) (l .loop .inv .3),
+      filled-more count (l .loop .table) (l .loop .c) (c .word-number .result) (omega (arith, c .before .before .loop-test .taken))
+          (c .word-number .ensures ∙ ap (λ (q : ℕ). getD (words a) (2 + q) 0) (is (c .before .before))) (l .loop .inv .3),
     )
 
 returns : tie.Need-returns Inv-loop μ-loop
 returns c =
     let l = c .before in
-    from-is (now (l .before .before .before .args .a)) (l .loop .table) (l .loop .inv .2) (λ k h. l .loop .inv .3 k (omega arith))
+    from-is (now (l .before .before .args .a)) (l .loop .table) (l .loop .inv .2) (λ k h. l .loop .inv .3 k (omega arith))
 
 pub unpack-spec : {M : Type 1} → statement M
 unpack-spec =
@@ -60,13 +60,12 @@ unpack-spec =
     (tie.spec
     Inv-loop
     μ-loop
-    (λ c κs. search needs)  -- positions-requires
     loop-holds
     (λ c. search needs)  -- mul-p
-    (λ c. search needs)  -- array-read-p
-    (λ c. omega (arith, below c))  -- cast-p
-    (λ c. omega (arith, below c))  -- add-word-number
-    (λ c κs. omega (arith, below c))  -- word-number-requires
+    (λ c. search needs)  -- element-copy-out-p
+    (λ c. omega (arith, below (c .before)))  -- cast-p
+    (λ c. omega (arith, below (c .before)))  -- add-word-number
+    (λ c κs. omega (arith, below (c .before)))  -- word-number-requires
     (λ c. search needs)  -- mul-table
     (λ c. search needs)  -- array-write-table
     (λ c. search needs)  -- add-c
