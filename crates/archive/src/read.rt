@@ -33,7 +33,8 @@ pub enum ArchiveReading {
     Refused(ReadRefusal),
 }
 
-// The table of an archive's counts, each read at its cell's position.
+// The table of an archive's counts, each read at its cell's position. The positions are lent: with the constant laid out in here, the
+// compiler would leave this a function of its own, and copy the table that it gives.
 fn unpack(a: &[u8], positions: &[u16; TABLE_SIZE]) -> [u32; TABLE_SIZE]
     requires { ⌜ (archiveSize ≤ length (now a)) × Positions (now positions) ⌝ }
     ensures { λ r. ⌜ r ≡ tableFrom (now (a .entry)) ⌝ }
