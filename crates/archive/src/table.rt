@@ -1,5 +1,5 @@
-// The positions of the 4,096 cells, from cell 0 on: a line for each subdomain, holder by holder. They were written by the rule that
-// archive/specs/ZOrder.antt has, and the proof of `positions` holds each of them to it.
+// The fixed table of 4,096 positions, request 2026-09: for each holder the positions of its cells, a line for each subdomain. The proof of
+// `order::positions` holds every entry to the rule of the Z order.
 use limit::TABLE_SIZE;
 
 pub const POSITIONS: [u16; TABLE_SIZE] = [
