@@ -1,4 +1,6 @@
 // Arrays of 64 numbers, one for each node: definitions in specs/, their laws in proofs/, and a test of all nodes' entries.
+#![tactic(auto)]
+
 ghost use Rattle.std.specs.Prelude.{◌≡◌, ◌≤◌, leb};
 ghost use Rattle.fold.specs.All.{all};
 ghost use Rattle.arrays.specs.Arrays.{at};

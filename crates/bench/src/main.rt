@@ -1,4 +1,6 @@
 // The bench program, document 01: reads a sheet and an old plan or nothing from standard input, and prints the step.
+#![tactic(auto)]
+
 use libc::{STDIN_FILENO, STDOUT_FILENO};
 use run::{FRONT_SIZE, TEXT_SIZE};
 

@@ -1,5 +1,7 @@
 // *Carry out*: the sheet that follows a sheet and moves, written to a lent buffer. Any accepted moves will do, not only ours.
 // The checks up to 42 stand in `check`.
+#![tactic(auto)]
+
 ghost use Rattle.std.specs.Prelude.{◌≡◌, length};
 ghost use Rattle.carry.specs.Carry.{carry_answer, next_after, number_of, answer_of};
 ghost use Rattle.carry.specs.Inner.{PairAccepted};

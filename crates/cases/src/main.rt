@@ -1,5 +1,7 @@
 // The bench program run on many inputs: standard input is cases one after the other, each a word, low byte first, with the number of
 // bytes that follow, and these bytes. Prints the text of each.
+#![tactic(auto)]
+
 use libc::{STDIN_FILENO, STDOUT_FILENO};
 use run::TEXT_SIZE;
 

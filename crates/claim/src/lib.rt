@@ -1,5 +1,7 @@
 // A step planned and carried out, by the two exported functions one after the other. Its contract is demand 3: nothing stands between
 // what is claimed and what the functions of the library do.
+#![tactic(auto)]
+
 ghost use Rattle.std.specs.Prelude.{◌≡◌, length, take};
 ghost use Rattle.planner.specs.Step.{step_answer, plan_after, moves_after};
 ghost use Rattle.carry.specs.Carry.{carry_answer, next_after};

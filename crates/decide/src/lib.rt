@@ -1,4 +1,6 @@
 // Document 01, 'Deciding': the plan of a step is primary, or the old tree kept, or a tree rebuilt.
+#![tactic(auto)]
+
 ghost use Rattle.std.specs.Prelude.{◌≡◌, true, ℕ, ◌≤◌};
 ghost use Rattle.fold.specs.Sum.{sum};
 ghost use Rattle.limit.specs.Limit.{max_nodes, max_total};
@@ -10,7 +12,7 @@ ghost use Rattle.arrays.specs.Arrays.{at};
 use limit::TABLE_SIZE;
 
 // A plan without its N and limit.
-#[derive(Drop)]
+#[derive(Clone, Copy)]
 pub struct Decision {
     pub kind: u32,
     pub helpands: [u32; 64],

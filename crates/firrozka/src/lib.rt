@@ -1,5 +1,7 @@
 // The C boundary: the library libfirrozka.a, whose functions include/firrozka.h declares. Nothing checks what a foreign caller passes,
 // so no function here requires anything. A slice crosses as a pointer and a length.
+#![tactic(auto)]
+
 ghost use Rattle.std.specs.Prelude.{◌≡◌, true, false, length};
 ghost use Rattle.sheet.specs.Sheet.{read_sheet};
 ghost use Rattle.plan.specs.Plan.{read_plan};

@@ -1,5 +1,7 @@
 // *Groups*, request 2026-06: the families of a plan as groups for a message library, in two colours, written to a lent buffer. Above the
 // balancer: it uses the plan and its tree, and nothing of the balancer uses it.
+#![tactic(auto)]
+
 ghost use Rattle.std.specs.Prelude.{◌≡◌, ◌≤◌, length};
 ghost use Rattle.limit.specs.Limit.{max_nodes};
 ghost use Rattle.words.specs.Buffer.{placed};

@@ -1,5 +1,7 @@
 // Document 01's *tree in force*: the helpands that hold after a step, handed back where they lie in the old or the new plan, with
 // nothing copied.
+#![tactic(auto)]
+
 ghost use Rattle.std.specs.Prelude.{◌≡◌, ◌+◌, ◌*◌, ◌≤◌, length};
 ghost use Rattle.arrays.specs.Arrays.{at};
 ghost use Rattle.plan.specs.Plan.{helpands_of};

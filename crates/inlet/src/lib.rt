@@ -1,5 +1,7 @@
 // *Join sheets*, request 2026-02: the resident sheet and the sheet of the particles that the gas inlet injects become one, written to a
 // lent buffer.
+#![tactic(auto)]
+
 ghost use Rattle.std.specs.Prelude.{◌≡◌, ℕ, length};
 ghost use Rattle.sheet.specs.Table.{table_of};
 ghost use Rattle.inlet.specs.Join.{sum_of, join_answer, joined_after, number_of, answer_of};

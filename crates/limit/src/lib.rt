@@ -1,4 +1,6 @@
 // The ranges of the papers' numbers, and the limit of a node's load.
+#![tactic(auto)]
+
 ghost use Rattle.std.specs.Prelude.{◌≡◌, ◌≤◌};
 ghost use Rattle.limit.specs.Limit.{max_nodes, max_tolerance, max_total, one_to, limit_of};
 

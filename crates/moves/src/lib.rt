@@ -1,5 +1,7 @@
 // The record `moves`: how many particles of which subdomain go from whom to whom. *Read moves* stands here, routes in `route`, the
 // writer in `write`.
+#![tactic(auto)]
+
 ghost use Rattle.std.specs.Prelude.{◌≡◌, ◌+◌, ◌*◌, ◌≤◌, length};
 ghost use Rattle.fold.specs.All.{every};
 ghost use Rattle.fold.specs.Rising.{rising};

@@ -1,5 +1,7 @@
 // The record `plan`: who helps whom, and with what share. *Read plan* stands here, the checks of its two arrays in `tree`, the
 // writer in `write`.
+#![tactic(auto)]
+
 ghost use Rattle.std.specs.Prelude.{◌≡◌, ◌+◌, ◌*◌, ◌≤◌, length};
 ghost use Rattle.limit.specs.Limit.{max_nodes};
 ghost use Rattle.plan.specs.Plan.{kind_fine, arrays_answer, read_plan, refusal_number, answer_of};

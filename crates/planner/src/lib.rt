@@ -1,4 +1,6 @@
 // *Plan a step*: from a sheet and an old plan to the new plan and the moves, in two lent buffers.
+#![tactic(auto)]
+
 ghost use Rattle.std.specs.Prelude.{◌≡◌, ◌≢◌, true, ◌+◌, ◌*◌, ◌≤◌, length};
 ghost use Rattle.limit.specs.Limit.{max_nodes, table_size};
 ghost use Rattle.words.specs.Buffer.{placed, after_call};

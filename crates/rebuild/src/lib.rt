@@ -1,5 +1,7 @@
 // Document 01, 'Rebuilding': a new helper tree and its shares, with every load equal to its target. In a turn node l helps node g, as
 // the document names them. The two groups that l and g are looked for in stand in `scan`.
+#![tactic(auto)]
+
 ghost use Rattle.std.specs.Prelude.{◌≡◌, true, ◌≤◌, ◌<◌};
 ghost use Rattle.fold.specs.Sum.{sum};
 ghost use Rattle.limit.specs.Limit.{max_nodes, max_total};

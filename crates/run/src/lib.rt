@@ -1,5 +1,7 @@
 // One run of the bench program, document 01, 'The bench program': from the bytes of its input to the text that it prints. Reading and
 // writing are the program's own.
+#![tactic(auto)]
+
 ghost use Rattle.std.specs.Prelude.{◌≡◌, ◌≤◌, length};
 ghost use Rattle.words.specs.Buffer.{placed};
 ghost use Rattle.sheet.specs.Sheet.{read_sheet};

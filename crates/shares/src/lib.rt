@@ -1,5 +1,7 @@
 // Shares in a kept tree, from the root down: the paragraph of that name. Each function goes through a family by the links from helper to
 // helper; the helpands are there for the contracts.
+#![tactic(auto)]
+
 mod family;
 mod fill;
 mod hold;

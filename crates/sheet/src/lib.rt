@@ -1,5 +1,7 @@
 // The record `sheet`: who holds how many particles of which subdomain. *Read sheet* stands here, the table of its counts in
 // `table`, the totals of the subdomains in `totals`, the writer in `write`.
+#![tactic(auto)]
+
 ghost use Rattle.std.specs.Prelude.{◌≡◌, ◌+◌, ◌*◌, ◌≤◌, length};
 ghost use Rattle.fold.specs.Rising.{rising};
 ghost use Rattle.limit.specs.Limit.{max_nodes, max_tolerance};
@@ -10,7 +12,7 @@ pub mod totals;
 pub mod write;
 
 // What an accepted sheet gives: N, t, E, P and L.
-#[derive(Drop)]
+#[derive(Clone, Copy)]
 pub struct Sheet {
     pub n: u32,
     pub t: u32,

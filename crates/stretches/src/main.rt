@@ -1,6 +1,8 @@
 // *Tree in force* on many pairs of plans: standard input is pairs one after the other, each two words, low byte first, with the
 // numbers of bytes of the old and of the new plan, and these bytes. Prints a line for each: `stretch`, and the helpands of the
 // stretch that it hands back.
+#![tactic(auto)]
+
 use libc::{STDIN_FILENO, STDOUT_FILENO};
 use text::put::{BLANK, put_byte, put_number};
 

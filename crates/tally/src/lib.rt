@@ -2,6 +2,8 @@
 // particles in a cell and says whether the plan's tree holds. What lies in a tally is in its caller's hands, so a call relies on nothing
 // that it has not tested. The head goes by value; the cells are lent, and what changes of them is changed where it lies. The C boundary
 // lends the whole.
+#![tactic(auto)]
+
 ghost use Rattle.std.specs.Prelude.{◌≡◌, suc, ◌+◌, ◌≤◌, ltb};
 ghost use Rattle.limit.specs.Limit.{max_nodes, max_total};
 ghost use Rattle.arrays.specs.Arrays.{at};
@@ -27,7 +29,7 @@ pub const CELLS: usize = 4224;
 
 // What a tally has beside its cells.
 #[repr(C)]
-#[derive(Drop)]
+#[derive(Clone, Copy)]
 pub struct Head {
     pub n: u32,
     pub limit: u32,

@@ -1,5 +1,7 @@
 // The bench program's text and the splitting of its input, document 01, 'The bench program': what it prints stands here, its parts
 // in `put` and `lines`, where the sheet ends in `split`. Reading and writing are the program's own.
+#![tactic(auto)]
+
 ghost use Rattle.std.specs.Prelude.{◌≡◌, ◌+◌, ◌*◌, ◌≤◌, length};
 ghost use Rattle.limit.specs.Limit.{max_nodes};
 ghost use Rattle.words.specs.Buffer.{placed};

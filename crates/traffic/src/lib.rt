@@ -1,5 +1,7 @@
 // *Traffic page*, request 2026-04: what each node sends and receives in a step, as lines of text in a lent buffer. The page stands in
 // `page`; the checks up to 42 are those of *carry out*.
+#![tactic(auto)]
+
 ghost use Rattle.std.specs.Prelude.{◌≡◌, length};
 ghost use Rattle.carry.specs.Inner.{PairAccepted};
 ghost use Rattle.traffic.specs.Page.{page_answer, page_after, number_of, answer_of};

@@ -1,4 +1,6 @@
 // Moves: the amounts that a plan makes due, the moves that bring them about, and moves carried out on a table of counts.
+#![tactic(auto)]
+
 pub mod apply;
 pub mod due;
 pub mod matching;

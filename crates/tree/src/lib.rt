@@ -1,5 +1,7 @@
 // Deciding, first part: whether the plan is primary. Weighing a tree stands in `least`, and the links that it goes
 // by in `links`.
+#![tactic(auto)]
+
 ghost use Rattle.std.specs.Prelude.{◌≡◌, ◌≤◌};
 ghost use Rattle.limit.specs.Limit.{max_nodes};
 ghost use Rattle.arrays.specs.Arrays.{at};

@@ -1,6 +1,8 @@
 // *Weigh*: the leasts of a plan's tree under a sheet's limit, written to a lent buffer, and whether the tree holds.
 // The checks up to 24 stand in `check`, too, for the opening of a tally. They are made here in their places: in one function for both they
 // would take *weigh* a twentieth of its time on a dense sheet.
+#![tactic(auto)]
+
 ghost use Rattle.std.specs.Prelude.{◌≡◌, ℕ, ◌≤◌, length};
 ghost use Rattle.limit.specs.Limit.{max_nodes};
 ghost use Rattle.arrays.specs.Arrays.{at, tabulate};

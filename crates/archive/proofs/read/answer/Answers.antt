@@ -1,0 +1,12 @@
+-- `archive::read::answer` meets its contract, case by case. Assumes nothing.
+use borrow.Author.Rules.{rules}
+use mathlib.Core.Path.{sym, ap, ◌∙◌}
+use Rattle.words.specs.Answer.{refused}
+use Rattle.archive.specs.Archive.{reading_of}
+use Rattle.archive.proofs.read.answer.Goals as goal
+
+pub returns-in-Restored : goal.returns-in-Restored
+returns-in-Restored c = sym (ap reading_of c.r-1.given.1)
+
+pub returns-in-Refused : goal.returns-in-Refused
+returns-in-Refused c = ap refused c.number.ensures ∙ sym (ap reading_of c.r-in-Refused-1.given.1)

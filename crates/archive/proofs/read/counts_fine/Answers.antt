@@ -1,0 +1,29 @@
+use borrow.Author.Rules.{rules}
+use borrow.Author.Tests.{not-true, not-false}
+use mathlib.Core.Path.{◌≡◌, sym, ◌∙◌}
+use mathlib.Core.Bool.{true, ◌||◌}
+use Prim.Native.Nat.{◌-◌, ◌≤◌}
+use native.Mathlib.Omega.{arith}
+use lib.Dec.{eqb}
+use Rattle.fold.specs.All.{all}
+use Rattle.fold.proofs.Tests.{all_none, all_more, all_fails}
+use Rattle.limit.specs.Limit.{table_size}
+use Rattle.arrays.specs.Arrays.{at}
+use Rattle.sheet.specs.Sheet.{cell_fine}
+use Rattle.archive.proofs.read.counts_fine.Goals as goal
+
+pub returns-then-not-count_fine : goal.returns-then-not-count_fine
+returns-then-not-count_fine c =
+    sym (all_fails table_size _ _ c.loop-c-test.true (sym c.count_fine.ensures ∙ not-true _ c.if-not-count_fine.true))
+
+pub loop-c-preserved : goal.loop-c-preserved
+loop-c-preserved c =
+    (omega arith, all_more _ _ c.loop-c.invariant.1 (sym c.count_fine.ensures ∙ not-false _ c.if-not-count_fine.false))
+
+pub returns-then-not-count_fine : goal.returns
+returns c =
+    let e : c.loop-c.c ≡ table_size = omega arith in
+    sym (rw e at c.loop-c.invariant.1)
+
+pub loop-c-init : goal.loop-c-init
+loop-c-init c = (omega arith, all_none _)

@@ -1,0 +1,112 @@
+use borrow.Author.Rules.{rules}
+use mathlib.Core.Path.{◌≡◌, refl, ap, ◌∙◌}
+use mathlib.Core.List.{List, ◌∷◌}
+use Prim.Native.Nat.{ℕ, ◌+◌, ◌*◌, ◌-◌, ◌≤◌, ◌<◌}
+use native.Mathlib.Omega.{arith}
+use lib.ListN.{length, get_or, set}
+use Rattle.limit.specs.Limit.{table_size}
+use Rattle.arrays.specs.Arrays.{at}
+use Rattle.words.specs.Words.{words, encode, put_word}
+use Rattle.words.specs.Buffer.{placed}
+use Rattle.words.proofs.Buffer.{length_put}
+use Rattle.sheet.specs.Inner.{Unpackable}
+use Rattle.archive.specs.ZOrder.{position_of, Positions}
+use Rattle.archive.specs.Archive.{archive_size, no_counts, archive_bytes}
+use Rattle.archive.proofs.Bits.{position-below}
+use Rattle.archive.proofs.Storing.{Storing, begin, end, index_below, again, put_count}
+use Rattle.archive.proofs.write.put_archive.Goals as goal
+
+abbrev start : goal.After-positions-positions → goal.Start
+start c = c.before
+
+pub loop-i-init : goal.loop-i-init
+loop-i-init c =
+    let p = (start c).requires.0 in
+    let a = (start c).args in
+    (no_counts, p, c.positions-positions.ensures, omega arith, refl, begin a.s.now a.n a.e p, λ base e. e)
+
+-- ---- a turn: the cell that was read, and its position
+module _ (c : goal.After-word_number-c) where
+  abbrev head : goal.At-loop-i
+  head = c.before
+  abbrev begun : goal.Start
+  begun = start head.before
+  abbrev x : ℕ
+  x = c.word_number-c.result
+  -- all entries are there
+  long : 4 * (3 + 2 * begun.args.e) ≤ length begun.args.s.now
+  long = begun.pre.0.long
+  below : x < table_size
+  below =
+      let a = begun.args in
+      let v = head.loop-i.inv in
+      index_below a.s.now a.n a.e v.1 v.0 head.loop-i.i v.5 c.loop-i-test.true x
+      (get_or (words a.s.now) (3 + a.e + head.loop-i.i) 0) c.word_number-c.ensures refl
+  abbrev p : ℕ
+  p = at head.positions-positions.result x
+  p-is : p ≡ position_of x
+  p-is = head.loop-i.inv.2 x below
+  p-below : p < table_size
+  p-below = omega (arith, p-is, position-below x)
+
+-- its count was read and stored there
+module _ (c : goal.After-put_word) where
+  abbrev counted : goal.After-word_number
+  counted = c.before
+  abbrev cell-read : goal.After-word_number-c
+  cell-read = counted.before
+  abbrev k : ℕ
+  k = counted.word_number.result
+  stored : c.put_word.new.0 ≡ put_word (head cell-read).loop.out (4 * (2 + position_of (x cell-read))) k
+  stored = c.put_word.ensures ∙ ap (λ (q : ℕ). put_word (head cell-read).loop.out (4 * (2 + q)) k) (p-is cell-read)
+
+pub loop-i-preserved : goal.loop-i-preserved
+loop-i-preserved c =
+    let w = c.before in
+    let r = cell-read w in
+    let a = (begun r).args in
+    let l = (head r).loop in
+    let v = l.inv in
+    let size = ap length (stored w) ∙ length_put l.out-1 (4 * (2 + position_of (x r))) (k w) in (
+      set v.0 (position_of (x r)) (k w),
+      v.1,
+      v.2,
+      omega (arith, size, v.3),
+      size ∙ v.4,
+      again a.s.now a.n a.e v.1 v.0 l.i v.5 r.loop-i-test.true (x r) (k w) r.word_number-c.ensures
+          (counted w).word-number2.ensures,
+      λ base e. stored w ∙ ap (λ (o : List ℕ). put_word o (4 * (2 + position_of (x r))) (k w)) (v.6 base e)
+          ∙ put_count base a.n a.t v.0 (x r) (k w) v.5.size,
+    )
+
+pub returns : goal.returns
+unfolding archive_bytes
+returns c =
+    let l = c.loop-i in
+    let v = l.invariant in
+    let b = c.before in
+    let a = (start b).args in
+    v.6 a.out-1.now b.put_empty.ensures
+    ∙ ap (λ (xs : List ℕ). placed (encode (a.n ∷ a.t ∷ xs)) a.out-1.now)
+    (end a.s.now a.n a.e v.1 v.0 l.i v.5 c.loop-i-test.false)
+
+pub word_number-c-requires : goal.word_number-c-requires
+word_number-c-requires c = omega (arith, (start c.before).pre.0.long)
+
+pub offset_bounds-positions-c : goal.offset_bounds-positions-c
+offset_bounds-positions-c c = omega (arith, below c)
+
+pub bounds-positions-c : goal.bounds-positions-c
+bounds-positions-c c = omega (arith, below c)
+
+pub overflow_cast-p : goal.overflow_cast-p
+overflow_cast-p c = omega (arith, p-below c)
+
+pub overflow_add-p : goal.overflow_add-p
+overflow_add-p c = omega (arith, p-below c.before)
+
+pub word_number-requires : goal.word_number-requires
+word_number-requires c = omega (arith, long c.before)
+
+pub put_word-requires : goal.put_word-requires
+put_word-requires c = omega (arith, p-below c.before, (head c.before).loop.inv.3)

@@ -1,0 +1,23 @@
+-- `archive::write::write_archive` meets its contract: the sheet's refusal, or what writing gives. Assumes nothing.
+use borrow.Author.Rules.{rules}
+use mathlib.Core.Path.{sym, ap, ◌∙◌}
+use native.Mathlib.Omega.{arith}
+use Rattle.sheet.specs.declared.SheetAnswer.{SheetAnswer}
+use Rattle.sheet.specs.Sheet.{answer_of, refusal_number}
+use Rattle.sheet.proofs.Answers.{number_more}
+use Rattle.archive.proofs.Checks.{ends_sheet}
+use Rattle.archive.proofs.write.write_archive.Goals as goal
+
+pub returns-in-Refused : goal.returns-in-Refused
+returns-in-Refused c =
+    let r = c.r-1.given in
+    ends_sheet _ _ (refusal_number r.0.0)
+    (ap (λ (x : SheetAnswer). x.refusal) (ap answer_of (sym r.1) ∙ c.read_sheet.ensures))
+    (λ z. omega (arith, number_more r.0.0))
+
+pub write_read-requires : goal.write_read-requires
+write_read-requires c =
+    ap answer_of (sym c.h-1.given.1) ∙ c.read_sheet.ensures
+
+pub returns-in-Accepted : goal.returns-in-Accepted
+returns-in-Accepted c = c.write_read.ensures

@@ -1,0 +1,12 @@
+-- `carry::answer` meets its contract, case by case. Assumes nothing.
+use borrow.Author.Rules.{rules}
+use mathlib.Core.Path.{sym, ap, ◌∙◌}
+use Rattle.words.specs.Answer.{refused}
+use Rattle.carry.specs.Carry.{answer_of}
+use Rattle.carry.proofs.answer.Goals as goal
+
+pub returns-in-Carried : goal.returns-in-Carried
+returns-in-Carried c = sym (ap answer_of c.c-1.given.1)
+
+pub returns-in-Refused : goal.returns-in-Refused
+returns-in-Refused c = ap refused c.number.ensures ∙ sym (ap answer_of c.c-in-Refused-1.given.1)

@@ -1,0 +1,17 @@
+-- `carry::carry_out` meets its contract: the refusal of both records, or what carrying out gives. Assumes nothing.
+use borrow.Author.Rules.{rules}
+use Rattle.carry.proofs.Checks.{pair-refused, pair-accepted}
+use Rattle.carry.proofs.Carried.{ends_refused}
+use Rattle.carry.proofs.carry_out.Goals as goal
+
+pub returns-in-Refused : goal.returns-in-Refused
+returns-in-Refused c =
+    let r = c.r-1.given in
+    ends_refused _ _ _ r.0.0 (pair-refused _ _ c.read_pair.ensures r.1)
+
+pub carry_read-requires : goal.carry_read-requires
+carry_read-requires c =
+    pair-accepted _ _ c.read_pair.ensures c.s-1.given.1
+
+pub returns-in-Accepted : goal.returns-in-Accepted
+returns-in-Accepted c = c.carry_read.ensures

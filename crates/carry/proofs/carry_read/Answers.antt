@@ -1,0 +1,108 @@
+-- `carry::carry_read` meets its contract: each way out gives the answer of the first check that refuses, and the writer's own test
+-- is 43. Assumes nothing.
+use borrow.Author.Rules.{rules}
+use mathlib.Core.Path.{◌≡◌, sym, ◌∙◌}
+use mathlib.Core.Bool.{true}
+use mathlib.Core.List.{List}
+use Prim.Native.Nat.{ℕ, ◌≤◌}
+use native.Mathlib.Omega.{arith}
+use borrow.Author.Tests.{not-true, not-false}
+use Rattle.limit.specs.Limit.{max_nodes}
+use Rattle.words.proofs.Buffer.{writing-bytes}
+use Rattle.sheet.specs.declared.Sheet.{Sheet}
+use Rattle.sheet.specs.Write.{sheet_bytes}
+use Rattle.sheet.proofs.Accepted.{sheet_unpackable}
+use Rattle.sheet.proofs.Filled.{length_most}
+use Rattle.carry.specs.Checks.{within_in}
+use Rattle.carry.specs.Carry.{next_table}
+use Rattle.carry.proofs.Checks.{sheet_facts, within-is}
+use Rattle.carry.proofs.Carried.{appliable, carried-is, ends_sends, ends_carried, ends_unwritten}
+use Rattle.carry.proofs.carry_read.Goals as goal
+
+-- the table of the sheet
+module _ (c : goal.After-unpack-table) where
+  abbrev start : goal.Start
+  start = c.before
+  abbrev sheet : List ℕ
+  sheet = start.args.sheet.now
+  abbrev moves : List ℕ
+  moves = start.args.moves.now
+  abbrev next : List ℕ
+  next = start.args.next.now
+  abbrev head : Sheet
+  head = start.args.s
+  n_high : head.n ≤ max_nodes
+  n_high = (sheet_facts start.pre).n_high
+
+pub apply_moves-requires : goal.apply_moves-requires
+apply_moves-requires c =
+    let u = c.before in
+    appliable (start u).requires u.unpack-table.ensures
+
+-- the moves were applied to it
+module _ (c : goal.After-apply_moves) where
+  abbrev read : goal.After-unpack-table
+  read = c.before
+  within-is-here : c.apply_moves.result ≡ within_in (sheet read) (moves read)
+  within-is-here = c.apply_moves.ensures.0 ∙ within-is (start read).pre read.unpack-table.ensures
+
+pub returns-then-not-apply_moves : goal.returns-then-not-apply_moves
+returns-then-not-apply_moves c =
+    let a = c.before in
+    ends_sends (start (read a)).pre _ (sym (within-is-here a) ∙ not-true _ c.if-not-apply_moves.true)
+
+-- past 42: the table that follows
+module _ (c : goal.Else-not-apply_moves) where
+  abbrev applied : goal.After-apply_moves
+  applied = c.before
+  abbrev u₀ : goal.After-unpack-table
+  u₀ = read applied
+  within : within_in (sheet u₀) (moves u₀) ≡ true
+  within = sym (within-is-here applied) ∙ not-false _ c.if-not-apply_moves.false
+  abbrev table : List ℕ
+  table = applied.apply_moves.last.0
+  table_is : table ≡ next_table (sheet u₀) (moves u₀)
+  table_is = applied.apply_moves.ensures.1 (not-false _ c.if-not-apply_moves.false) ∙ carried-is (start u₀).pre u₀.unpack-table.ensures
+
+-- and the table was written
+module _ (c : goal.After-write_sheet) where
+  abbrev passed : goal.Else-not-apply_moves
+  passed = c.before
+  abbrev rec : List ℕ
+  rec = sheet_bytes (head (u₀ passed)).n (head (u₀ passed)).t (table passed)
+
+abbrev answered : goal.After-slice_known-2-1 → goal.After-write_sheet
+answered c = c.before
+
+pub returns-in-Bytes : goal.returns-in-Bytes
+returns-in-Bytes c =
+    let size = c.size-1.given in
+    let w = answered c.before in
+    let p = passed w in
+    let x = ends_carried (start (u₀ p)).pre (next (u₀ p)) (within p) (table_is p) size.0.0
+    (sym size.1 ∙ w.write_sheet.ensures.0) in
+    (x.0, w.write_sheet.ensures.1 ∙ x.1)
+
+pub returns-in-Short : goal.returns-in-Short
+returns-in-Short c =
+    let w = answered c.before in
+    let p = passed w in
+    let x = ends_unwritten (start (u₀ p)).pre (next (u₀ p)) (within p) (table_is p)
+    (sym c.enum_told-1.given.1 ∙ w.write_sheet.ensures.0) in
+    (x.0, w.write_sheet.ensures.1 ∙ x.1)
+
+-- the length that the writer gives fits
+pub overflow_cast-result : goal.overflow_cast-result
+overflow_cast-result c =
+    let size = c.size-1.given in
+    let w = answered c.before in
+    let p = passed w in
+    let h = head (u₀ p) in
+    let z = writing-bytes (rec w) (next (u₀ p)) size.0.0 (sym size.1 ∙ w.write_sheet.ensures.0) in
+    omega (arith, z.0, length_most h.n h.t (table p) (n_high (u₀ p)))
+
+pub unpack-table-requires : goal.unpack-table-requires
+unpack-table-requires c = (_, sheet_unpackable _ _ (sheet_facts c.requires))
+
+pub write_sheet-requires : goal.write_sheet-requires
+write_sheet-requires c = n_high (u₀ c.before)

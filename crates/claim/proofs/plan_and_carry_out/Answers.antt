@@ -1,0 +1,52 @@
+-- `claim::plan_and_carry_out` meets its contract: what is handed on is the moves just written, and so demand 3 holds. Assumes nothing.
+use borrow.Author.Rules.{rules}
+use mathlib.Core.Path.{◌≡◌, sym, ap}
+use mathlib.Core.List.{List}
+use Prim.Native.Nat.{ℕ, ◌≤◌}
+use native.Mathlib.Omega.{arith}
+use lib.ListN.{length, take}
+use lib.Seq.{length-take-le}
+use Rattle.planner.specs.declared.StepAnswer.{StepAnswer}
+use Rattle.planner.specs.Step.{step_answer, plan_after, moves_after}
+use Rattle.planner.proofs.Sizes.{moves-inside}
+use Rattle.words.specs.declared.WrittenAnswer.{WrittenAnswer}
+use Rattle.carry.specs.Carry.{carry_answer, next_after}
+use Rattle.claim.specs.Claim.{Demand3}
+use Rattle.claim.proofs.Demand.{demand}
+use Rattle.claim.proofs.plan_and_carry_out.Goals as goal
+
+-- the demand, of answers and buffers that are what the contracts say
+handed-on : (s o p m x : List ℕ) (a : StepAnswer) (c : WrittenAnswer) (p₁ m₁ x₁ : List ℕ)
+    → a ≡ step_answer s o (length p) (length m) → p₁ ≡ plan_after s o p (length m) → m₁ ≡ moves_after s o m (length p)
+    → c ≡ carry_answer s (take a.moves-1 m₁) (length x) → x₁ ≡ next_after s (take a.moves-1 m₁) x → Demand3 s o p m x a c p₁ x₁
+handed-on s o p m x a c p₁ m₁ x₁ e f g h i = rw (h, i, g, f, e) (demand s o p m x)
+
+-- the step was planned or refused
+module _ (c : goal.After-firrozka_plan_step-step) where
+  abbrev begun : goal.After-slice_known-3-1
+  begun = c.before
+  abbrev start : goal.Start
+  start = begun.before
+  abbrev m : List ℕ
+  m = start.args.moves.now
+  size-inside : c.firrozka_plan_step-step.result.moves-1 ≤ length m
+  size-inside =
+      let a = start.args in
+      let sizes = moves-inside a.sheet.now a.old.now (length a.plan-1.now) (length m) in
+      omega (arith, ap (λ (x : StepAnswer). x.moves-1) c.firrozka_plan_step-step.ensures.0, sizes)
+
+abbrev stepped : goal.After-struct_known-1 → goal.After-firrozka_plan_step-step
+stepped c = c.before
+
+pub returns : goal.returns
+returns c =
+    let w = stepped c.before in
+    let e = w.firrozka_plan_step-step.ensures in
+    let f = c.firrozka_carry_out-carry.ensures in
+    (e.0, (e.1.0, (e.1.1, (f.0, (f.1, handed-on _ _ _ _ _ _ _ _ _ _ e.0 e.1.0 e.1.1 f.0 f.1)))))
+
+pub slice_bounds-firrozka_carry_out-end : goal.slice_bounds-firrozka_carry_out-end
+slice_bounds-firrozka_carry_out-end c = omega (arith, size-inside (stepped c))
+
+pub slice_bounds-firrozka_carry_out-end-2 : goal.slice_bounds-firrozka_carry_out-end-2
+slice_bounds-firrozka_carry_out-end-2 c = sym (length-take-le _ _ (omega (arith, size-inside (stepped c.before))))

@@ -1,0 +1,37 @@
+-- `decide::weighed_plan` meets its contract: the test of the array of leasts is the definition's, and each way out has its plan.
+-- Assumes nothing.
+use borrow.Author.Rules.{rules}
+use Rattle.plan.proofs.Trees.{tree-below}
+use Rattle.decide.proofs.Ways.{way_kept, way_broken}
+use Rattle.decide.proofs.weighed_plan.Goals as goal
+
+-- the tree was weighed and its leasts tested
+module _ (c : goal.After-holds) where
+  abbrev weighed : goal.After-leasts-leasts
+  weighed = c.before
+  abbrev linked : goal.After-helper_links-links
+  linked = weighed.before
+  abbrev start : goal.Start
+  start = linked.before
+
+pub returns-then-holds : goal.returns-then-holds
+returns-then-holds c =
+    let h = c.before in
+    let l = (weighed h).leasts in
+    let a = (start h).args in
+    way_kept a.nodes a.p a.limit a.table.now a.totals a.old l.result l.ensures h.holds.result
+    h.holds.ensures c.if-holds.true c.shares.result c.shares.ensures
+
+pub returns-then-holds : goal.returns
+returns c =
+    let h = c.before in
+    let l = (weighed h).leasts in
+    let a = (start h).args in
+    way_broken a.nodes a.p a.limit a.table.now a.totals a.old l.result l.ensures h.holds.result
+    h.holds.ensures c.if-holds.false c.rebuilt_plan.result c.rebuilt_plan.ensures
+
+pub helper_links-links-requires : goal.helper_links-links-requires
+helper_links-links-requires c = (c.requires.1, c.find_root-root.ensures.inside)
+
+pub rebuilt_plan-requires : goal.rebuilt_plan-requires
+rebuilt_plan-requires c = let s = (start c.before).pre in (s.0, s.1, tree-below s.5.1, s.3, s.4)

@@ -1,0 +1,64 @@
+use borrow.Author.Rules.{rules}
+use mathlib.Core.Path.{◌≡◌, ◌∙◌}
+use mathlib.Core.Logic.{⊎_elim}
+use Prim.Native.Nat.{ℕ, ◌-◌, ◌≤◌, ◌<◌}
+use native.Mathlib.Omega.{arith}
+use lib.ListN.{length, length-set, length-replicate}
+use Rattle.arrays.specs.Arrays.{at}
+use Rattle.groups.proofs.Owners.{Owning, owning_none, owning_root, owning_helper}
+use Rattle.groups.proofs.colour.own_groups.Goals.{else-helpand-k, then-helpand-k}
+use Rattle.groups.proofs.colour.own_groups.Goals as goal
+
+-- its helpand is a node
+below : (c : goal.After-helpand-1) →
+    let a = c.args in
+    at a.helpands.now c.loop-k.k < a.nodes
+below c = c.requires.inside c.loop-k.k c.loop-k-test.true
+
+fits : (c : goal.After-helpand-1) → at c.args.helpands.now c.loop-k.k < 64
+fits c = omega (arith, below c, c.requires.few)
+
+pub loop-k-preserved : goal.loop-k-preserved
+loop-k-preserved c =
+    let b = c.before in
+    let a = b.args in
+    let h = at a.helpands.now in
+    let v = b.loop-k.invariant in
+    elim c.if-helpand-k.branch [
+      | then-helpand-k w ↦ rw w.1 (
+      omega (arith, b.loop-k-test.true),
+      length-set b.loop-k.own _ _ ∙ v.1,
+      owning_helper a.nodes h b.loop-k.k b.loop-k.own v.2 w.if-helpand-k.true (omega (arith, fits b, v.1)),
+    )
+      | else-helpand-k w ↦ rw w.1 (
+      omega (arith, b.loop-k-test.true),
+      v.1,
+      owning_root a.nodes h b.loop-k.k b.loop-k.own v.2 w.if-helpand-k.false,
+    )
+    ]
+
+pub returns : goal.returns
+returns c n b =
+    let e : c.loop-k.k ≡ c.args.nodes = omega (arith, c.loop-k-test.false, c.loop-k.invariant.0) in
+    rw e at (c.loop-k.invariant.2 n b)
+
+pub loop-k-init : goal.loop-k-init
+loop-k-init c = (omega arith, length-replicate {A = ℕ} 64 64, owning_none _ _ c.requires.few)
+
+pub offset_bounds-helpands-k : goal.offset_bounds-helpands-k
+offset_bounds-helpands-k c = omega (arith, c.loop-k-test.true, c.requires.few)
+
+pub bounds-helpands-k : goal.bounds-helpands-k
+bounds-helpands-k c = omega (arith, c.loop-k-test.true, c.requires.few)
+
+pub overflow_cast-helpand : goal.overflow_cast-helpand
+overflow_cast-helpand c = omega (arith, fits c)
+
+pub overflow_cast-own : goal.overflow_cast-own
+overflow_cast-own c = omega (arith, fits c.before)
+
+pub offset_bounds-own-helpand : goal.offset_bounds-own-helpand
+offset_bounds-own-helpand c = omega (arith, fits c.before)
+
+pub bounds-own-helpand : goal.bounds-own-helpand
+bounds-own-helpand c = omega (arith, fits c.before)

@@ -1,0 +1,74 @@
+use mathlib.Core.Path.{◌≡◌}
+use Prim.Native.Nat.{◌+◌, ◌≤◌, ◌<◌}
+use native.Mathlib.Omega.{arith}
+use Rattle.arrays.specs.Arrays.{at}
+use Rattle.groups.specs.Colour.{distance}
+use Rattle.groups.proofs.Distances.{distance_most}
+use Rattle.groups.proofs.Noting.{unknown-step}
+use Rattle.groups.proofs.distance.distance.Goals as goal
+
+-- a node that is not known: its helpand is nearer
+nearer : (c : goal.In-loop-node) →
+    let a = c.args in
+    let h = at a.helpands.now in
+    distance a.nodes h c.loop-node.node-1 ≡ distance a.nodes h (h c.loop-node.node-1) + 1
+nearer c =
+    let p = c.requires in
+    unknown-step p.0 p.1 c.loop-node.node-1 c.loop-node.invariant.0 c.loop-node-test.true
+
+-- so few steps do not wrap
+short : (l : goal.At-loop-node) → l.loop-node.steps ≤ 64
+short l = omega (arith, l.loop-node.invariant.1, distance_most l.requires.0 l.args.k)
+
+pub loop-node-preserved : goal.loop-node-preserved
+loop-node-preserved c =
+    let t = c.before in
+    (t.requires.0.inside t.loop-node.node-1 t.loop-node.invariant.0, omega (arith, t.loop-node.invariant.1, nearer t))
+
+-- a node that is known
+known-right : (c : goal.After-loop-node) →
+    let a = c.args in
+    at a.known.now c.loop-node.node-1 ≡ distance a.nodes (at a.helpands.now) c.loop-node.node-1
+known-right c =
+    c.requires.1.right c.loop-node.node-1 c.loop-node.invariant.0 c.loop-node-test.false
+
+pub returns : goal.returns
+returns c =
+    omega (arith, c.loop-node.invariant.1, known-right c.before)
+
+pub loop-node-init : goal.loop-node-init
+loop-node-init c = (c.requires.2, omega arith)
+
+pub offset_bounds-known-node : goal.offset_bounds-known-node
+offset_bounds-known-node c = omega (arith, c.loop-node.invariant.0, c.requires.0.few)
+
+pub bounds-known-node : goal.bounds-known-node
+bounds-known-node c = omega (arith, c.loop-node.invariant.0, c.requires.0.few)
+
+pub offset_bounds-helpands-node : goal.offset_bounds-helpands-node
+offset_bounds-helpands-node c = omega (arith, c.loop-node.invariant.0, c.requires.0.few)
+
+pub bounds-helpands-node : goal.bounds-helpands-node
+bounds-helpands-node c = omega (arith, c.loop-node.invariant.0, c.requires.0.few)
+
+pub overflow_cast-node : goal.overflow_cast-node
+overflow_cast-node c =
+        let p = c.requires.0 in
+    omega (arith, p.inside c.loop-node.node-1 c.loop-node.invariant.0, p.few)
+
+pub overflow_add-steps : goal.overflow_add-steps
+overflow_add-steps c = omega (arith, short c.before)
+
+pub loop-node-smaller : goal.loop-node-smaller
+loop-node-smaller c = omega (arith, nearer c.before)
+
+pub offset_bounds-known-node-2 : goal.offset_bounds-known-node-2
+offset_bounds-known-node-2 c = omega (arith, c.loop-node.invariant.0, c.requires.0.few)
+
+pub bounds-known-node-2 : goal.bounds-known-node-2
+bounds-known-node-2 c = omega (arith, c.loop-node.invariant.0, c.requires.0.few)
+
+pub overflow_add-result : goal.overflow_add-result
+overflow_add-result c =
+    let l = c.before in
+    omega (arith, short l, known-right c.before, distance_most l.requires.0 l.loop-node.node-1)

@@ -1,0 +1,16 @@
+-- `groups::distance::distances` meets its contract: the distances of the nodes passed are known. Assumes nothing.
+use borrow.Author.Rules.{rules}
+use mathlib.Core.Logic.{◌≢◌}
+use Prim.Native.Nat.{ℕ, ◌-◌, ◌≤◌, ◌<◌}
+use native.Mathlib.Decide.{ℕ_discrete}
+use native.Mathlib.Omega.{arith}
+use Rattle.arrays.specs.Arrays.{at}
+use Rattle.groups.specs.Inner.{Known, unknown}
+use Rattle.groups.proofs.distance.distances.Given as goal
+
+abbrev pub invariant-loop-k : goal.invariant-loop-k
+invariant-loop-k l =
+    (l.k ≤ l.nodes) × Known l.nodes (at l.helpands) l.known-1 × ((j : ℕ) → j < l.k → at l.known-1 j ≢ unknown)
+
+abbrev pub decreases-loop-k : goal.decreases-loop-k
+decreases-loop-k l = l.nodes - l.k

@@ -1,0 +1,23 @@
+-- `groups::groups` meets its contract: the plan's refusal, or what its groups give. Assumes nothing.
+use borrow.Author.Rules.{rules}
+use mathlib.Core.Path.{sym, ap, ◌∙◌}
+use native.Mathlib.Omega.{arith}
+use Rattle.plan.specs.declared.PlanAnswer.{PlanAnswer}
+use Rattle.plan.specs.Plan.{answer_of, refusal_number}
+use Rattle.plan.proofs.Answers.{number_more}
+use Rattle.groups.proofs.Checks.{ends_plan}
+use Rattle.groups.proofs.groups.Goals as goal
+
+pub returns-in-Refused : goal.returns-in-Refused
+returns-in-Refused c =
+    let r = c.r-1.given in
+    ends_plan _ _ (refusal_number r.0.0)
+    (ap (λ (x : PlanAnswer). x.refusal) (ap answer_of (sym r.1) ∙ c.read_plan.ensures))
+    (λ z. omega (arith, number_more r.0.0))
+
+pub groups_read-requires : goal.groups_read-requires
+groups_read-requires c =
+    ap answer_of (sym c.p-1.given.1) ∙ c.read_plan.ensures
+
+pub returns-in-Accepted : goal.returns-in-Accepted
+returns-in-Accepted c = c.groups_read.ensures

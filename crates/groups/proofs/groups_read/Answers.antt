@@ -1,0 +1,93 @@
+-- `groups::groups_read` meets its contract: the buffer's test is 57, and past it the groups are written. Assumes nothing.
+use borrow.Author.Rules.{rules}
+use mathlib.Core.Path.{◌≡◌, ap, ◌∙◌}
+use mathlib.Core.Logic.{⊎_elim}
+use mathlib.Core.List.{List}
+use Prim.Native.Nat.{ℕ, ◌≤◌}
+use native.Mathlib.Omega.{arith}
+use lib.ListN.{length, drop, length-append, length-drop}
+use Rattle.arrays.specs.Arrays.{at}
+use Rattle.arrays.proofs.Padded.{padded-same}
+use Rattle.words.specs.Buffer.{placed}
+use Rattle.plan.specs.Plan.{helpands_of, accepted}
+use Rattle.plan.proofs.Accepted.{Accepted, reading_accepted}
+use Rattle.groups.specs.Groups.{groups_bytes}
+use Rattle.groups.specs.Inner.{no_groups}
+use Rattle.groups.proofs.Planned.{array_rooted, reading_none}
+use Rattle.groups.proofs.Placing.{length-groups, none-groups}
+use Rattle.groups.proofs.Checks.{ends_buffer, ends_grouped}
+use Rattle.groups.proofs.groups_read.Goals.{else-p-eq0, then-p-eq0}
+use Rattle.groups.proofs.groups_read.Goals as goal
+
+-- what was read
+module _ (c : goal.After-struct_known-1) where
+  abbrev start : goal.Start
+  start = c.before
+  abbrev plan : List ℕ
+  plan = start.args.plan.now
+  facts : Accepted plan (accepted start.args.p.n start.args.p.kind start.args.p.limit)
+  facts = reading_accepted plan start.args.p start.pre
+
+pub returns-then-groups-nodes : goal.returns-then-groups-nodes
+returns-then-groups-nodes c = ends_buffer _ _ (start c.before).pre (omega (arith, c.if-groups-nodes.true))
+
+-- past the test of the buffer
+abbrev long : goal.After-struct_known-2-1 → goal.Else-groups-nodes
+long c = c.before
+
+pub put_none-requires : goal.put_none-requires
+put_none-requires c =
+    let e = long c.before in
+    ((facts e.before).n_high, omega (arith, e.if-groups-nodes.left))
+
+pub words_64-requires : goal.words_64-requires
+words_64-requires c =
+    let k = facts (long c.before).before in
+    omega (arith, k.size, k.n_high)
+
+pub put_groups-requires : goal.put_groups-requires
+put_groups-requires c =
+    let e = long c.before in
+    let s = start e.before in
+    (rw c.words_64.ensures (array_rooted (plan e.before) s.args.p s.pre), omega (arith, e.if-groups-nodes.left))
+
+-- what was written, whichever way it went
+module _ (c : goal.Joined-p-eq0) where
+  abbrev read : goal.After-struct_known-1
+  read = (long c.before).before
+  abbrev n : ℕ
+  n = (start read).args.p.n
+  abbrev h : ℕ → ℕ
+  h = at (helpands_of (plan read) n)
+  none_is : (start read).args.p.kind ≡ 0 → no_groups n ≡ groups_bytes n h
+  none_is z = none-groups n h (reading_none (plan read) (start read).args.p (start read).pre z)
+  written : c.if-p-eq0.groups-1 ≡ placed (groups_bytes n h) (start read).args.groups.now
+  written = elim c.if-p-eq0.branch [
+      | then-p-eq0 w ↦ w.5 ∙ w.2.ensures ∙ ap (λ (x : List ℕ). placed x (start read).args.groups.now) (none_is w.if-p-eq0.true)
+      | else-p-eq0 w ↦ w.6 ∙ w.3.ensures
+      ∙ ap (λ (x : ℕ → ℕ). placed (groups_bytes n x) (start read).args.groups.now)
+      (ap at w.2.ensures ∙ padded-same (helpands_of (plan read) n))
+    ]
+
+pub returns-then-groups-nodes : goal.returns
+returns c =
+    let j = c.before in
+    let e = long j.before in
+    ends_grouped _ _ (start e.before).pre (omega (arith, e.if-groups-nodes.left)) (written j)
+
+pub shape_of-groups : goal.shape_of-groups
+shape_of-groups c =
+    let j = c.before in
+    let out = (start (read j)).args.groups.now in
+    let rec = groups_bytes (n j) (h j) in
+    let e : length rec ≤ length out = omega (arith, length-groups (n j) (h j), (long j.before).if1.false) in
+    ap length (written j) ∙ length-append rec (drop (length rec) out) ∙ simp length-drop (omega arith)
+
+pub overflow_mul-result : goal.overflow_mul-result
+overflow_mul-result c = omega (arith, (facts (read c.before)).n_high)
+
+pub overflow_add-result : goal.overflow_add-result
+overflow_add-result c = omega (arith, (facts (read c.before)).n_high)
+
+pub overflow_mul-result-2 : goal.overflow_mul-result-2
+overflow_mul-result-2 c = omega (arith, (facts (read c.before)).n_high)

@@ -1,0 +1,33 @@
+-- `halves::carry_out_halves` meets its contract: what is handed on is the sheet just written, and so the request holds. Assumes nothing.
+use borrow.Author.Rules.{rules}
+use mathlib.Core.Path.{◌≡◌, sym, ap}
+use mathlib.Core.List.{List}
+use Prim.Native.Nat.{ℕ, ◌≤◌}
+use native.Mathlib.Omega.{arith}
+use lib.ListN.{length, take}
+use lib.Seq.{length-take-le}
+use Rattle.words.specs.declared.WrittenAnswer.{WrittenAnswer}
+use Rattle.carry.specs.Carry.{carry_answer, next_after}
+use Rattle.carry.proofs.Sizes.{carry_inside}
+use Rattle.halves.specs.Halves.{HalfFirst}
+use Rattle.halves.proofs.Halves.{half_first}
+use Rattle.halves.proofs.carry_out_halves.Goals as goal
+
+-- the request, of answers and buffers that are what the contracts say
+handed-on : (s a b x y : List ℕ) (c d : WrittenAnswer) (x₁ y₁ : List ℕ)
+    → c ≡ carry_answer s a (length x) → x₁ ≡ next_after s a x
+    → d ≡ carry_answer (take c.bytes x₁) b (length y) → y₁ ≡ next_after (take c.bytes x₁) b y → HalfFirst s a b x y c d y₁
+handed-on s a b x y c d x₁ y₁ e f g h = rw (g, h, f, e) (half_first s a b x y)
+
+-- the first call was answered
+module _ (c : goal.After-firrozka_carry_out-a) where
+  abbrev start : goal.Start
+  start = c.before
+  size-inside : c.firrozka_carry_out-a.result.bytes ≤ length start.args.between.now
+  size-inside =
+      let a = start.args in
+      let inside = carry_inside a.sheet.now a.first.now (length a.between-1.now) in
+      omega (arith, ap (λ (r : WrittenAnswer). r.bytes) c.firrozka_carry_out-a.ensures.0, inside)
+
+pub firrozka_carry_out-a-requires : goal.firrozka_carry_out-a-requires
+firrozka_carry_out-a-requires c = ? c

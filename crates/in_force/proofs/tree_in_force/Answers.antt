@@ -1,0 +1,64 @@
+-- `in_force::tree_in_force` meets its contract: each case is a part of one of the two slices, where it lies. Assumes nothing.
+use borrow.Author.Rules.{rules}
+use borrow.Rule.Slice.PartAt.{sl_part}
+use native.Mathlib.Omega.{arith}
+use mathlib.Core.Path.{◌≡◌, refl, sym, ap, ◌∙◌}
+use mathlib.Core.List.{List}
+use Prim.Native.Nat.{ℕ, ◌+◌, ◌-◌}
+use denote.Ref.{Bor}
+use Rattle.in_force.specs.declared.Chosen.{Chosen}
+use Rattle.in_force.specs.declared.Chosen.TheVariants.{Old, New}
+use Rattle.in_force.specs.InForce.{in_force, PartOf}
+use Rattle.in_force.specs.Inner.{where_of}
+use Rattle.in_force.proofs.InForce.{Within, in_force_within}
+use Rattle.in_force.proofs.tree_in_force.Goals as goal
+
+-- `&s[a..a + m]` is the m bytes of s from a on, where they lie; g is its ghost name
+part : (s : Bor (List ℕ)) (a m g : ℕ) → PartOf (sl_part s (a + s.ref_ptr.1) a (a + m) g) s a m
+part s a m g =
+    let e : a + m - a ≡ m = omega arith in
+    record { block = refl; offset = refl; holds = rw e }
+
+-- the case found is the stretch in force, so it lies inside its plan
+module _ (c : goal.After-choose-chosen) (k : Chosen) (e : c.choose-chosen.result-1 ≡ k) where
+  found : (let a = c.args in where_of k ≡ in_force a.old.now a.new.now)
+  found = ap where_of (sym e) ∙ c.choose-chosen.ensures
+  inside : (let a = c.args in Within (where_of k) a.old.now a.new.now)
+  inside = in_force_within _ _ (where_of k) found
+
+in_old : (c : goal.In-Old-2) →
+    let a = c.args in
+    Within (where_of (Old c.chosen-1.given.0.0)) a.old.now a.new.now
+in_old c = inside c.before (Old c.chosen-1.given.0.0) c.chosen-1.given.1
+
+in_new : (c : goal.In-New-2) →
+    let a = c.args in
+    Within (where_of (New c.chosen-in-New-1.given.0.0)) a.old.now a.new.now
+in_new c = inside c.before (New c.chosen-in-New-1.given.0.0) c.chosen-in-New-1.given.1
+
+pub overflow_mul-result : goal.overflow_mul-result
+overflow_mul-result c = omega (arith, in_old c.before)
+
+pub overflow_add-result : goal.overflow_add-result
+overflow_add-result c = omega (arith, in_old c.before)
+
+pub slice_bounds-result-end : goal.slice_bounds-result-end
+slice_bounds-result-end c = omega (arith, in_old c.before)
+
+pub overflow_mul-result-in-New : goal.overflow_mul-result-in-New
+overflow_mul-result-in-New c = omega (arith, in_new c.before)
+
+pub overflow_add-result-in-New : goal.overflow_add-result-in-New
+overflow_add-result-in-New c = omega (arith, in_new c.before)
+
+pub slice_bounds-result-end-in-New : goal.slice_bounds-result-end-in-New
+slice_bounds-result-end-in-New c = omega (arith, in_new c.before)
+
+pub returns-in-Old : goal.returns-in-Old
+returns-in-Old c = rw (← found c.before _ c.chosen-1.given.1) (part _ 12 _ _)
+
+pub returns-in-New : goal.returns-in-New
+returns-in-New c = rw (← found c.before _ c.chosen-in-New-1.given.1) (part _ 12 _ _)
+
+pub returns-in-Empty : goal.returns-in-Empty
+returns-in-Empty c = rw (← found c.before _ c.enum_told-1.given.1) (part _ 0 0 _)

@@ -1,0 +1,78 @@
+use borrow.Author.Rules.{rules}
+use Prim.Native.Nat.{ℕ, ◌+◌, ◌*◌, ◌-◌, ◌≤◌, ◌<◌}
+use native.Mathlib.Omega.{arith}
+use lib.ListN.{length}
+use Rattle.limit.specs.Limit.{max_total, table_size}
+use Rattle.arrays.specs.Arrays.{at}
+use Rattle.inlet.specs.Inner.{Addable}
+use Rattle.inlet.proofs.Adding.{Adding, begin, end, index_below, fits, again}
+use Rattle.inlet.proofs.add_counts.Goals as goal
+
+pub loop-i-init : goal.loop-i-init
+loop-i-init c =
+    let p = c.requires in
+    let a = c.args in
+    (p.0, p.1, begin a.table-1.now a.s.now p.0 a.e p.1)
+
+-- all entries are there
+long : (l : goal.At-loop-i) → let a = l.args in 4 * (3 + 2 * a.e) ≤ length a.s.now
+long l = l.loop-i.invariant.1.entries.long
+
+-- ---- a turn: the cell and the count that were read
+module _ (c : goal.After-word_number) where
+  abbrev cell-read : goal.After-word_number-c
+  cell-read = c.before
+  abbrev turn : goal.In-loop-i
+  turn = cell-read.before
+  abbrev start : goal.Start
+  start = turn.before
+  abbrev head : goal.At-loop-i
+  head = turn.before
+  below : cell-read.word_number-c.result < table_size
+  below =
+      let a = start.args in
+      let v = head.loop-i.inv in
+      index_below a.table-1.now a.s.now v.0 a.e v.1 head.loop-i.table-1 head.loop-i.i v.2 turn.loop-i-test.true
+      _ _ cell-read.word_number-c.ensures c.word_number.ensures
+  fits-here : at head.loop-i.table-1 cell-read.word_number-c.result + c.word_number.result ≤ max_total
+  fits-here =
+      let a = start.args in
+      let v = head.loop-i.inv in
+      fits a.table-1.now a.s.now v.0 a.e v.1 head.loop-i.table-1 head.loop-i.i v.2 turn.loop-i-test.true
+      _ _ cell-read.word_number-c.ensures c.word_number.ensures
+
+pub loop-i-preserved : goal.loop-i-preserved
+loop-i-preserved c =
+    let k = c.before in
+    let a = (start k).args in
+    let l = (head k).loop in
+    let v = l.inv in (
+      v.0,
+      v.1,
+      again a.table-1.now a.s.now v.0 a.e v.1 l.table-1 l.i v.2 (turn k).loop-test.true _ _
+          (cell-read k).word_number.ensures k.word_number.ensures,
+    )
+
+pub returns : goal.returns
+returns c =
+    let l = c.loop-i in
+    let a = c.args in
+    end a.table-1.now a.s.now l.invariant.0 a.e l.invariant.1 l.table-1 l.i l.invariant.2 c.loop-i-test.false
+
+pub word_number-c-requires : goal.word_number-c-requires
+word_number-c-requires c = omega (arith, long c.before)
+
+pub word_number-requires : goal.word_number-requires
+word_number-requires c = omega (arith, long c.before)
+
+pub offset_bounds-table-c : goal.offset_bounds-table-c
+offset_bounds-table-c c = omega (arith, below c)
+
+pub bounds-table-c : goal.bounds-table-c
+bounds-table-c c = below c
+
+pub overflow_add-table : goal.overflow_add-table
+overflow_add-table c = omega (arith, fits-here c.before)
+
+pub bounds-table-c-in-loop-i : goal.bounds-table-c-in-loop-i
+bounds-table-c-in-loop-i c = below c.before

@@ -1,0 +1,16 @@
+-- `inlet::add_counts` meets its contract: at the loop's head each cell has, with the counts of the entries left, the sum. Assumes nothing.
+use borrow.Author.Rules.{rules}
+use Prim.Native.Nat.{ℕ, ◌+◌, ◌*◌, ◌-◌, ◌≤◌, ◌<◌}
+use native.Mathlib.Omega.{arith}
+use lib.ListN.{length}
+use Rattle.limit.specs.Limit.{max_total, table_size}
+use Rattle.arrays.specs.Arrays.{at}
+use Rattle.inlet.specs.Inner.{Addable}
+use Rattle.inlet.proofs.Adding.{Adding, begin, end, index_below, fits, again}
+use Rattle.inlet.proofs.add_counts.Given as goal
+
+abbrev pub invariant-loop-i : goal.invariant-loop-i
+invariant-loop-i l = (n : ℕ) × Addable l.initial.table-1 l.s n l.e × Adding l.initial.table-1 l.s n l.e l.table-1 l.i
+
+abbrev pub decreases-loop-i : goal.decreases-loop-i
+decreases-loop-i l = l.e - l.i

@@ -1,0 +1,127 @@
+-- `inlet::join_read` meets its contract: each way out gives the answer of the first check that refuses, and the writer's own test is 52.
+-- Assumes nothing.
+use borrow.Author.Rules.{rules}
+use mathlib.Core.Path.{◌≡◌, sym, ◌∙◌}
+use mathlib.Core.List.{List}
+use Prim.Native.Nat.{ℕ}
+use native.Mathlib.Omega.{arith}
+use Rattle.words.proofs.Buffer.{writing-bytes}
+use Rattle.sheet.specs.declared.Sheet.{Sheet}
+use Rattle.sheet.specs.Sheet.{accepted}
+use Rattle.sheet.specs.Write.{sheet_bytes}
+use Rattle.sheet.proofs.Accepted.{Accepted, sheet_unpackable}
+use Rattle.sheet.proofs.Filled.{length_most}
+use Rattle.inlet.specs.Join.{joined_table}
+use Rattle.inlet.proofs.Checks.{first_facts, second_facts, addable, joined_is, ends_nodes, ends_tolerance, ends_total, ends_joined, ends_unwritten}
+use Rattle.inlet.proofs.join_read.Goals as goal
+
+-- before the first check
+module _ (c : goal.After-struct_known-2-1) where
+  abbrev start : goal.Start
+  start = c.before
+  abbrev first : List ℕ
+  first = start.args.first.now
+  abbrev second : List ℕ
+  second = start.args.second.now
+  abbrev out : List ℕ
+  out = start.args.out.now
+  abbrev a₀ : Sheet
+  a₀ = start.args.a
+  abbrev b₀ : Sheet
+  b₀ = start.args.b
+  facts : Accepted first (accepted a₀.n a₀.t a₀.e a₀.p a₀.limit)
+  facts = first_facts start.pre
+  others : Accepted second (accepted b₀.n b₀.t b₀.e b₀.p b₀.limit)
+  others = second_facts start.pre
+
+pub returns-then-a-b : goal.returns-then-a-b
+returns-then-a-b c =
+    let b = c.before in
+    ends_nodes (start b).requires _ c.if-a-b.true
+
+-- past the test of N
+module _ (c : goal.After-struct_known-4-1) where
+  abbrev nodes-same : goal.Else-a-b
+  nodes-same = c.before
+
+pub returns-then-a-b-2 : goal.returns-then-a-b-2
+returns-then-a-b-2 c =
+    let n = nodes-same c.before in
+    ends_tolerance (start n.before).pre _ c.if-a-b-2.true
+
+-- past the test of t
+module _ (c : goal.After-struct_known-6-1) where
+  abbrev both-same : goal.Else-a-b-2
+  both-same = c.before
+  abbrev begun : goal.After-struct_known-2-1
+  begun = (nodes-same both-same.before).before
+
+pub returns-then-a-b-gt-MAX_TOTAL : goal.returns-then-a-b-gt-MAX_TOTAL
+returns-then-a-b-gt-MAX_TOTAL c =
+    let k = c.before in
+    ends_total (start (begun k)).pre _ (nodes-same (both-same k).before).if1.left (both-same k).if2.false c.if-a-b-gt-MAX_TOTAL.true
+
+-- past the test of the joint total: the first sheet's table, and the second's counts added to it
+module _ (c : goal.After-add_counts) where
+  abbrev unpacked : goal.After-unpack-table
+  unpacked = c.before
+  abbrev within : goal.Else-a-b-gt-MAX_TOTAL
+  within = unpacked.before
+  abbrev b₁ : goal.After-struct_known-2-1
+  b₁ = begun within.before
+  abbrev table : List ℕ
+  table = c.add_counts.new.0
+  table_is : table ≡ joined_table (first b₁) (second b₁)
+  table_is = c.add_counts.ensures ∙ joined_is (start b₁).pre unpacked.unpack-table.ensures
+
+-- and the sum was written
+module _ (c : goal.After-write_sheet) where
+  abbrev summed : goal.After-add_counts
+  summed = c.before
+  abbrev rec : List ℕ
+  rec = sheet_bytes (a₀ (b₁ summed)).n (a₀ (b₁ summed)).t (table summed)
+
+abbrev answered : goal.After-slice_known-2-1 → goal.After-write_sheet
+answered c = c.before
+
+pub returns-in-Bytes : goal.returns-in-Bytes
+returns-in-Bytes c =
+    let size = c.size-1.given in
+    let w = answered c.before in
+    let p = summed w in
+    let e = within p in
+    let x = ends_joined (start (b₁ p)).pre (out (b₁ p)) (nodes-same (both-same e.before).before).if1.left
+    (both-same e.before).if2.left e.if-a-b-gt-MAX_TOTAL.left (table_is p) size.0.0 (sym size.1 ∙ w.write_sheet.ensures.0) in
+    (x.0, w.write_sheet.ensures.1 ∙ x.1)
+
+pub returns-in-Short : goal.returns-in-Short
+returns-in-Short c =
+    let w = answered c.before in
+    let p = summed w in
+    let e = within p in
+    let x = ends_unwritten (start (b₁ p)).pre (out (b₁ p)) (nodes-same (both-same e.before).before).if1.left
+    (both-same e.before).if2.left e.if-a-b-gt-MAX_TOTAL.left (table_is p) (sym c.enum_told-1.given.1 ∙ w.write_sheet.ensures.0) in
+    (x.0, w.write_sheet.ensures.1 ∙ x.1)
+
+-- the length that the writer gives fits
+pub overflow_cast-result : goal.overflow_cast-result
+overflow_cast-result c =
+    let size = c.size-1.given in
+    let w = answered c.before in
+    let p = summed w in
+    let h = a₀ (b₁ p) in
+    let z = writing-bytes (rec w) (out (b₁ p)) size.0.0 (sym size.1 ∙ w.write_sheet.ensures.0) in
+    omega (arith, z.0, length_most h.n h.t (table p) (facts (b₁ p)).n_high)
+
+pub add_counts-requires : goal.add_counts-requires
+add_counts-requires c =
+    (_, addable (start (begun c.before)).pre c.unpack-table.ensures c.if-a-b-gt-MAX_TOTAL.false)
+
+pub overflow_add-a : goal.overflow_add-a
+overflow_add-a c = omega (arith, (facts (begun c)).sum.within, (others (begun c)).sum.within)
+
+pub unpack-table-requires : goal.unpack-table-requires
+unpack-table-requires c = (_, sheet_unpackable _ _ (facts (begun c.before)))
+
+pub write_sheet-requires : goal.write_sheet-requires
+write_sheet-requires c = (facts (b₁ c.before)).n_high

@@ -1,0 +1,29 @@
+-- `plan::tree::check_chains` meets its contract. Outer loop: the chains of the nodes passed reach a root. Inner loop: the node's
+-- chain reaches a root if what is left of it does, in the steps that are left. Assumes nothing.
+use borrow.Author.Rules.{rules}
+use borrow.Author.Tests.{ltb-true}
+use mathlib.Core.Path.{◌≡◌, refl, sym, ap, ◌∙◌}
+use mathlib.Core.Bool.{true}
+use Prim.Native.Nat.{◌≤◌, ◌<◌, ◌-◌}
+use native.Mathlib.Omega.{arith}
+use Rattle.fold.specs.All.{all}
+use Rattle.fold.proofs.Tests.{all_none, all_more, all_fails, all-at}
+use Rattle.plan.specs.declared.Checked.TheVariants.{Passed}
+use Rattle.plan.specs.Tree.{reaches}
+use Rattle.plan.specs.Inner.{checked_of}
+use Rattle.plan.proofs.Chains.{reaches-root, reaches-none, reaches_step}
+use Rattle.arrays.specs.Arrays.{at}
+use Rattle.plan.proofs.tree.check_chains.Given as goal
+
+abbrev pub invariant-steps : goal.invariant-steps
+invariant-steps l =
+    (l.here < l.nodes) × (l.left ≤ l.nodes) × (reaches (at l.helpands) l.nodes l.node ≡ reaches (at l.helpands) l.left l.here) × (l.found ≡ Passed)
+
+abbrev pub decreases-steps : goal.decreases-steps
+decreases-steps l = l.left
+
+abbrev pub invariant-nodes : goal.invariant-nodes
+invariant-nodes l = (l.node ≤ l.nodes) × (all l.node (reaches (at l.helpands) l.nodes) ≡ true) × (l.found ≡ Passed)
+
+abbrev pub decreases-nodes : goal.decreases-nodes
+decreases-nodes l = l.nodes - l.node

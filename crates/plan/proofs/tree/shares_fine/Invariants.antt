@@ -1,0 +1,19 @@
+-- `plan::tree::shares_fine` meets its contract: the shares of the nodes passed are fine. Assumes nothing.
+use borrow.Author.Rules.{rules}
+use mathlib.Core.Path.{◌≡◌, sym}
+use mathlib.Core.Logic.{⊎_elim}
+use mathlib.Core.Bool.{true}
+use Prim.Native.Nat.{◌≤◌, ◌-◌}
+use native.Mathlib.Omega.{arith}
+use Rattle.fold.specs.All.{all}
+use Rattle.fold.proofs.Tests.{all_none, all_more, all_fails}
+use Rattle.plan.specs.Tree.{share_fine}
+use Rattle.plan.proofs.Shares.{share-over, share-root, share_fine_lem}
+use Rattle.arrays.specs.Arrays.{at}
+use Rattle.plan.proofs.tree.shares_fine.Given as goal
+
+abbrev pub invariant-loop-k : goal.invariant-loop-k
+invariant-loop-k l = (l.k ≤ l.nodes) × (all l.k (share_fine l.limit (at l.helpands) (at l.shares)) ≡ true)
+
+abbrev pub decreases-loop-k : goal.decreases-loop-k
+decreases-loop-k l = l.nodes - l.k

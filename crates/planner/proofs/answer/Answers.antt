@@ -1,0 +1,11 @@
+-- `planner::answer` meets its contract, case by case. Assumes nothing.
+use borrow.Author.Rules.{rules}
+use mathlib.Core.Path.{sym, ap, ◌∙◌}
+use Rattle.planner.specs.Step.{refused, answer_of}
+use Rattle.planner.proofs.answer.Goals as goal
+
+pub returns-in-Planned : goal.returns-in-Planned
+returns-in-Planned c = sym (ap answer_of c.s-1.given.1)
+
+pub returns-in-Refused : goal.returns-in-Refused
+returns-in-Refused c = ap refused c.number.ensures ∙ sym (ap answer_of c.s-in-Refused-1.given.1)

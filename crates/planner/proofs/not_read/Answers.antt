@@ -1,0 +1,13 @@
+-- `planner::not_read` meets its contract: a refusal is passed on, and an accepted sheet has none. Assumes nothing.
+use borrow.Author.Rules.{rules}
+use mathlib.Core.Path.{sym, ap}
+use Rattle.sheet.specs.declared.SheetReading.{SheetReading}
+use Rattle.sheet.specs.Sheet.{answer_of as sheetAnswer}
+use Rattle.planner.specs.Step.{refused}
+use Rattle.planner.proofs.not_read.Goals as goal
+
+pub returns-in-Refused : goal.returns-in-Refused
+returns-in-Refused c = ap (λ (r : SheetReading). refused (sheetAnswer r).refusal) (sym c.reading-1.given.1)
+
+pub returns-in-Accepted : goal.returns-in-Accepted
+returns-in-Accepted c = absurd (c.requires (ap (λ (r : SheetReading). (sheetAnswer r).refusal) c.enum_told-1.given.1))

@@ -1,0 +1,74 @@
+-- `planner::plan_step` meets its contract: the sheet's refusal, then the old plan's, then what is planned. Assumes nothing.
+use borrow.Author.Rules.{rules}
+use mathlib.Core.Path.{◌≡◌, refl, sym, ap, ◌∙◌}
+use mathlib.Core.Logic.{◌≢◌}
+use mathlib.Core.Bool.{Bool, true, false}
+use mathlib.Core.List.{List}
+use Prim.Native.Nat.{ℕ}
+use Rattle.sheet.specs.declared.Sheet.{Sheet}
+use Rattle.sheet.specs.declared.SheetAnswer.{SheetAnswer}
+use Rattle.sheet.specs.declared.SheetReading.TheVariants.{Accepted}
+use Rattle.sheet.specs.Sheet.{read_sheet, answer_of as sheetAnswer}
+use Rattle.planner.specs.declared.OldPlan.{OldPlan}
+use Rattle.planner.specs.Step.{number_of, old_of, old_read}
+use Rattle.planner.specs.Inner.{StepRead}
+use Rattle.planner.proofs.Ways.{ends_sheet, ends_old, number_more, refusal_more}
+use Rattle.planner.proofs.plan_step.Goals as goal
+
+-- the sheet was read
+module _ (c : goal.After-read_sheet-reading) where
+  abbrev start : goal.Start
+  start = c.before
+  abbrev sheet : List ℕ
+  sheet = start.args.sheet.now
+  abbrev old : List ℕ
+  old = start.args.old.now
+
+-- it was refused: its number is not 0
+not-zero : (c : goal.In_default) → (sheetAnswer c.read_sheet-reading.result).refusal ≢ 0
+not-zero c = refusal_more _ _ c.enum_told-1.given.1
+
+pub returns-in_default : goal.returns-in_default
+returns-in_default c =
+    let k = (sheetAnswer c.read_sheet-reading.result).refusal in
+    let e = ap (λ (x : SheetAnswer). x.refusal) c.read_sheet-reading.ensures in
+    let ends = ends_sheet _ _ _ _ k e (not-zero c.before) in
+    (c.not_read.ensures ∙ ends.0, ends.1)
+
+-- it was accepted, and the old plan read
+module _ (c : goal.After-read_old) where
+  abbrev reading : goal.In-Accepted-2
+  reading = c.before
+  abbrev first : goal.After-read_sheet-reading
+  first = reading.before
+  abbrev head : Sheet
+  head = reading.reading-1.given.0.0
+  sheet-read : sheetAnswer (Accepted head) ≡ read_sheet (sheet first)
+  sheet-read = ap sheetAnswer (sym reading.reading-1.given.1) ∙ first.read_sheet-reading.ensures
+  -- with a tree, or without one
+  both_read : (x : OldPlan) (tree : Bool) → c.read_old.result ≡ x → old_of x ≡ old_read tree → StepRead (sheet first) (old first) head tree
+  both_read x tree e f = record { sheet = sheet-read; old = sym c.read_old.ensures ∙ ap old_of e ∙ f }
+
+pub returns-in-Refused : goal.returns-in-Refused
+returns-in-Refused c =
+    let r = c.r-1.given in
+    let o = c.before in
+    let f = first o in
+    let refused = ap old_of (sym r.1) ∙ o.read_old.ensures in
+    ends_old _ _ _ _ (head o).n (ap (λ (x : SheetAnswer). x.refusal) (sheet-read o))
+    (ap (λ (x : SheetAnswer). x.n) (sheet-read o)) (number_of r.0.0) refused (number_more r.0.0)
+
+pub not_read-requires : goal.not_read-requires
+not_read-requires c = not-zero c
+
+pub plan_read-requires : goal.plan_read-requires
+plan_read-requires c = both_read c.before _ true c.enum_told-in-Tree-1.given.1 refl
+
+pub plan_read-requires-in-NoTree : goal.plan_read-requires-in-NoTree
+plan_read-requires-in-NoTree c = both_read c.before _ false c.enum_told-in-NoTree-1.given.1 refl
+
+pub returns-in-Tree : goal.returns-in-Tree
+returns-in-Tree c = c.plan_read.ensures
+
+pub returns-in-NoTree : goal.returns-in-NoTree
+returns-in-NoTree c = c.plan_read-in-NoTree.ensures

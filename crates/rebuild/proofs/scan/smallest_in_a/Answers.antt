@@ -1,0 +1,51 @@
+use borrow.Author.Rules.{rules}
+use borrow.Author.Tests.{lt-ltb, le-ltb}
+use mathlib.Core.Path.{◌≡◌, sym, ◌∙◌}
+use mathlib.Core.Logic.{⊎_elim}
+use Prim.Native.Nat.{◌≤◌, ◌<◌, ◌-◌}
+use native.Mathlib.Omega.{arith}
+use Rattle.fold.specs.Best.{best}
+use Rattle.fold.proofs.Scans.{best_skips, best_begins, best_takes, best-stays, best-found}
+use Rattle.rebuild.specs.Rebuild.{smallest_in_a}
+use Rattle.rebuild.proofs.scan.smallest_in_a.Goals.{else-in_a, then-in_a}
+use Rattle.rebuild.proofs.scan.smallest_in_a.Goals as goal
+
+pub loop-k-init : goal.loop-k-init
+unfolding best
+loop-k-init c = search rules
+
+-- the loop's head, from where a node's group is known
+abbrev head : goal.After-in_a → goal.At-loop-k
+head c = c.before
+
+-- the best so far is a node
+at-node : (c : goal.In-At-2) → c.best-1.given.0.0 < 64
+at-node c =
+    let l = head c.before in
+    omega (arith, (best-found _ _ l.loop-k.k _ (sym l.loop-k.inv.1 ∙ c.best-1.given.1)).0)
+
+-- one node more: the first in the group, a better one, one that is no better, and one that is not in the group
+pub loop-k-preserved : goal.loop-k-preserved
+loop-k-preserved c =
+    let l = (head c.before).loop in
+    let e = sym l.inv.1 in
+    let o = sym c.in_a.ensures in
+    elim c.if-in_a.branch [
+      | then-in_a w ↦ (search rules, w.3 ∙ sym (best_begins _ _ l.k (o ∙ w.if-in_a.true) (e ∙ w.2.given.1)))
+      | else-in_a w ↦ (⊎_elim
+    (λ w. (search rules, w.7 ∙ sym (best_takes _ _ l.k _ (o ∙ w.if-in_a.true) (e ∙ w.2.given.1) (lt-ltb _ _ w.6.true))))
+    (⊎_elim
+    (λ w. (search rules, w.7 ∙ sym (best-stays _ _ l.k _ (o ∙ w.if-in_a.true) (e ∙ w.2.given.1) (le-ltb _ _ w.6.left))))
+    (λ w. (search rules, w.1 ∙ l.inv.1 ∙ sym (best_skips _ _ l.k (o ∙ w.if-in_a.false)))))) w
+    ]
+
+pub returns : goal.returns
+returns c =
+    let e : c.loop-k.k ≡ c.args.nodes = omega arith in
+    rw e at c.loop-k.invariant.1
+
+pub offset_bounds-loads-b : goal.offset_bounds-loads-b
+offset_bounds-loads-b c = omega (arith, at-node c.before)
+
+pub bounds-loads-b : goal.bounds-loads-b
+bounds-loads-b c = at-node c.before

@@ -1,0 +1,17 @@
+-- `scan::smallest_in_a` meets its contract: at the loop's head the best of the nodes passed is known. Assumes nothing.
+use borrow.Author.Rules.{rules}
+use borrow.Author.Tests.{lt-ltb, le-ltb}
+use mathlib.Core.Path.{◌≡◌, sym, ◌∙◌}
+use mathlib.Core.Logic.{⊎_elim}
+use Prim.Native.Nat.{◌≤◌, ◌<◌, ◌-◌}
+use native.Mathlib.Omega.{arith}
+use Rattle.fold.specs.Best.{best}
+use Rattle.fold.proofs.Scans.{best_skips, best_begins, best_takes, best-stays, best-found}
+use Rattle.rebuild.specs.Rebuild.{smallest_in_a}
+use Rattle.rebuild.proofs.scan.smallest_in_a.Given as goal
+
+abbrev pub invariant-loop-k : goal.invariant-loop-k
+invariant-loop-k l = (l.k ≤ l.nodes) × (l.best-1 ≡ smallest_in_a l.k l.loads l.targets l.finished)
+
+abbrev pub decreases-loop-k : goal.decreases-loop-k
+decreases-loop-k l = l.nodes - l.k

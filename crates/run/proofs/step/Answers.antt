@@ -1,0 +1,81 @@
+-- `run::step` meets its contract: a refusal is written as its number, and otherwise both buffers begin with the records of the step.
+-- Assumes nothing.
+use borrow.Author.Rules.{rules}
+use mathlib.Core.Path.{sym, ap, ◌∙◌}
+use mathlib.Core.List.{List}
+use Prim.Native.Nat.{ℕ, ◌≤◌}
+use lib.ListN.{length, replicate, length-replicate}
+use lib.Seq.{length-take-le}
+use Rattle.words.specs.Buffer.{placed}
+use Rattle.run.specs.Run.{plan_size, moves_size}
+use Rattle.run.proofs.Planned.{Answered, number_text, plan_in_front, moves_in_front, fronts_printable, fronts_text}
+use Rattle.run.proofs.step.Goals as goal
+
+-- the step was planned or refused
+module _ (c : goal.After-answer-answer) where
+  abbrev step : goal.After-plan_step
+  step = c.before
+  abbrev lent : goal.After-plan-1
+  lent = step.before
+  abbrev start : goal.Start
+  start = lent.before
+  abbrev out : List ℕ
+  out = start.args.out.now
+  -- the two buffers, which began as zeros: the last of the four that were lent
+  abbrev plan : List ℕ
+  plan = let buffers = step.plan_step.last.1.1 in buffers.0
+  abbrev moves : List ℕ
+  moves = let buffers = step.plan_step.last.1.1 in buffers.1.0
+  answered : Answered start.args.sheet.now start.args.old.now c.answer-answer.result (replicate plan_size 0) (replicate moves_size 0)
+      plan moves
+  answered =
+      let e = step.plan_step.ensures in
+      record {
+        plan_long = length-replicate {A = ℕ} plan_size 0;
+        moves_long = length-replicate {A = ℕ} moves_size 0;
+        answer = c.answer-answer.ensures ∙ e.0;
+        plan_after_lem = e.1.0;
+        moves_after_lem = e.1.1;
+      }
+
+pub returns-then-answer-ne0 : goal.returns-then-answer-ne0
+returns-then-answer-ne0 c =
+    let a = c.before in
+    let same = number_text (answered a) c.if-answer-ne0.true in
+    (c.write_refused.ensures.0 ∙ ap length same, c.write_refused.ensures.1 ∙ ap (λ (x : List ℕ). placed x (out a)) same)
+
+-- it was planned
+abbrev planned : goal.Else-answer-ne0 → goal.After-answer-answer
+planned c = c.before
+
+plan-within : (c : goal.Else-answer-ne0) → (planned c).answer.result.plan ≤ length (plan (planned c))
+plan-within c = (plan_in_front (answered (planned c)) c.if-answer-ne0.false).within
+
+moves-within : (c : goal.Else-answer-ne0) → (planned c).answer.result.moves ≤ length (moves (planned c))
+moves-within c = (moves_in_front (answered (planned c)) c.if-answer-ne0.false).within
+
+abbrev accepted : goal.After-moves-3-1 → goal.Else-answer-ne0
+accepted c = c.before
+
+pub write_records-requires : goal.write_records-requires
+write_records-requires c =
+    let e = accepted c.before in
+    (fronts_printable (answered (planned e)) e.if-answer-ne0.left, (start (planned e)).pre)
+
+pub returns-then-answer-ne0 : goal.returns
+returns c =
+    let e = accepted c.before in
+    let same = fronts_text (answered (planned e)) e.if-answer-ne0.left in
+    (c.write_records.ensures.0 ∙ ap length same, c.write_records.ensures.1 ∙ ap (λ (x : List ℕ). placed x (out (planned e))) same)
+
+pub slice_bounds-plan-end : goal.slice_bounds-plan-end
+slice_bounds-plan-end c = plan-within c.before
+
+pub slice_bounds-write_records-end : goal.slice_bounds-write_records-end
+slice_bounds-write_records-end c = sym (length-take-le _ _ (plan-within c.before))
+
+pub slice_bounds-moves-end : goal.slice_bounds-moves-end
+slice_bounds-moves-end c = moves-within c.before
+
+pub slice_bounds-write_records-end-2 : goal.slice_bounds-write_records-end-2
+slice_bounds-write_records-end-2 c = sym (length-take-le _ _ (moves-within (accepted c)))

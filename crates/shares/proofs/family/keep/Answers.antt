@@ -1,0 +1,129 @@
+use borrow.Author.Rules.{rules}
+use mathlib.Core.Path.{◌≡◌, sym, ap, ◌∙◌}
+use mathlib.Core.Bool.{true}
+use mathlib.Core.List.{List}
+use Prim.Native.Nat.{ℕ, ◌+◌, ◌-◌, ◌≤◌, ◌<◌, min}
+use native.Mathlib.Omega.{arith}
+use Rattle.fold.specs.First.{FirstFrom}
+use Rattle.fold.proofs.Sums.{sum_term}
+use Rattle.arrays.specs.Arrays.{at}
+use Rattle.arrays.proofs.Tabulate.{tabulate-at}
+use Rattle.sheet.specs.Table.{held}
+use Rattle.sheet.specs.Totals.{total_of}
+use Rattle.tree.specs.Family.{helps}
+use Rattle.tree.proofs.Linking.{link_first, link_next, left-all}
+use Rattle.shares.specs.Inner.{keeps_in, rooms_in, Somewhere}
+use Rattle.shares.proofs.Spaces.{space-own, space-helper}
+use Rattle.shares.proofs.Amounts.{kept-sum, kept-left}
+use Rattle.shares.proofs.Raising.{somewhere_larger}
+use Rattle.shares.proofs.Noting.{NotedSoFar, so_far-none, so_far_more, so_far-all}
+use Rattle.shares.proofs.family.keep.Goals as goal
+
+-- ---- the owner
+module _ (c : goal.Start) where
+  abbrev holding : ℕ → ℕ
+  holding k = held c.args.table.now k c.args.n
+  abbrev keeps : ℕ → ℕ
+  keeps = keeps_in c.args.limit c.args.helpands.now c.args.reserves.now c.args.table.now c.args.share c.args.n
+  -- the total is the table's
+  total_is : at c.args.totals.now c.args.n ≡ total_of c.args.nodes c.args.table.now c.args.n
+  total_is =
+      ap (λ (xs : List ℕ). at xs c.args.n) c.requires.2
+      ∙ tabulate-at c.args.nodes (total_of c.args.nodes c.args.table.now) c.args.n c.requires.1
+
+own_keeps : (c : goal.After-keeps-own) → c.keeps-own.result ≡ keeps c.before c.args.n
+own_keeps c =
+    let a = c.args in
+    omega (arith, c.keeps-own.ensures, space-own (at a.helpands.now) a.limit (at a.reserves.now) a.share a.n)
+
+pub overflow_sub-rest : goal.overflow_sub-rest
+overflow_sub-rest c =
+    let o = c.before in
+    let b = o.before in
+    omega (arith, own_keeps o, total_is b, sum_term b.args.nodes (holding b) b.args.n b.requires.1)
+
+pub loop-k-init : goal.loop-k-init
+loop-k-init c =
+    let o = c.before in
+    let a = o.args in (
+      so_far-none o.requires.3 (ap (λ (x : ℕ). at a.totals.now a.n - x) (own_keeps o))
+          (link_first o.requires.0.linked a.n o.requires.1 c.first-k.ensures),
+      record {
+        node = a.n;
+        inside = o.requires.1;
+        there =
+            omega (
+              arith,
+              c.room-most.ensures.0,
+              own_keeps o,
+              space-own (at a.helpands.now) a.limit (at a.reserves.now) a.share a.n,
+            );
+      },
+    )
+
+-- ---- a turn, whose helper is k
+module _ (c : goal.After-keeps-amount) where
+  abbrev loop : goal.At-loop-k
+  loop = c.before
+  abbrev start : goal.Start
+  start = loop.before
+  abbrev k : ℕ
+  k = loop.loop-k.k
+  k_lt : k < start.args.nodes
+  k_lt = c.loop-k-test.true
+  helps-n : helps (at start.args.helpands.now) start.args.n k ≡ true
+  helps-n = loop.loop-k.inv.0.true.helper k_lt
+  keeps-is : c.keeps-amount.result ≡ keeps start k
+  keeps-is =
+      let a = start.args in
+      let e = space-helper (at a.helpands.now) a.limit (at a.reserves.now) a.share a.n k helps-n in
+      c.keeps-amount.ensures ∙ ap (λ (x : ℕ). min x (holding start k)) (sym e)
+  still_there : c.keeps-amount.result ≤ loop.loop-k.rest-1
+  still_there =
+      let a = start.args in
+      omega (
+        arith,
+        keeps-is,
+        total_is start,
+        loop.loop-k.inv.0.true.left_is,
+        kept-left (at a.helpands.now) a.limit (at a.reserves.now) (holding start) a.share a.n a.nodes k
+            start.pre.1 k_lt helps-n,
+      )
+  next-first : {to : ℕ} →
+      let a = start.args in
+      to ≡ at a.links.now (64 + k) → FirstFrom a.nodes (helps (at a.helpands.now) a.n) (k + 1) to
+  next-first e = link_next start.pre.0.linked start.args.n k_lt helps-n e
+
+pub loop-k-preserved : goal.loop-k-preserved
+loop-k-preserved c =
+    let m = c.before in
+    let a = (start m).args in
+    let e = space-helper (at a.helpands.now) a.limit (at a.reserves.now) a.share a.n (k m) (helps-n m) in (
+      so_far_more (loop m).loop.invariant.0 (start m).requires.0.few (k_lt m) (keeps-is m)
+          (ap (λ (x : ℕ). (loop m).loop.rest - x) (keeps-is m)) (next-first m c.next-k.ensures),
+      rw c.larger-most.ensures
+          (somewhere_larger (loop m).loop.invariant.1 (k_lt m) (omega (arith, c.room.ensures.0, keeps-is m, e))),
+    )
+
+pub returns : goal.returns
+returns c =
+    let o = c.before in
+    let b = o.before in
+    let a = b.args in
+    let all = so_far-all c.loop-k.invariant.0 c.loop-k-test.false in (
+      own_keeps o,
+      omega (
+        arith,
+        (left-all c.loop-k.invariant.0.true c.loop-k-test.false).1,
+        kept-sum (at a.helpands.now) a.limit (at a.reserves.now) (holding b) a.share a.n a.nodes b.requires.1,
+      ),
+      c.loop-k.invariant.1,
+      all.0,
+      all.1,
+    )
+
+pub overflow_sub-rest-in-loop-k : goal.overflow_sub-rest-in-loop-k
+overflow_sub-rest-in-loop-k c = still_there c
+
+pub loop-k-smaller : goal.loop-k-smaller
+loop-k-smaller c = omega (arith, (next-first c.before c.next-k.ensures).from_le)

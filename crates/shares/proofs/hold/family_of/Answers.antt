@@ -1,0 +1,62 @@
+use borrow.Author.Rules.{rules}
+use mathlib.Core.Path.{◌≡◌, refl}
+use Prim.Native.Nat.{ℕ, ◌+◌, ◌-◌, ◌*◌, ◌≤◌, ◌<◌}
+use native.Mathlib.Omega.{arith}
+use Rattle.fold.specs.First.{FirstFrom}
+use Rattle.arrays.specs.Arrays.{at}
+use Rattle.tree.specs.Family.{helps}
+use Rattle.tree.proofs.Linking.{link_first, link_next}
+use Rattle.shares.proofs.Summing.{Summed, summed_first, summed_next, summed_end}
+use Rattle.shares.proofs.hold.family_of.Goals as goal
+
+-- ---- a turn, whose helper is k
+module _ (c : goal.In-loop-k) where
+  abbrev loop : goal.At-loop-k
+  loop = c.before
+  abbrev start : goal.Start
+  start = loop.before
+  abbrev k : ℕ
+  k = loop.loop-k.k
+  k_lt : k < start.args.nodes
+  k_lt = c.loop-k-test.true
+  k-few : k < 64
+  k-few = omega (arith, k_lt, start.pre.0.few)
+  onward : {to : ℕ} →
+      let a = start.args in
+      to ≡ at a.links.now (64 + k) → FirstFrom a.nodes (helps (at a.helpands.now) a.n) (k + 1) to
+  onward e = link_next start.pre.0.linked start.args.n k_lt (loop.loop-k.inv.0.helper k_lt) e
+
+pub loop-k-init : goal.loop-k-init
+loop-k-init c =
+    let x = link_first c.requires.0.linked c.args.n c.requires.1 c.first-k.ensures in
+    (summed_first refl x, summed_first refl x, omega arith, omega arith)
+
+pub loop-k-preserved : goal.loop-k-preserved
+loop-k-preserved c =
+    let i = c.before in
+    let v = (loop i).loop.invariant in
+    let x = onward i c.next-k.ensures in (
+      summed_next v.0 (k_lt i) c.wide-sum.ensures.0 x,
+      summed_next v.1 (k_lt i) refl x,
+      omega (arith, v.2, x.from_le, c.wide-sum.ensures.1),
+      omega (arith, v.3, x.from_le),
+    )
+
+pub returns : goal.returns
+returns c =
+    let v = c.loop-k.invariant in
+    let few = c.requires.0.few in (
+      omega (arith, summed_end v.0 c.loop-k-test.false),
+      summed_end v.1 c.loop-k-test.false,
+      omega (arith, v.2, v.0.k_le, few),
+      omega (arith, v.3, v.0.k_le, few),
+    )
+
+pub overflow_add-sum : goal.overflow_add-sum
+overflow_add-sum c = omega (arith, (loop c.before).loop.inv.2, k-few c.before, c.wide-sum.ensures.1)
+
+pub overflow_add-size : goal.overflow_add-size
+overflow_add-size c = omega (arith, (loop c.before).loop.inv.3, k-few c.before)
+
+pub loop-k-smaller : goal.loop-k-smaller
+loop-k-smaller c = let i = c.before in omega (arith, (onward i c.next-k.ensures).from_le, k_lt i)

@@ -1,0 +1,102 @@
+use borrow.Author.Rules.{rules}
+use mathlib.Core.Path.{◌≡◌, sym, ap, ◌∙◌}
+use mathlib.Core.Logic.{◌≢◌}
+use mathlib.Core.Bool.{true, false}
+use Prim.Native.Nat.{ℕ, ◌+◌, ◌-◌, ◌≤◌, ◌<◌}
+use native.Mathlib.Omega.{arith}
+use lib.Dec.{ltb}
+use borrow.Author.Tests.{le-ltb}
+use Rattle.fold.specs.Sum.{only}
+use Rattle.fold.specs.First.{FirstFrom}
+use Rattle.fold.proofs.Tests.{only-max, only-not}
+use Rattle.arrays.specs.Arrays.{at}
+use Rattle.tree.specs.Family.{helps}
+use Rattle.tree.proofs.Linking.{link_first, link_next}
+use Rattle.shares.specs.Inner.{rooms_now}
+use Rattle.shares.proofs.Spaces.{family_own, family_helper, family_other, rooms-most}
+use Rattle.shares.proofs.Summing.{Summed, summed_first, summed_next, summed_all, summed_most}
+use Rattle.shares.proofs.level.above.Invariants.{excess, one}
+use Rattle.shares.proofs.level.above.Goals as goal
+
+module _ (c : goal.Start) where
+  abbrev rooms : ℕ → ℕ
+  rooms =
+      let a = c.args in
+      rooms_now a.limit a.helpands.now a.reserves.now a.n a.own a.noted.now
+  abbrev left : ℕ → ℕ
+  left k = c.args.limit - at c.args.reserves.now k - at c.args.noted.now k
+  own_is : c.args.own ≡ rooms c.args.n
+  own_is = sym (family_own (at c.args.helpands.now) c.args.n c.args.own left)
+  none_other : (k : ℕ) → k ≢ c.args.n → helps (at c.args.helpands.now) c.args.n k ≡ false → rooms k ≡ 0
+  none_other = family_other (at c.args.helpands.now) c.args.n c.args.own left
+
+pub loop-k-init : goal.loop-k-init
+loop-k-init c =
+    let b = c.before in
+    let x = link_first b.requires.0.linked b.args.n b.requires.1 c.first-k.ensures in (
+      summed_first (c.over-particles.ensures.0 ∙ ap (λ (r : ℕ). r - b.args.level) (own_is b)) x,
+      summed_first (c.one_above-members.ensures.0 ∙ ap (λ (r : ℕ). only (ltb b.args.level r) 1) (own_is b)) x,
+    )
+
+-- ---- a turn, whose helper is k
+module _ (c : goal.After-room-room) where
+  abbrev loop : goal.At-loop-k
+  loop = c.before
+  abbrev start : goal.Start
+  start = loop.before
+  abbrev k : ℕ
+  k = loop.loop-k.k
+  k_lt : k < start.args.nodes
+  k_lt = c.loop-k-test.true
+  helps-n : helps (at start.args.helpands.now) start.args.n k ≡ true
+  helps-n = loop.loop-k.inv.0.helper k_lt
+  room-is : c.room-room.result ≡ rooms start k
+  room-is =
+      c.room-room.ensures.0
+      ∙ sym (family_helper (at start.args.helpands.now) start.args.n start.args.own (left start) k helps-n)
+  next-first : {to : ℕ} →
+      let a = start.args in
+      to ≡ at a.links.now (64 + k) → FirstFrom a.nodes (helps (at a.helpands.now) a.n) (k + 1) to
+  next-first e = link_next start.pre.0.linked start.args.n k_lt helps-n e
+
+-- no more than 64 rooms of 32 bits are added up
+pub overflow_add-particles : goal.overflow_add-particles
+overflow_add-particles c =
+    let r = c.before in
+    let a = (start r).args in
+    let few = (start r).requires.0.few in
+    let most =
+    rooms-most a.limit a.helpands.now a.reserves.now a.n a.own a.noted.now 4294967295 (search rules) (search rules)
+    in
+    let all = summed_most 4294967295 (loop r).loop.invariant.0 (λ j. omega (arith, most j)) in
+    omega (arith, all, most a.n, k_lt r, few, c.over-particles-in-loop-k.ensures.1)
+
+pub overflow_add-members : goal.overflow_add-members
+overflow_add-members c =
+    let r = c.before in
+    let few = (start r).requires.0.few in
+    let most : (j : ℕ) → one (rooms (start r)) (start r).args.level j ≤ 1 = λ j.
+    only-max (ltb (start r).args.level (rooms (start r) j)) 1 in
+    let all = summed_most 1 (loop r).loop.invariant.1 most in
+    omega (arith, all, most (start r).args.n, k_lt r, few, c.one_above-members-in-loop-k.ensures.1)
+
+pub loop-k-preserved : goal.loop-k-preserved
+loop-k-preserved c =
+    let r = c.before in
+    let level = (start r).args.level in
+    let x = next-first r c.next-k.ensures in (
+      summed_next (loop r).loop.invariant.0 (k_lt r) (c.over-particles-in-loop-k.ensures.0 ∙ ap (λ (y : ℕ). y - level) (room-is r)) x,
+      summed_next (loop r).loop.invariant.1 (k_lt r) (c.one_above-members-in-loop-k.ensures.0 ∙ ap (λ (y : ℕ). only (ltb level y) 1) (room-is r)) x,
+    )
+
+pub returns : goal.returns
+returns c =
+    let b = c.before in
+    let level = b.args.level in (
+      summed_all c.loop-k.invariant.0 c.loop-k-test.false b.requires.1 (λ j d y. omega (arith, none_other b j d y)),
+      summed_all c.loop-k.invariant.1 c.loop-k-test.false b.requires.1
+          (λ j d y. only-not (ltb level (rooms b j)) 1 (le-ltb level (rooms b j) (omega (arith, none_other b j d y)))),
+    )
+
+pub loop-k-smaller : goal.loop-k-smaller
+loop-k-smaller c = omega (arith, (next-first c.before c.next-k.ensures).from_le)

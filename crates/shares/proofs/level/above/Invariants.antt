@@ -1,0 +1,35 @@
+-- `level::above` meets its contract: at the loop's head the sums are those of the owner and of the helpers passed. Assumes nothing.
+use borrow.Author.Rules.{rules}
+use mathlib.Core.Path.{◌≡◌, sym, ap, ◌∙◌}
+use mathlib.Core.Logic.{◌≢◌}
+use mathlib.Core.Bool.{true, false}
+use Prim.Native.Nat.{ℕ, ◌+◌, ◌-◌, ◌≤◌, ◌<◌}
+use native.Mathlib.Omega.{arith}
+use lib.Dec.{ltb}
+use borrow.Author.Tests.{le-ltb}
+use Rattle.fold.specs.Sum.{only}
+use Rattle.fold.specs.First.{FirstFrom}
+use Rattle.fold.proofs.Tests.{only-max, only-not}
+use Rattle.arrays.specs.Arrays.{at}
+use Rattle.tree.specs.Family.{helps}
+use Rattle.tree.proofs.Linking.{link_first, link_next}
+use Rattle.shares.specs.Inner.{rooms_now}
+use Rattle.shares.proofs.Spaces.{family_own, family_helper, family_other, rooms-most}
+use Rattle.shares.proofs.Summing.{Summed, summed_first, summed_next, summed_all, summed_most}
+use Rattle.shares.proofs.level.above.Given as goal
+
+-- what one node adds
+abbrev pub excess : (ℕ → ℕ) → ℕ → ℕ → ℕ
+excess rooms level k = rooms k - level
+
+abbrev pub one : (ℕ → ℕ) → ℕ → ℕ → ℕ
+one rooms level k = only (ltb level (rooms k)) 1
+
+abbrev pub invariant-loop-k : goal.invariant-loop-k
+invariant-loop-k l =
+    let rooms = rooms_now l.limit l.helpands l.reserves l.n l.own l.noted in
+    (Summed l.nodes (at l.helpands) l.n (excess rooms l.level l.n) (excess rooms l.level) l.particles l.k)
+    × (Summed l.nodes (at l.helpands) l.n (one rooms l.level l.n) (one rooms l.level) l.members l.k)
+
+abbrev pub decreases-loop-k : goal.decreases-loop-k
+decreases-loop-k l = l.nodes - l.k

@@ -1,0 +1,72 @@
+use borrow.Author.Rules.{rules}
+use mathlib.Core.Path.{◌≡◌, ap}
+use mathlib.Core.Logic.{◌⊎◌, inr}
+use Prim.Native.Nat.{ℕ, ◌+◌, ◌-◌, ◌≤◌, ◌<◌}
+use native.Mathlib.Omega.{arith}
+use Rattle.shares.specs.Inner.{rooms_now, over}
+use Rattle.shares.proofs.Spaces.{rooms-most}
+use Rattle.shares.proofs.Raising.{start-lowest, turns_left, Counted, turn-some, turn-lowest, turn-most, turn_fewer}
+use Rattle.shares.proofs.level.lowest.Goals as goal
+
+module _ (c : goal.Start) where
+  abbrev rooms : ℕ → ℕ
+  rooms =
+      let a = c.args in
+      rooms_now a.limit a.helpands.now a.reserves.now a.n a.own a.noted.now
+  bound : (k : ℕ) → k < c.args.nodes → rooms k ≤ 4294967295
+  bound k l =
+      let a = c.args in
+      rooms-most a.limit a.helpands.now a.reserves.now a.n a.own a.noted.now 4294967295
+      (search rules) (search rules) k
+
+pub loop-high-init : goal.loop-high-init
+loop-high-init c = rw c.saturating_sub-level.ensures (start-lowest c.args.rest c.requires.2)
+
+counted : (c : goal.After-above-high) →
+    let s = c.before in
+    Counted s.args.nodes (rooms s) c.loop-high.level c.above-high.result.particles c.above-high.result.members
+counted c = record { particles_are = c.above-high.ensures.0; members_are = c.above-high.ensures.1 }
+
+-- ---- the rest reaches the level
+pub returns-then-high-rest : goal.returns-then-high-rest
+returns-then-high-rest c =
+    (
+      record { reached = omega (arith, c.above-high.ensures.0, c.if-high-rest.true); lowest = c.loop-high.invariant },
+      ap (λ (x : ℕ). c.args.rest - x) c.above-high.ensures.0,
+    )
+
+-- ---- it does not
+module _ (c : goal.After-struct_known-in-loop-high-1) where
+  abbrev up : goal.After-above-high
+  up = c.before
+  abbrev start : goal.Start
+  start = up.before
+  short : start.args.rest < up.above-high.result.particles
+  short = c.if-high-rest.false
+
+level-most : (c : goal.After-rise) → (up c.before).before.loop.level + c.rise.result ≤ 4294967295
+level-most c = turn-most (bound (start c.before)) (counted (up c.before)) (short c.before) c.rise.ensures
+
+pub overflow_cast-left : goal.overflow_cast-left
+overflow_cast-left c = omega (arith, c.if-high-rest.true)
+
+pub overflow_sub-left : goal.overflow_sub-left
+overflow_sub-left c = c.if-high-rest.true
+
+pub overflow_sub-high : goal.overflow_sub-high
+overflow_sub-high c = omega (arith, short c)
+
+pub rise-requires : goal.rise-requires
+rise-requires c = (omega (arith, short c), turn-some (bound (start c)) (counted (up c)) (short c))
+
+pub overflow_cast-level : goal.overflow_cast-level
+overflow_cast-level c = omega (arith, level-most c)
+
+pub overflow_add-level : goal.overflow_add-level
+overflow_add-level c = omega (arith, level-most c)
+
+pub loop-high-smaller : goal.loop-high-smaller
+loop-high-smaller c = turn_fewer (bound (start c.before)) (counted (up c.before)) (short c.before) c.rise.ensures
+
+pub loop-high-preserved : goal.loop-high-preserved
+loop-high-preserved c = inr (turn-lowest (bound (start c.before)) (counted (up c.before)) (short c.before) c.rise.ensures)

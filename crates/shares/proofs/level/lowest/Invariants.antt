@@ -1,0 +1,21 @@
+-- `level::lowest` meets its contract: the rest reaches no level below this one, and each turn leaves fewer members above it. Assumes
+-- nothing.
+use borrow.Author.Rules.{rules}
+use mathlib.Core.Path.{◌≡◌, ap}
+use mathlib.Core.Logic.{◌⊎◌, inr}
+use Prim.Native.Nat.{ℕ, ◌+◌, ◌-◌, ◌≤◌, ◌<◌}
+use native.Mathlib.Omega.{arith}
+use Rattle.shares.specs.Inner.{rooms_now, over}
+use Rattle.shares.proofs.Spaces.{rooms-most}
+use Rattle.shares.proofs.Raising.{start-lowest, turns_left, Counted, turn-some, turn-lowest, turn-most, turn_fewer}
+use Rattle.shares.proofs.level.lowest.Given as goal
+
+abbrev pub invariant-loop-high : goal.invariant-loop-high
+invariant-loop-high l =
+    let rooms = rooms_now l.limit l.helpands l.reserves l.n l.own l.noted in
+    (l.level ≡ 0) ⊎ (l.rest < over l.nodes rooms (l.level - 1))
+
+-- there are no more turns than members
+abbrev pub decreases-loop-high : goal.decreases-loop-high
+decreases-loop-high l =
+    turns_left l.nodes (rooms_now l.limit l.helpands l.reserves l.n l.own l.noted) l.rest l.level

@@ -1,0 +1,66 @@
+use borrow.Author.Rules.{rules}
+use mathlib.Core.Path.{◌≡◌, refl, ap, ◌∙◌}
+use mathlib.Core.List.{List}
+use Prim.Native.Nat.{ℕ, ◌+◌, ◌≤◌, ◌<◌, ◌-◌}
+use native.Mathlib.Omega.{arith}
+use lib.ListN.{length, length-set}
+use Rattle.fold.proofs.Sums.{sum_more}
+use Rattle.arrays.specs.Arrays.{at}
+use Rattle.sheet.specs.Table.{held}
+use Rattle.sheet.specs.Totals.{total_of}
+use Rattle.sheet.proofs.Totalled.{total-le}
+use Rattle.arrays.proofs.Tabulate.{tabulate-at, tabulate-behind, tabulate-is, stored-below, stored-behind, length-tabulate}
+use Rattle.sheet.proofs.totals.add_row.Goals as goal
+
+-- the holder's count goes to what is there
+more : (c : goal.After-totals-in-loop-n-1) →
+    let a = c.args in
+    let n = c.loop-n.n in
+    at c.loop-n.totals-1 n + held a.table.now a.holder n ≡ total_of (a.holder + 1) a.table.now n
+more c =
+    let a = c.args in
+    let n = c.loop-n.n in
+    omega (
+      arith,
+      c.loop-n.invariant.3 n (omega arith),
+      ap (λ (xs : List ℕ). at xs n) c.requires.3,
+      tabulate-at a.nodes (total_of a.holder a.table.now) n (omega arith),
+      sum_more a.holder (λ k. held a.table.now k n),
+    )
+
+-- and stays within 32 bits
+pub overflow_add-totals-in-loop-n : goal.overflow_add-totals-in-loop-n
+overflow_add-totals-in-loop-n c =
+    let a = c.args in
+    omega (arith, more c, total-le a.table.now (a.holder + 1) c.loop-n.n (omega arith) (omega arith))
+
+pub loop-n-init : goal.loop-n-init
+loop-n-init c = (
+  omega arith,
+  ap length c.requires.3 ∙ length-tabulate c.args.nodes _ (omega arith),
+  (λ k b. absurd (omega arith)),
+  (λ k b. refl),
+)
+
+pub loop-n-preserved : goal.loop-n-preserved
+loop-n-preserved c =
+    let a = c.args in
+    let out = c.loop-n.totals-1 in
+    let n = c.loop-n.n in
+    let v = at out n + held a.table.now a.holder n in (
+      omega arith,
+      simp length-set c.loop-n.invariant.1,
+      stored-below out n v (total_of (a.holder + 1) a.table.now) (omega arith) (more c) c.loop-n.invariant.2,
+      stored-behind out n v (at a.totals-1.now) c.loop-n.invariant.3,
+    )
+
+pub returns : goal.returns
+returns c =
+    let a = c.args in
+    let e : c.loop-n.n ≡ a.nodes = omega arith in
+    tabulate-is a.nodes (total_of (a.holder + 1) a.table.now) (omega arith) c.loop-n.totals-1 c.loop-n.invariant.1
+    (rw e at c.loop-n.invariant.2)
+    (λ k b.
+    c.loop-n.invariant.3 k (omega arith)
+    ∙ ap (λ (xs : List ℕ). at xs k) c.requires.3
+    ∙ tabulate-behind a.nodes (total_of a.holder a.table.now) k b)

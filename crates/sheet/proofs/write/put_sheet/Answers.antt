@@ -1,0 +1,80 @@
+use borrow.Author.Rules.{rules}
+use mathlib.Core.Path.{◌≡◌, refl, sym, ap, ◌∙◌}
+use mathlib.Core.Logic.{⊎_elim}
+use mathlib.Core.List.{List, [], ◌∷◌}
+use Prim.Native.Nat.{ℕ, ◌+◌, ◌*◌, ◌-◌, ◌≤◌, ◌<◌}
+use native.Mathlib.Omega.{arith}
+use lib.ListN.{length, get_or, length-append, length-set, length-map}
+use lib.Seq.{sets}
+use Rattle.fold.specs.Collect.{collect}
+use Rattle.words.specs.Words.{encode, put_word}
+use Rattle.words.proofs.Buffer.{record_placed}
+use Rattle.sheet.specs.Write.{filled, sheet_bytes}
+use Rattle.sheet.proofs.Filled.{counts, cell_more, cells_skip, cells-one, store_one}
+use Rattle.sheet.proofs.write.put_sheet.Goals.{else-count-ne0, then-count-ne0}
+use Rattle.sheet.proofs.write.put_sheet.Goals as goal
+
+pub loop-c-init : goal.loop-c-init
+unfolding collect encode
+loop-c-init c = (omega arith, omega arith, refl, refl, refl)
+
+abbrev begun : goal.At-loop-c → goal.Start
+begun l =
+    l.before
+
+-- there is room for one more entry
+room : (c : goal.Then-count-ne0) →
+    let l = c.before in
+    l.loop-c.i < (begun l).args.e
+room c =
+    let l = c.before in
+    let start = begun l in
+    omega (
+      arith,
+      cell_more start.args.table.now start.args.n l.loop-c.c c.loop-c-test.true c.if-count-ne0.true,
+      start.pre.1,
+    )
+
+pub loop-c-preserved : goal.loop-c-preserved
+loop-c-preserved c =
+    let l = c.before in
+    let a = (begun l).args in
+    let k = l.loop-c.c in
+    let table = a.table.now in
+    elim c.if-count-ne0.branch [
+      | then-count-ne0 w ↦ let new = w.5 ∙ w.2.ensures in
+    let one : length (collect (k + 1) (filled table)) ≡ length (collect k (filled table)) + 1 =
+    rw (cells-one table k w.if-count-ne0.true) (length-append (collect k (filled table)) (k ∷ [])) in (
+      omega arith,
+      omega arith,
+      omega arith,
+      new ∙ ap (λ (o : List ℕ). put_word (put_word o (4 * (3 + l.loop-c.i)) k) (4 * (3 + a.e + l.loop-c.i)) (get_or table k 0))
+          l.loop-c.invariant.3
+          ∙ store_one l.put_head.new.0 table a.e l.loop-c.i k w.if-count-ne0.true l.loop-c.invariant.2
+          (room (record { before = c.before; if1 = w.if-count-ne0 })),
+      ap length new ∙ simp length-set l.loop-c.invariant.4,
+    )
+      | else-count-ne0 w ↦ (
+      omega arith,
+      omega arith,
+      w.2 ∙ l.loop-c.invariant.2 ∙ sym (ap length (cells_skip table k w.if-count-ne0.false)),
+      w.1 ∙ l.loop-c.invariant.3 ∙ rw (cells_skip table k w.if-count-ne0.false),
+      ap length w.1 ∙ l.loop-c.invariant.4,
+    )
+    ]
+
+pub returns : goal.returns
+unfolding sheet_bytes
+returns c =
+    let a = c.args in
+    let table = a.table.now in
+    let xs = collect (64 * a.n) (filled table) in
+    let k : c.loop-c.c ≡ 64 * a.n = omega arith in
+    let m : length (counts table (64 * a.n)) ≡ length xs = length-map xs (λ c. get_or table c 0) in
+    rw k at c.loop-c.invariant.3
+    ∙ rw (c.put_head.ensures, c.requires.1)
+    (record_placed a.out-1.now (a.n ∷ a.t ∷ length xs ∷ []) xs (counts table (64 * a.n)) 12 (4 * (3 + length xs)) refl (omega arith)
+    (omega (arith, c.requires.1, c.requires.2)))
+
+pub put_entry-requires : goal.put_entry-requires
+put_entry-requires c = omega (arith, room c.before)

@@ -1,0 +1,16 @@
+-- `tally::answer` meets its contract, case by case. Assumes nothing.
+use borrow.Author.Rules.{rules}
+use mathlib.Core.Path.{sym, ap, ◌∙◌}
+use Prim.Native.Nat.{ℕ}
+use Rattle.weigh.specs.Weigh.{refused}
+use Rattle.weigh.proofs.Answers.{bool-number}
+use Rattle.tally.specs.Tally.{answer_of}
+use Rattle.tally.proofs.answer.Goals as goal
+
+pub returns-in-Holding : goal.returns-in-Holding
+returns-in-Holding c =
+    let t = c.t-1.given in
+    ap (λ (x : ℕ). record { refusal = 0; holds = x }) (bool-number t.0.0) ∙ sym (ap answer_of t.1)
+
+pub returns-in-Refused : goal.returns-in-Refused
+returns-in-Refused c = ap refused c.number.ensures ∙ sym (ap answer_of c.t-in-Refused-1.given.1)

@@ -1,0 +1,7 @@
+-- `tally::exceeds` meets its contract: the sum does not wrap in 64 bits. Assumes nothing.
+use borrow.Author.Rules.{rules}
+use mathlib.Core.Path.{refl}
+use Rattle.tally.proofs.exceeds.Goals as goal
+
+pub returns : goal.returns
+returns c = refl

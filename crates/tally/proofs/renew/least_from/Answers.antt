@@ -1,0 +1,38 @@
+use borrow.Author.Rules.{rules}
+use mathlib.Core.Path.{◌≡◌, refl, ap, ◌∙◌}
+use Prim.Native.Nat.{ℕ, ◌+◌, ◌-◌}
+use native.Mathlib.Omega.{arith}
+use Rattle.fold.specs.First.{FirstFrom}
+use Rattle.arrays.specs.Arrays.{at}
+use Rattle.tree.specs.Family.{helps}
+use Rattle.tree.proofs.Linking.{link_first, link_next, Left, left-first, left-next, left-all}
+use Rattle.tally.specs.Layout.{total_at, least_at}
+use Rattle.tally.proofs.renew.least_from.Goals as goal
+
+-- a turn begins
+module _ (c : goal.In-loop-k) where
+  abbrev start : goal.Start
+  start = c.before
+  abbrev k : ℕ
+  k = c.loop-k.k
+  onward : {to : ℕ} →
+      let a = start.args in
+      to ≡ at a.links.now (64 + k) → FirstFrom a.nodes (helps (at a.helpands.now) a.n) (k + 1) to
+  onward e =
+      link_next start.pre.0.linked start.args.n c.loop-k-test.true (c.loop-k.invariant.helper c.loop-k-test.true) e
+
+-- what helper k spares is taken
+pub loop-k-preserved : goal.loop-k-preserved
+loop-k-preserved c =
+    let i = c.before in
+    left-next i.loop-k.invariant i.loop-k-test.true
+    (c.saturating_sub-left.ensures ∙ ap (λ (x : ℕ). i.loop-k.left-1 - x) c.saturating_sub.ensures) (onward i c.next-k.ensures)
+
+pub loop-k-init : goal.loop-k-init
+loop-k-init c = left-first refl (link_first c.requires.0.linked _ c.requires.1 c.first-k.ensures)
+
+pub loop-k-smaller : goal.loop-k-smaller
+loop-k-smaller c = omega (arith, (onward c.before c.next-k.ensures).from_le)
+
+pub returns : goal.returns
+returns c = (left-all c.loop-k.invariant c.loop-k-test.false).1

@@ -1,0 +1,8 @@
+-- `text::lines::put_refused` meets its contract: its one field is the line. Assumes nothing.
+use borrow.Author.Rules.{rules}
+use Rattle.text.specs.Text.{refused_text}
+use Rattle.text.proofs.lines.put_refused.Goals as goal
+
+pub returns : goal.returns
+unfolding refused_text
+returns c = c.put_field.ensures

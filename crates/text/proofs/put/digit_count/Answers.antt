@@ -1,0 +1,27 @@
+use mathlib.Core.Path.{◌≡◌, ap}
+use Prim.Native.Nat.{◌+◌, ◌^◌, ◌<◌}
+use native.Mathlib.Omega.{arith}
+use lib.ListN.{length}
+use Rattle.text.specs.Text.{decimal}
+use Rattle.text.proofs.Digits.{decimal-one, length_more}
+use Rattle.text.proofs.Lengths.{decimal-le}
+use Rattle.text.proofs.put.digit_count.Goals as goal
+
+pub loop-rest-init : goal.loop-rest-init
+loop-rest-init c = (omega arith, c.ranges.x.fits)
+
+pub overflow_add-k : goal.overflow_add-k
+overflow_add-k c =
+    omega (arith, c.loop-rest.invariant.0, decimal-le c.args.x)
+
+pub loop-rest-preserved : goal.loop-rest-preserved
+loop-rest-preserved c =
+    let i = c.loop-rest.invariant in
+    (omega (arith, i.0, length_more c.loop-rest.rest (omega arith) i.1), omega (arith, i.1))
+
+pub returns : goal.returns
+returns c =
+    omega (arith, c.loop-rest.invariant.0, ap length (decimal-one c.loop-rest.rest (omega arith)))
+
+pub loop-rest-smaller : goal.loop-rest-smaller
+loop-rest-smaller c = omega arith

@@ -1,0 +1,62 @@
+use borrow.Author.Rules.{rules}
+use mathlib.Core.Path.{◌≡◌}
+use Prim.Native.Nat.{◌+◌, ◌-◌, ◌≤◌}
+use native.Mathlib.Omega.{arith}
+use lib.ListN.{length}
+use Rattle.text.proofs.Columns.{Filling, decimal-some, aligned_right, filling_none, filling_length, filling_more, filling_all}
+use Rattle.text.proofs.Writing.{put_then}
+use Rattle.text.proofs.put.put_right.Goals as goal
+
+-- there is a last column
+some : (c : goal.After-slice_known-1) → 1 ≤ c.args.width
+some c = omega (arith, c.requires.0, decimal-some c.args.x c.ranges.x.fits)
+
+pub loop-i-init : goal.loop-i-init
+loop-i-init c =
+    let a = c.args in
+    filling_none a.out-1.now a.at (a.width - 1) a.x
+
+pub loop-i-preserved : goal.loop-i-preserved
+loop-i-preserved c =
+    let a = c.args in
+    rw c.column.ensures
+    (filling_more a.out-1.now a.at (a.width - 1) a.x c.loop-i.invariant c.loop-i-test.true)
+
+-- the buffer stays as long as it was
+size : (l : goal.At-loop-i) → length l.loop-i.out-1 ≡ length l.args.out.now
+size l =
+    let a = l.args in
+    filling_length a.out-1.now a.at (a.width - 1) a.x l.loop-i.invariant
+
+-- the columns up to the last lie in the buffer
+inside : (l : goal.At-loop-i) →
+    let a = l.args in
+    (1 ≤ a.width) × (a.at + a.width ≤ length l.loop-i.out-1) × (l.loop-i.i ≤ a.width - 1)
+inside l = (some l.before, omega (arith, size l, l.requires.1), l.loop-i.invariant.i_le)
+
+pub shape_of-out : goal.shape_of-out
+shape_of-out c =
+    let l = c.before in
+    let e : length l.loop-i.out-1 ≡ length l.args.out.now = size l in
+    search rules
+
+pub returns : goal.returns
+returns c =
+    let a = c.args in
+    let before = filling_all a.out-1.now a.at (a.width - 1) a.x c.loop-i.invariant (omega (arith, c.loop-i-test.false)) in
+    rw (aligned_right a.width a.x c.ranges.x.fits c.requires.0) (put_then before c.put_byte.ensures)
+
+pub overflow_sub-last : goal.overflow_sub-last
+overflow_sub-last c = omega (arith, some c)
+
+pub overflow_add-out : goal.overflow_add-out
+overflow_add-out c = omega (arith, (inside c.before).0, (inside c.before).1, (inside c.before).2)
+
+pub bounds-out-at : goal.bounds-out-at
+bounds-out-at c = omega (arith, (inside c.before).0, (inside c.before).1, (inside c.before).2)
+
+pub overflow_add-at : goal.overflow_add-at
+overflow_add-at c = omega (arith, (inside c.before).0, (inside c.before).1)
+
+pub put_byte-requires : goal.put_byte-requires
+put_byte-requires c = omega (arith, (inside c.before).0, (inside c.before).1)

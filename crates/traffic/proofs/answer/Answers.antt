@@ -1,0 +1,12 @@
+-- `traffic::answer` meets its contract, case by case. Assumes nothing.
+use borrow.Author.Rules.{rules}
+use mathlib.Core.Path.{sym, ap, ◌∙◌}
+use Rattle.words.specs.Answer.{refused}
+use Rattle.traffic.specs.Page.{answer_of}
+use Rattle.traffic.proofs.answer.Goals as goal
+
+pub returns-in-Printed : goal.returns-in-Printed
+returns-in-Printed c = sym (ap answer_of c.p-1.given.1)
+
+pub returns-in-Refused : goal.returns-in-Refused
+returns-in-Refused c = ap refused c.number.ensures ∙ sym (ap answer_of c.p-in-Refused-1.given.1)

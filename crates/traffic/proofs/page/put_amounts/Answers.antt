@@ -1,0 +1,68 @@
+-- `traffic::page::put_amounts` meets its contract: its five parts stand one behind the other. Assumes nothing.
+use borrow.Author.Rules.{rules}
+use mathlib.Core.Path.{◌≡◌}
+use Prim.Native.Nat.{◌+◌}
+use native.Mathlib.Omega.{arith}
+use Rattle.text.specs.Text.{decimal}
+use Rattle.text.proofs.Lengths.{decimal-le}
+use Rattle.text.proofs.Columns.{length_aligned}
+use Rattle.text.proofs.Writing.{put_then}
+use Rattle.traffic.specs.Inner.{amounts}
+use Rattle.traffic.proofs.page.put_amounts.Goals as goal
+
+-- after each part: the index behind it, as far from where the line's numbers begin
+module _ (c : goal.After-put_byte-a) where
+  abbrev start : goal.Start
+  start = c.before
+  at_1 : c.put_byte-a.result ≡ start.args.at + 1
+  at_1 = c.put_byte-a.ensures.index
+
+module _ (c : goal.After-put_right-b) where
+  abbrev one : goal.After-put_byte-a
+  one = c.before
+  at_11 : c.put_right-b.result ≡ (start one).args.at + 11
+  at_11 =
+      let x = (start one).args.sent in
+      omega (arith, c.put_right-b.ensures.index, at_1 one, length_aligned 10 (decimal x) (decimal-le x))
+
+module _ (c : goal.After-put_byte-c) where
+  abbrev two : goal.After-put_right-b
+  two = c.before
+  at_12 : c.put_byte-c.result ≡ (start (one two)).args.at + 12
+  at_12 = omega (arith, c.put_byte-c.ensures.index, at_11 two)
+
+module _ (c : goal.After-put_right-d) where
+  abbrev three : goal.After-put_byte-c
+  three = c.before
+  at_22 : c.put_right-d.result ≡ (start (one (two three))).args.at + 22
+  at_22 =
+      let x = (start (one (two three))).args.received in
+      omega (arith, c.put_right-d.ensures.index, at_12 three, length_aligned 10 (decimal x) (decimal-le x))
+
+pub put_right-b-requires : goal.put_right-b-requires
+put_right-b-requires c =
+    let b = c.before in
+    (decimal-le (start b).args.sent, omega (arith, at_1 b, (start b).requires))
+
+pub put_byte-c-requires : goal.put_byte-c-requires
+put_byte-c-requires c =
+    let b = c.before in
+    omega (arith, at_11 b, (start (one b)).pre)
+
+pub put_right-d-requires : goal.put_right-d-requires
+put_right-d-requires c =
+    let b = c.before in
+    (decimal-le (start (one (two b))).args.received, omega (arith, at_12 b, (start (one (two b))).pre))
+
+pub put_byte-requires : goal.put_byte-requires
+put_byte-requires c =
+    let b = c.before in
+    omega (arith, at_22 b, (start (one (two (three b)))).pre)
+
+pub returns : goal.returns
+unfolding amounts
+returns c =
+    let d = c.before in
+    put_then (one (two (three d))).put_byte.ensures
+    (put_then (two (three d)).put_right.ensures
+    (put_then (three d).put-byte2.ensures (put_then d.put_right-d.ensures c.put_byte.ensures)))

@@ -1,0 +1,12 @@
+-- `traffic::page::put_last` meets its contract: `==`, and what stands behind it. Assumes nothing.
+use borrow.Author.Rules.{rules}
+use Rattle.text.specs.Text.{ascii}
+use Rattle.text.proofs.Writing.{put_then}
+use Rattle.traffic.proofs.Lines.{line-is}
+use Rattle.traffic.proofs.page.put_last.Goals as goal
+
+pub returns : goal.returns
+returns c =
+    let v = c.args in
+    rw (line-is (ascii "==") v.sent v.received)
+    (put_then (put_then c.put_byte-a.ensures c.put_byte-b.ensures) c.put_amounts.ensures)

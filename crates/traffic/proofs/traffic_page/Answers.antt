@@ -1,0 +1,17 @@
+-- `traffic::traffic_page` meets its contract: the refusal of both records, or what the page of both gives. Assumes nothing.
+use borrow.Author.Rules.{rules}
+use Rattle.carry.proofs.Checks.{pair-refused, pair-accepted}
+use Rattle.traffic.proofs.Printed.{ends_refused}
+use Rattle.traffic.proofs.traffic_page.Goals as goal
+
+pub returns-in-Refused : goal.returns-in-Refused
+returns-in-Refused c =
+    let r = c.r-1.given in
+    ends_refused _ _ _ r.0.0 (pair-refused _ _ c.read_pair.ensures r.1)
+
+pub page_read-requires : goal.page_read-requires
+page_read-requires c =
+    pair-accepted _ _ c.read_pair.ensures c.s-1.given.1
+
+pub returns-in-Accepted : goal.returns-in-Accepted
+returns-in-Accepted c = c.page_read.ensures

@@ -1,0 +1,86 @@
+use borrow.Author.Rules.{rules}
+use mathlib.Core.Path.{◌≡◌, refl, sym, ◌∙◌}
+use mathlib.Core.List.{List}
+use Prim.Native.Nat.{ℕ, ◌+◌, ◌-◌, ◌≤◌, ◌<◌}
+use native.Mathlib.Omega.{arith}
+use lib.ListN.{length, set, length-set}
+use Rattle.limit.specs.Limit.{max_total, table_size}
+use Rattle.arrays.specs.Arrays.{at}
+use Rattle.moves.specs.Moves.{routes_of, counts_of}
+use Rattle.transfer.specs.Apply.{into_cell, receives}
+use Rattle.transfer.specs.Inner.{Room}
+use Rattle.transfer.proofs.Applied.{into-below, Entry, entry_read, moved_from, moved-from-none, moved-from_more, moved-from-here, each-is, plus-at}
+use Rattle.transfer.proofs.apply.add_receipts.Invariants.{Adding}
+use Rattle.transfer.proofs.apply.add_receipts.Goals as goal
+
+-- ---- a turn: the move of the route and the count that were read
+module _ (old moves : List ℕ) (e : ℕ) (table : List ℕ) (i : ℕ) (s : Adding old moves e table i) (h : i < e) (route count : ℕ)
+    (entry : Entry moves e i route count) where
+  abbrev cell : ℕ
+  cell = into_cell route
+  -- what arrives fits
+  fits : Room old moves e → (into : ℕ) → into ≡ cell → at table into + count ≤ max_total
+  fits room into is =
+      rw is
+      (omega (arith, room cell (into-below route entry.below), s.added cell, moved-from-here into_cell moves e i route count entry))
+  -- what holds at the loop's head holds again
+  after : Adding old moves e (set table cell (at table cell + count)) (i + 1)
+  after =
+      let b : cell < length table = omega (arith, s.size, into-below route entry.below) in
+      record {
+        i_le = omega arith;
+        size = simp length-set s.size;
+        added = λ c. omega (arith, s.added c, moved-from_more into_cell moves e i route count entry c, plus-at table cell count b c);
+      }
+
+-- ---- at the cell that was computed
+module _ (c : goal.After-word_number-received) where
+  abbrev route-read : goal.After-word_number
+  route-read = c.before
+  abbrev turn : goal.In-loop-i
+  turn = route-read.before
+  abbrev start : goal.Start
+  start = turn.before
+  read : let a = start.args in
+      Entry a.moves.now a.e turn.loop-i.i route-read.word_number.result c.word_number-received.result
+  read =
+      entry_read _ _ _ start.pre.0.entries turn.loop-i-test.true _ _ route-read.word_number.ensures c.word_number-received.ensures
+  into-lt : c.into_cell-into.result < table_size
+  into-lt = omega (arith, c.into_cell-into.ensures, read.below)
+  fits-here : at turn.loop-i.table-1 c.into_cell-into.result + c.word_number-received.result ≤ max_total
+  fits-here =
+      let a = start.args in
+      let l = turn.loop-i in
+      fits a.table-1.now a.moves.now a.e l.table-1 l.i l.inv turn.loop-i-test.true _ _ read start.pre.1
+      c.into_cell-into.result c.into_cell-into.ensures
+
+pub loop-i-init : goal.loop-i-init
+loop-i-init c = record { i_le = omega arith; size = c.requires.0.size; added = λ j. refl }
+
+pub loop-i-preserved : goal.loop-i-preserved
+loop-i-preserved c =
+    let k = c.before in
+    let a = (start k).args in
+    let l = (turn k).before.loop in
+    rw k.into_cell-into.ensures
+    (after a.table-1.now a.moves.now a.e l.table-1 l.i l.inv (turn k).loop-test.true _ _ (read k))
+
+pub returns : goal.returns
+returns c =
+    let l = c.loop-i in
+    let m = c.args.moves.now in
+    let e = c.args.e in
+    each-is (λ j x. x + receives (routes_of m e) (counts_of m e) j) c.args.table.now l.table-1 (l.invariant.size ∙ sym c.requires.0.size)
+    (λ j b. omega (arith, l.invariant.added j, moved-from-none into_cell m e l.i c.loop-i-test.false j))
+
+pub offset_bounds-table-into : goal.offset_bounds-table-into
+offset_bounds-table-into c = omega (arith, into-lt c)
+
+pub bounds-table-into : goal.bounds-table-into
+bounds-table-into c = into-lt c
+
+pub overflow_add-table : goal.overflow_add-table
+overflow_add-table c = omega (arith, fits-here c.before)
+
+pub bounds-table-into-in-loop-i : goal.bounds-table-into-in-loop-i
+bounds-table-into-in-loop-i c = into-lt c.before

@@ -1,0 +1,107 @@
+use borrow.Author.Rules.{rules}
+use mathlib.Core.Path.{◌≡◌, refl, sym, ◌∙◌}
+use mathlib.Core.Bool.{true, false, true≢false}
+use mathlib.Core.List.{List}
+use Prim.Native.Nat.{ℕ, ◌+◌, ◌-◌, ◌≤◌, ◌<◌}
+use native.Mathlib.Omega.{arith}
+use lib.ListN.{length, set, length-set}
+use Rattle.limit.specs.Limit.{table_size}
+use Rattle.arrays.specs.Arrays.{at}
+use Rattle.moves.specs.Moves.{routes_of, counts_of}
+use Rattle.transfer.specs.Apply.{from_cell, sends, sends_within, less_sends}
+use Rattle.transfer.proofs.Applied.{from-below, Entry, entry_read, moved_from, moved-from-none, moved-from_more, moved-from-here, each-is, within_of, within-false, less-at}
+use Rattle.transfer.proofs.apply.subtract_sends.Invariants.{Subtracting}
+use Rattle.transfer.proofs.apply.subtract_sends.Goals as goal
+
+-- ---- a turn: the move of the route and the count that were read
+module _ (old moves : List ℕ) (e : ℕ) (table : List ℕ) (i : ℕ) (s : Subtracting old moves e table i) (h : i < e) (route count : ℕ)
+    (entry : Entry moves e i route count) where
+  abbrev cell : ℕ
+  cell = from_cell route
+  -- the cell has less left than it sends, and so it had less than it sends in all
+  fails : length old ≡ table_size → at table cell < count → sends_within old (routes_of moves e) (counts_of moves e) ≡ false
+  fails same l =
+      within-false old (routes_of moves e) (counts_of moves e) cell (omega (arith, from-below route entry.below))
+      (omega (arith, s.left cell, moved-from-here from_cell moves e i route count entry))
+  -- what holds at the loop's head holds again
+  after : count ≤ at table cell → Subtracting old moves e (set table cell (at table cell - count)) (i + 1)
+  after l =
+      let b : cell < length table = omega (arith, s.size, from-below route entry.below) in
+      record {
+        i_le = omega arith;
+        size = simp length-set s.size;
+        left = λ c. omega (arith, s.left c, moved-from_more from_cell moves e i route count entry c, less-at table cell count b c l);
+      }
+
+-- ---- no move is left
+module _ (old moves : List ℕ) (e : ℕ) (table : List ℕ) (i : ℕ) (s : Subtracting old moves e table i) (h : e ≤ i)
+    (same : length old ≡ table_size) where
+  left-all : (c : ℕ) → at table c + sends (routes_of moves e) (counts_of moves e) c ≡ at old c
+  left-all c = omega (arith, s.left c, moved-from-none from_cell moves e i h c)
+  passes : sends_within old (routes_of moves e) (counts_of moves e) ≡ true
+  passes = within_of old (routes_of moves e) (counts_of moves e) (λ c l. omega (arith, left-all c))
+  left_is : table ≡ less_sends old (routes_of moves e) (counts_of moves e)
+  left_is =
+      each-is (λ c x. x - sends (routes_of moves e) (counts_of moves e) c) old table (s.size ∙ sym same) (λ c l. omega (arith, left-all c))
+
+-- ---- at the cell that was computed
+module _ (c : goal.After-word_number-sent) where
+  abbrev route-read : goal.After-word_number
+  route-read = c.before
+  abbrev turn : goal.In-loop-i
+  turn = route-read.before
+  abbrev start : goal.Start
+  start = turn.before
+  abbrev from : ℕ
+  from = c.from_cell-from.result
+  read : let a = start.args in
+      Entry a.moves.now a.e turn.loop-i.i route-read.word_number.result c.word_number-sent.result
+  read = entry_read _ _ _ start.pre.entries turn.loop-i-test.true _ _ route-read.word_number.ensures c.word_number-sent.ensures
+  from-lt : from < table_size
+  from-lt = omega (arith, c.from_cell-from.ensures, read.below)
+
+pub loop-i-init : goal.loop-i-init
+loop-i-init c = record { i_le = omega arith; size = c.requires.size; left = λ j. refl }
+
+pub returns-then-table-from : goal.returns-then-table-from
+returns-then-table-from c =
+    let k = c.before in
+    let a = (start k).args in
+    let l = (turn k).before.loop in (
+      sym (fails a.table-1.now a.moves.now a.e l.table-1 l.i l.inv (turn k).loop-test.true _ _ (read k)
+          (start k).requires.size (rw (← k.from_cell-from.ensures) c.if-table-from.true)),
+      λ z. absurd (true≢false (sym z)),
+    )
+
+pub loop-i-preserved : goal.loop-i-preserved
+loop-i-preserved c =
+    let k = c.before in
+    let a = (start k).args in
+    let l = (turn k).before.loop in
+    rw k.from_cell-from.ensures
+    (after a.table-1.now a.moves.now a.e l.table-1 l.i l.inv (turn k).loop-test.true _ _ (read k)
+    (rw (← k.from_cell-from.ensures) c.if-table-from.false))
+
+pub returns-then-table-from : goal.returns
+returns c =
+    let l = c.loop-i in
+    let a = c.args in
+    let h = c.loop-i-test.false in (
+      sym (passes a.table-1.now a.moves.now a.e l.table-1 l.i l.invariant h c.requires.size),
+      λ z. left_is a.table-1.now a.moves.now a.e l.table-1 l.i l.invariant h c.requires.size,
+    )
+
+pub offset_bounds-table-from : goal.offset_bounds-table-from
+offset_bounds-table-from c = omega (arith, from-lt c)
+
+pub bounds-table-from : goal.bounds-table-from
+bounds-table-from c = from-lt c
+
+pub offset_bounds-table-from-in-loop-i : goal.offset_bounds-table-from-in-loop-i
+offset_bounds-table-from-in-loop-i c = omega (arith, from-lt c.before)
+
+pub bounds-table-from-in-loop-i : goal.bounds-table-from-in-loop-i
+bounds-table-from-in-loop-i c = from-lt c.before
+
+pub bounds-table-from-in-loop-i-2 : goal.bounds-table-from-in-loop-i-2
+bounds-table-from-in-loop-i-2 c = from-lt c.before

@@ -1,0 +1,18 @@
+-- `transfer::due::due_amounts` meets its contract: after k turns the array holds the due amounts of the first k nodes. Assumes
+-- nothing.
+use borrow.Author.Rules.{rules}
+use mathlib.Core.Path.{◌≡◌, refl, sym}
+use Prim.Native.Nat.{ℕ, ◌-◌, ◌≤◌}
+use native.Mathlib.Omega.{arith}
+use lib.ListN.{length, length-set}
+use Rattle.arrays.specs.Arrays.{at, tabulate}
+use Rattle.transfer.specs.Due.{due_with}
+use Rattle.arrays.proofs.Tabulate.{tabulate-none, tabulate_more}
+use Rattle.transfer.proofs.due.due_amounts.Given as goal
+
+abbrev pub invariant-loop-k : goal.invariant-loop-k
+invariant-loop-k l =
+    (l.k ≤ l.nodes) × (length l.due ≡ 64) × (l.due ≡ tabulate l.k (due_with (at l.helpands) (at l.shares) l.own l.n))
+
+abbrev pub decreases-loop-k : goal.decreases-loop-k
+decreases-loop-k l = l.nodes - l.k

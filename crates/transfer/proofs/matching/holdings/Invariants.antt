@@ -1,0 +1,21 @@
+-- `transfer::matching::holdings` meets its contract: after k turns the array holds what the first k nodes hold. Assumes nothing.
+use borrow.Author.Rules.{rules}
+use mathlib.Core.Path.{◌≡◌, refl, sym}
+use mathlib.Core.List.{List}
+use Prim.Native.Nat.{ℕ, ◌-◌, ◌≤◌}
+use native.Mathlib.Omega.{arith}
+use lib.ListN.{length, length-set}
+use Rattle.sheet.specs.Table.{held}
+use Rattle.arrays.specs.Arrays.{tabulate}
+use Rattle.arrays.proofs.Tabulate.{tabulate-none, tabulate-next}
+use Rattle.transfer.proofs.matching.holdings.Given as goal
+
+-- what node k holds of subdomain n
+abbrev pub holds : List ℕ → ℕ → ℕ → ℕ
+holds table n k = held table k n
+
+abbrev pub invariant-loop-k : goal.invariant-loop-k
+invariant-loop-k l = (l.k ≤ l.nodes) × (length l.holding ≡ 64) × (l.holding ≡ tabulate l.k (holds l.table l.n))
+
+abbrev pub decreases-loop-k : goal.decreases-loop-k
+decreases-loop-k l = l.nodes - l.k

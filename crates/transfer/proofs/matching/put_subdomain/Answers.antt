@@ -1,0 +1,134 @@
+use borrow.Author.Rules.{rules}
+use mathlib.Core.Path.{◌≡◌}
+use mathlib.Core.Logic.{inl, inr}
+use mathlib.Core.List.{List}
+use Prim.Native.Nat.{ℕ, ◌+◌, ◌-◌, ◌*◌, ◌≤◌, ◌<◌}
+use native.Mathlib.Omega.{arith}
+use borrow.Author.Tests.{ltb-true, ltb-false}
+use lib.ListN.{length}
+use Rattle.arrays.specs.Arrays.{at}
+use Rattle.transfer.specs.Matching.{Move, surplus_of, shortage_of, move_of, moves_between}
+use Rattle.transfer.specs.Inner.{NextFrom}
+use Rattle.transfer.proofs.Entries.{Pending, begin, finish, room, sender-next, receiver-next}
+use Rattle.transfer.proofs.Next.{next-eq}
+use Rattle.transfer.proofs.Matched.{moves-few}
+use Rattle.transfer.proofs.matching.put_subdomain.Invariants.{whole, lacks, above}
+use Rattle.transfer.proofs.matching.put_subdomain.Goals as goal
+
+-- both are what the one amount is above the other
+sender : {nodes : ℕ} (holding due : List ℕ) {from node count : ℕ} → NextFrom nodes (λ k. at holding k - at due k) from node count
+    → NextFrom nodes (above holding due) from node count
+sender holding due x = next-eq (above holding due) (λ k. omega arith) x
+
+receiver : {nodes : ℕ} (holding due : List ℕ) {from node count : ℕ} → NextFrom nodes (λ k. at due k - at holding k) from node count
+    → NextFrom nodes (lacks holding due) from node count
+receiver holding due x = next-eq (lacks holding due) (λ k. omega arith) x
+
+-- ---- what is known once the pair's move is computed
+within : (p e w few long long₀ : ℕ) → p ≤ e + w → w ≤ few → e + few ≤ long₀ → long ≡ long₀ → p ≤ long
+within p e w few long long₀ a b c d = omega arith
+
+module _ (c : goal.After-min-count) where
+  abbrev head : goal.At-loop-s
+  head = c.before
+  abbrev start : goal.Start
+  start = head.before
+  abbrev surplus : ℕ → ℕ
+  surplus = let a = start.args in above a.holding.now a.due.now
+  abbrev shortage : ℕ → ℕ
+  shortage = let a = start.args in lacks a.holding.now a.due.now
+  abbrev all : List Move
+  all = let a = start.args in whole a.nodes a.holding.now a.due.now
+  -- both are nodes
+  sender-lt : head.loop-s.s.node < start.args.nodes
+  sender-lt = c.loop-s-test.true
+  receiver-lt : head.loop-s.r.node < start.args.nodes
+  receiver-lt = ltb-true head.loop-s.r.node start.args.nodes c.if-r-nodes.true
+  has_room : let k = head.loop-s.entries + length (move_of head.loop-s.s.node head.loop-s.r.node c.min-count.result) in
+      (k ≤ length head.loop-s.routes-1) × (k ≤ length head.loop-s.counts-1)
+  has_room =
+      let l = head.loop-s in
+      let a = start.args in
+      let p = start.pre in
+      let k = l.entries + length (move_of l.s.node l.r.node c.min-count.result) in
+      let b : k ≤ a.e + length all =
+      room a.nodes surplus shortage a.n a.routes-1.now a.counts-1.now a.e all l.routes-1 l.counts-1 l.entries
+      l.s.node l.s.count l.r.node l.r.count
+      l.inv sender-lt receiver-lt c.min-count.result c.min-count.ensures in
+      let f : length all ≤ a.nodes - 1 = moves-few a.nodes (at a.holding.now) (at a.due.now) in (
+        within k a.e (length all) (a.nodes - 1) (length l.routes-1) (length a.routes-1.now) b f p.2 l.inv.moves.routes_long,
+        within k a.e (length all) (a.nodes - 1) (length l.counts-1) (length a.counts-1.now) b f p.3 l.inv.moves.counts_long,
+      )
+
+-- from after the turn's move, with its two arrays, back to the move
+abbrev put_before : goal.After-slice_known-in-loop-s-2-1 → goal.After-put_move-entries
+put_before c = c.before
+
+pub put_move-entries-requires : goal.put_move-entries-requires
+put_move-entries-requires c =
+    let q = c.before in
+    (omega arith, omega (arith, sender-lt q), omega (arith, receiver-lt q), (has_room q).0, (has_room q).1)
+
+pub next_above-s-requires-then-s-r : goal.next_above-s-requires-then-s-r
+next_above-s-requires-then-s-r c =
+    let q = (put_before c.before).before.before.before in
+    ((start q).pre.0, omega (arith, sender-lt q, receiver-lt q))
+
+pub next_above-r-requires-else-s-r : goal.next_above-r-requires-else-s-r
+next_above-r-requires-else-s-r c =
+    let q = (put_before c.before).before.before.before in
+    ((start q).pre.0, omega (arith, sender-lt q, receiver-lt q))
+
+-- ---- what holds at the loop's head
+pub loop-s-init : goal.loop-s-init
+loop-s-init c =
+    let a = c.args in
+    begin a.nodes (above a.holding.now a.due.now) (lacks a.holding.now a.due.now) a.n a.routes-1.now
+    a.counts-1.now a.e
+    c.next_above-s.result.node c.next_above-s.result.count c.next_above-r.result.node c.next_above-r.result.count
+    (omega (arith, c.requires.1)) (sender a.holding.now a.due.now c.next_above-s.ensures)
+    (receiver a.holding.now a.due.now c.next_above-r.ensures)
+
+pub loop-s-preserved-then-s-r : goal.loop-s-preserved-then-s-r
+loop-s-preserved-then-s-r c =
+    let p = put_before c.before in
+    let q = p.before in
+    let l = (head q).loop in
+    let a = (start q).args in
+    sender-next a.nodes (surplus q) (shortage q) a.n a.routes-1.now a.counts-1.now a.e (all q) l.routes-1 l.counts-1
+    l.entries l.s.node l.s.count l.r.node l.r.count
+    l.inv (sender-lt q) (receiver-lt q) q.min-count.result q.min-count.ensures
+    p.put_move-entries.last.0 p.put_move-entries.last.1.0 p.put_move-entries.result p.put_move-entries.ensures.0 p.put_move-entries.ensures.1.0
+    p.put_move-entries.ensures.1.1
+    c.if-s-r.true c.next_above-s-then-s-r.result.node c.next_above-s-then-s-r.result.count
+    (sender a.holding.now a.due.now c.next_above-s-then-s-r.ensures)
+
+pub loop-s-preserved : goal.loop-s-preserved
+loop-s-preserved c =
+    let p = put_before c.before in
+    let q = p.before in
+    let l = (head q).loop in
+    let a = (start q).args in
+    receiver-next a.nodes (surplus q) (shortage q) a.n a.routes-1.now a.counts-1.now a.e (all q) l.routes-1 l.counts-1
+    l.entries l.s.node l.s.count l.r.node l.r.count
+    l.inv (sender-lt q) (receiver-lt q) q.min-count.result q.min-count.ensures
+    p.put_move-entries.last.0 p.put_move-entries.last.1.0 p.put_move-entries.result p.put_move-entries.ensures.0 p.put_move-entries.ensures.1.0
+    p.put_move-entries.ensures.1.1
+    c.if-s-r.false c.next_above-r-else-s-r.result.node c.next_above-r-else-s-r.result.count
+    (receiver a.holding.now a.due.now c.next_above-r-else-s-r.ensures)
+
+pub returns-else-r-nodes : goal.returns-else-r-nodes
+returns-else-r-nodes c =
+    let a = c.args in
+    finish a.nodes (above a.holding.now a.due.now) (lacks a.holding.now a.due.now) a.n a.routes-1.now
+    a.counts-1.now a.e (whole a.nodes a.holding.now a.due.now)
+    c.loop-s.routes-1 c.loop-s.counts-1 c.loop-s.entries c.loop-s.s.node c.loop-s.s.count c.loop-s.r.node c.loop-s.r.count
+    c.loop-s.invariant (inr (ltb-false c.loop-s.r.node a.nodes c.if-r-nodes.false))
+
+pub returns-after-loop-s : goal.returns-after-loop-s
+returns-after-loop-s c =
+    let a = c.args in
+    finish a.nodes (above a.holding.now a.due.now) (lacks a.holding.now a.due.now) a.n a.routes-1.now
+    a.counts-1.now a.e (whole a.nodes a.holding.now a.due.now)
+    c.loop-s.routes-1 c.loop-s.counts-1 c.loop-s.entries c.loop-s.s.node c.loop-s.s.count c.loop-s.r.node c.loop-s.r.count
+    c.loop-s.invariant (inl c.loop-s-test.false)

@@ -1,0 +1,15 @@
+-- `weigh::answer` meets its contract, case by case. Assumes nothing.
+use borrow.Author.Rules.{rules}
+use mathlib.Core.Path.{sym, ap, ◌∙◌}
+use Prim.Native.Nat.{ℕ}
+use Rattle.weigh.specs.Weigh.{refused, answer_of}
+use Rattle.weigh.proofs.Answers.{bool-number}
+use Rattle.weigh.proofs.answer.Goals as goal
+
+pub returns-in-Weighed : goal.returns-in-Weighed
+returns-in-Weighed c =
+    let w = c.w-1.given in
+    ap (λ (x : ℕ). record { refusal = 0; holds = x }) (bool-number w.0.0) ∙ sym (ap answer_of w.1)
+
+pub returns-in-Refused : goal.returns-in-Refused
+returns-in-Refused c = ap refused c.number.ensures ∙ sym (ap answer_of c.w-in-Refused-1.given.1)

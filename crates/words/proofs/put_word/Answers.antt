@@ -1,0 +1,14 @@
+-- `words::put_word` meets its contract: its four stores are those of `putWord`. Assumes nothing.
+use borrow.Author.Rules.{rules}
+use native.Mathlib.Omega.{arith}
+use lib.ListN.{length-set}
+use Rattle.words.proofs.put_word.Goals as goal
+
+pub bounds-out-i-2 : goal.bounds-out-i-2
+bounds-out-i-2 c = simp length-set (omega arith)
+
+pub bounds-out-i-3 : goal.bounds-out-i-3
+bounds-out-i-3 c = simp length-set (omega arith)
+
+pub bounds-out-i-4 : goal.bounds-out-i-4
+bounds-out-i-4 c = simp length-set (omega arith)

@@ -1,0 +1,39 @@
+use borrow.Author.Rules.{rules}
+use mathlib.Core.Path.{◌≡◌, refl, ap, ◌∙◌}
+use mathlib.Core.List.{List}
+use Prim.Native.Nat.{ℕ, ◌+◌, ◌*◌, ◌-◌, ◌≤◌, ◌<◌}
+use native.Mathlib.Omega.{arith}
+use lib.ListN.{length, get_or, take, length-set, length-take}
+use lib.Seq.{sets}
+use Rattle.words.specs.Words.{encode, put_word}
+use Rattle.words.proofs.Words.{encode_more}
+use Rattle.words.proofs.Buffer.{put_behind}
+use Rattle.words.proofs.put_words.Goals as goal
+
+pub loop-i-init : goal.loop-i-init
+unfolding encode
+loop-i-init c = (omega arith, refl, refl)
+
+-- one more word
+more : (out ws : List ℕ) (first i : ℕ) → i < length ws
+    → put_word (sets out (4 * first) (encode (take i ws))) (4 * (first + i)) (get_or ws i 0) ≡ sets out (4 * first) (encode (take (i + 1) ws))
+more out ws first i h =
+    let n : 4 * (first + i) ≡ 4 * first + 4 * length (take i ws) = simp length-take (omega arith) in
+    rw (n, encode_more ws i h) (put_behind out (4 * first) (take i ws) (get_or ws i 0))
+
+pub loop-i-preserved : goal.loop-i-preserved
+loop-i-preserved c =
+    let a = c.args in
+    let i = c.loop-i.i in
+    let e = c.put_word.ensures in (
+      omega arith,
+      e ∙ ap (λ (o : List ℕ). put_word o (4 * (a.first + i)) (get_or a.ws.now i 0)) c.loop-i.invariant.1
+          ∙ more a.out-1.now a.ws.now a.first i (omega arith),
+      ap length e ∙ simp length-set c.loop-i.invariant.2,
+    )
+
+pub returns : goal.returns
+returns c =
+    let a = c.args in
+    let e : c.loop-i.i ≡ a.k = omega arith in
+    rw e at c.loop-i.invariant.1
