@@ -14,7 +14,7 @@ use Rattle.groups.proofs.put_entries.Goals as goal
 pub loop-k-init : goal.loop-k-init
 loop-k-init c =
     let a = c.args in
-    (omega arith, entries_none a.nodes (group_in a.nodes (at a.helpands.now)) a.out-1.now, refl)
+    (omega arith, entries_none a.nodes (group_in a.nodes (at a.helpands.now)) a.out.now, refl)
 
 -- ---- a turn: the even entry is stored, then the odd one
 abbrev start : goal.In-loop-k → goal.Start
@@ -28,7 +28,7 @@ loop-k-preserved c =
     let i = c.before in
     let v = i.loop-k.invariant in
     let a = (start i).args in
-    let s = entries-stored a.nodes (group_in a.nodes (at a.helpands.now)) i.loop-k.k a.out-1.now
+    let s = entries-stored a.nodes (group_in a.nodes (at a.helpands.now)) i.loop-k.k a.out.now
     i.loop-k-test.true v.1 v.2
     c.entries_of-entries.ensures.0 c.entries_of-entries.ensures.1 c.put_word.ensures c.put_word-in-loop-k.ensures in
     (omega (arith, i.loop-k-test.true), s.0, s.1)

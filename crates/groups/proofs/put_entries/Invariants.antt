@@ -14,7 +14,7 @@ use Rattle.groups.proofs.put_entries.Given as goal
 
 abbrev pub invariant-loop-k : goal.invariant-loop-k
 invariant-loop-k l =
-    (l.k ≤ l.nodes) × (l.out-1 ≡ with_entries l.nodes (group_in l.nodes (at l.helpands)) l.k l.initial.out-1) × (length l.out-1 ≡ length l.initial.out-1)
+    (l.k ≤ l.nodes) × (l.out ≡ with_entries l.nodes (group_in l.nodes (at l.helpands)) l.k l.initial.out) × (length l.out ≡ length l.initial.out)
 
 abbrev pub decreases-loop-k : goal.decreases-loop-k
 decreases-loop-k l = l.nodes - l.k

@@ -26,7 +26,7 @@ module _ (c : goal.After-firrozka_carry_out-a) where
   size-inside : c.firrozka_carry_out-a.result.bytes ≤ length start.args.between.now
   size-inside =
       let a = start.args in
-      let inside = carry_inside a.sheet.now a.first.now (length a.between-1.now) in
+      let inside = carry_inside a.sheet.now a.first.now (length a.between.now) in
       omega (arith, ap (λ (r : WrittenAnswer). r.bytes) c.firrozka_carry_out-a.ensures.0, inside)
 
 pub firrozka_carry_out-a-requires : goal.firrozka_carry_out-a-requires

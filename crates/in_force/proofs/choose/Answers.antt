@@ -49,7 +49,7 @@ pub same_helpands-requires : goal.same_helpands-requires
 same_helpands-requires c =
     let b = c.before in
     let a = b.before in
-    let x = reading_accepted _ a.a-1.given.0.0 (old-read a) in
+    let x = reading_accepted _ a.a.given.0.0 (old-read a) in
     let y = reading_accepted _ b.b-1.given.0.0 (new-read b) in
     omega (arith, x.size, y.size, c.if-a-b.false)
 

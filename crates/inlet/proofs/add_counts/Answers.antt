@@ -12,7 +12,7 @@ pub loop-i-init : goal.loop-i-init
 loop-i-init c =
     let p = c.requires in
     let a = c.args in
-    (p.0, p.1, begin a.table-1.now a.s.now p.0 a.e p.1)
+    (p.0, p.1, begin a.table.now a.s.now p.0 a.e p.1)
 
 -- all entries are there
 long : (l : goal.At-loop-i) → let a = l.args in 4 * (3 + 2 * a.e) ≤ length a.s.now
@@ -32,13 +32,13 @@ module _ (c : goal.After-word_number) where
   below =
       let a = start.args in
       let v = head.loop-i.inv in
-      index_below a.table-1.now a.s.now v.0 a.e v.1 head.loop-i.table-1 head.loop-i.i v.2 turn.loop-i-test.true
+      index_below a.table.now a.s.now v.0 a.e v.1 head.loop-i.table-1 head.loop-i.i v.2 turn.loop-i-test.true
       _ _ cell-read.word_number-c.ensures c.word_number.ensures
   fits-here : at head.loop-i.table-1 cell-read.word_number-c.result + c.word_number.result ≤ max_total
   fits-here =
       let a = start.args in
       let v = head.loop-i.inv in
-      fits a.table-1.now a.s.now v.0 a.e v.1 head.loop-i.table-1 head.loop-i.i v.2 turn.loop-i-test.true
+      fits a.table.now a.s.now v.0 a.e v.1 head.loop-i.table-1 head.loop-i.i v.2 turn.loop-i-test.true
       _ _ cell-read.word_number-c.ensures c.word_number.ensures
 
 pub loop-i-preserved : goal.loop-i-preserved
@@ -49,7 +49,7 @@ loop-i-preserved c =
     let v = l.inv in (
       v.0,
       v.1,
-      again a.table-1.now a.s.now v.0 a.e v.1 l.table-1 l.i v.2 (turn k).loop-test.true _ _
+      again a.table.now a.s.now v.0 a.e v.1 l.table l.i v.2 (turn k).loop-test.true _ _
           (cell-read k).word_number.ensures k.word_number.ensures,
     )
 
@@ -57,7 +57,7 @@ pub returns : goal.returns
 returns c =
     let l = c.loop-i in
     let a = c.args in
-    end a.table-1.now a.s.now l.invariant.0 a.e l.invariant.1 l.table-1 l.i l.invariant.2 c.loop-i-test.false
+    end a.table.now a.s.now l.invariant.0 a.e l.invariant.1 l.table l.i l.invariant.2 c.loop-i-test.false
 
 pub word_number-c-requires : goal.word_number-c-requires
 word_number-c-requires c = omega (arith, long c.before)

@@ -10,7 +10,7 @@ use Rattle.inlet.proofs.Adding.{Adding, begin, end, index_below, fits, again}
 use Rattle.inlet.proofs.add_counts.Given as goal
 
 abbrev pub invariant-loop-i : goal.invariant-loop-i
-invariant-loop-i l = (n : ℕ) × Addable l.initial.table-1 l.s n l.e × Adding l.initial.table-1 l.s n l.e l.table-1 l.i
+invariant-loop-i l = (n : ℕ) × Addable l.initial.table l.s n l.e × Adding l.initial.table l.s n l.e l.table l.i
 
 abbrev pub decreases-loop-i : goal.decreases-loop-i
 decreases-loop-i l = l.e - l.i

@@ -32,7 +32,7 @@ loop-k-preserved c =
     let k = l.loop-k.k in
     let v = l.loop-k.inv in
     let o = sym c.in_b.ensures in
-    let root = l.root-1.given.0.0 in
+    let root = l.root.given.0.0 in
     let h : k < 64 = omega arith in
     elim c.if-in_b.branch [
       | then-in_b w ↦ (

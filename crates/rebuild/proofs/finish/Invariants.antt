@@ -16,9 +16,9 @@ use Rattle.rebuild.proofs.finish.Given as goal
 abbrev pub invariant-loop-k : goal.invariant-loop-k
 invariant-loop-k l =
     (l.k ≤ l.nodes)
-    × (lowest_in_b l.nodes l.s.loads l.s.targets l.s.finished ≡ At l.root-1)
-    × (l.helpands-1 ≡ tabulate l.k (new_helpand l.s l.root-1))
-    × (l.shares-1 ≡ tabulate l.k (new_share l.s))
+    × (lowest_in_b l.nodes l.s.loads l.s.targets l.s.finished ≡ At l.root)
+    × (l.helpands ≡ tabulate l.k (new_helpand l.s l.root))
+    × (l.shares ≡ tabulate l.k (new_share l.s))
 
 abbrev pub decreases-loop-k : goal.decreases-loop-k
 decreases-loop-k l = l.nodes - l.k

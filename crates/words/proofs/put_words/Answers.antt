@@ -28,7 +28,7 @@ loop-i-preserved c =
     let e = c.put_word.ensures in (
       omega arith,
       e ∙ ap (λ (o : List ℕ). put_word o (4 * (a.first + i)) (get_or a.ws.now i 0)) c.loop-i.invariant.1
-          ∙ more a.out-1.now a.ws.now a.first i (omega arith),
+          ∙ more a.out.now a.ws.now a.first i (omega arith),
       ap length e ∙ simp length-set c.loop-i.invariant.2,
     )
 

@@ -13,7 +13,7 @@ use Rattle.words.proofs.put_words.Given as goal
 
 abbrev pub invariant-loop-i : goal.invariant-loop-i
 invariant-loop-i l =
-    (l.i ≤ l.k) × (l.out-1 ≡ sets l.initial.out-1 (4 * l.first) (encode (take l.i l.ws))) × (length l.out-1 ≡ length l.initial.out-1)
+    (l.i ≤ l.k) × (l.out ≡ sets l.initial.out (4 * l.first) (encode (take l.i l.ws))) × (length l.out ≡ length l.initial.out)
 
 abbrev pub decreases-loop-i : goal.decreases-loop-i
 decreases-loop-i l = l.k - l.i

@@ -67,7 +67,7 @@ loop-i-preserved c =
     let a = (begun r).args in
     let l = (head r).loop in
     let v = l.inv in
-    let size = ap length (stored w) ∙ length_put l.out-1 (4 * (2 + position_of (x r))) (k w) in (
+    let size = ap length (stored w) ∙ length_put l.out (4 * (2 + position_of (x r))) (k w) in (
       set v.0 (position_of (x r)) (k w),
       v.1,
       v.2,
@@ -86,8 +86,8 @@ returns c =
     let v = l.invariant in
     let b = c.before in
     let a = (start b).args in
-    v.6 a.out-1.now b.put_empty.ensures
-    ∙ ap (λ (xs : List ℕ). placed (encode (a.n ∷ a.t ∷ xs)) a.out-1.now)
+    v.6 a.out.now b.put_empty.ensures
+    ∙ ap (λ (xs : List ℕ). placed (encode (a.n ∷ a.t ∷ xs)) a.out.now)
     (end a.s.now a.n a.e v.1 v.0 l.i v.5 c.loop-i-test.false)
 
 pub word_number-c-requires : goal.word_number-c-requires

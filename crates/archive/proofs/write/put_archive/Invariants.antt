@@ -21,8 +21,8 @@ use Rattle.archive.proofs.write.put_archive.Given as goal
 -- whatever the buffer was that the empty archive was written to
 abbrev pub invariant-loop-i : goal.invariant-loop-i
 invariant-loop-i l =
-    (xs : List ℕ) × Unpackable l.s l.n l.e × Positions l.positions-positions × (archive_size ≤ length l.out-1) × (length l.out-1 ≡ length l.initial.out-1) × Storing l.s l.n l.e xs l.i
-    × ((base : List ℕ) → l.initial.out-1 ≡ placed (encode (l.n ∷ l.t ∷ no_counts)) base → l.out-1 ≡ placed (encode (l.n ∷ l.t ∷ xs)) base)
+    (xs : List ℕ) × Unpackable l.s l.n l.e × Positions l.positions-positions × (archive_size ≤ length l.out) × (length l.out ≡ length l.initial.out) × Storing l.s l.n l.e xs l.i
+    × ((base : List ℕ) → l.initial.out ≡ placed (encode (l.n ∷ l.t ∷ no_counts)) base → l.out ≡ placed (encode (l.n ∷ l.t ∷ xs)) base)
 
 abbrev pub decreases-loop-i : goal.decreases-loop-i
 decreases-loop-i l = l.e - l.i

@@ -10,7 +10,7 @@ use Rattle.groups.proofs.distance.distance.Given as goal
 
 abbrev pub invariant-loop-node : goal.invariant-loop-node
 invariant-loop-node l =
-    (l.node-1 < l.nodes) × (distance l.nodes (at l.helpands) l.k ≡ l.steps + distance l.nodes (at l.helpands) l.node-1)
+    (l.node < l.nodes) × (distance l.nodes (at l.helpands) l.k ≡ l.steps + distance l.nodes (at l.helpands) l.node)
 
 abbrev pub decreases-loop-node : goal.decreases-loop-node
-decreases-loop-node l = distance l.nodes (at l.helpands) l.node-1
+decreases-loop-node l = distance l.nodes (at l.helpands) l.node

@@ -10,7 +10,7 @@ use Rattle.groups.proofs.distance.distances.Given as goal
 
 abbrev pub invariant-loop-k : goal.invariant-loop-k
 invariant-loop-k l =
-    (l.k ≤ l.nodes) × Known l.nodes (at l.helpands) l.known-1 × ((j : ℕ) → j < l.k → at l.known-1 j ≢ unknown)
+    (l.k ≤ l.nodes) × Known l.nodes (at l.helpands) l.known × ((j : ℕ) → j < l.k → at l.known j ≢ unknown)
 
 abbrev pub decreases-loop-k : goal.decreases-loop-k
 decreases-loop-k l = l.nodes - l.k

@@ -8,7 +8,7 @@ use Rattle.groups.proofs.Noting.{Noting, noting_begin, noting_next, noting_end, 
 use Rattle.groups.proofs.distance.note_chain.Given as goal
 
 abbrev pub invariant-loop-known : goal.invariant-loop-known
-invariant-loop-known l = Noting l.nodes (at l.helpands) l.k l.initial.known l.known l.node-1 l.left
+invariant-loop-known l = Noting l.nodes (at l.helpands) l.k l.initial.known l.known l.node l.left
 
 abbrev pub decreases-loop-known : goal.decreases-loop-known
-decreases-loop-known l = distance l.nodes (at l.helpands) l.node-1
+decreases-loop-known l = distance l.nodes (at l.helpands) l.node

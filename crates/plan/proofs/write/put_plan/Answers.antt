@@ -22,4 +22,4 @@ returns c =
     ∙ ap (λ (o : List ℕ). sets o (4 * (3 + a.n)) (encode (take a.n a.shares)))
     (c.put_words.ensures ∙ ap (λ (o : List ℕ). sets o 12 (encode (take a.n a.helpands))) c.put_head.ensures)
     ∙ plan-placed a.n a.kind a.limit a.helpands a.shares (omega (arith, sixty_four start)) (omega (arith, sixty_four start))
-    a.out-1.now start.requires.1
+    a.out.now start.requires.1

@@ -24,7 +24,7 @@ use Rattle.shares.proofs.family.keep.Given as goal
 abbrev pub invariant-loop-k : goal.invariant-loop-k
 invariant-loop-k l =
     let keeps = keeps_in l.limit l.helpands l.reserves l.table l.share l.n in
-    (NotedSoFar l.nodes (at l.helpands) l.n keeps keeps (at l.totals l.n - keeps l.n) l.initial.shares l.shares l.rest-1 l.k)
+    (NotedSoFar l.nodes (at l.helpands) l.n keeps keeps (at l.totals l.n - keeps l.n) l.initial.shares l.shares l.rest l.k)
     × (Somewhere l.nodes (rooms_in l.limit l.helpands l.reserves l.table l.share l.n) l.most)
 
 abbrev pub decreases-loop-k : goal.decreases-loop-k

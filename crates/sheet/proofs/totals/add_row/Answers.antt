@@ -51,7 +51,7 @@ loop-n-preserved c =
       omega arith,
       simp length-set c.loop-n.invariant.1,
       stored-below out n v (total_of (a.holder + 1) a.table.now) (omega arith) (more c) c.loop-n.invariant.2,
-      stored-behind out n v (at a.totals-1.now) c.loop-n.invariant.3,
+      stored-behind out n v (at a.totals.now) c.loop-n.invariant.3,
     )
 
 pub returns : goal.returns

@@ -17,7 +17,7 @@ use Rattle.sheet.proofs.totals.add_row.Given as goal
 
 abbrev pub invariant-loop-n : goal.invariant-loop-n
 invariant-loop-n l =
-    (l.n ≤ l.nodes) × (length l.totals-1 ≡ 64) × ((k : ℕ) → k < l.n → at l.totals-1 k ≡ total_of (l.holder + 1) l.table k) × ((k : ℕ) → l.n ≤ k → at l.totals-1 k ≡ at l.initial.totals-1 k)
+    (l.n ≤ l.nodes) × (length l.totals ≡ 64) × ((k : ℕ) → k < l.n → at l.totals k ≡ total_of (l.holder + 1) l.table k) × ((k : ℕ) → l.n ≤ k → at l.totals k ≡ at l.initial.totals k)
 
 abbrev pub decreases-loop-n : goal.decreases-loop-n
 decreases-loop-n l = l.nodes - l.n

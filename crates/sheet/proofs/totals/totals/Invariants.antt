@@ -13,7 +13,7 @@ use Rattle.arrays.proofs.Tabulate.{tabulate-is}
 use Rattle.sheet.proofs.totals.totals.Given as goal
 
 abbrev pub invariant-loop-holder : goal.invariant-loop-holder
-invariant-loop-holder l = (l.holder ≤ l.nodes) × (l.out-1 ≡ tabulate l.nodes (total_of l.holder l.table))
+invariant-loop-holder l = (l.holder ≤ l.nodes) × (l.out ≡ tabulate l.nodes (total_of l.holder l.table))
 
 abbrev pub decreases-loop-holder : goal.decreases-loop-holder
 decreases-loop-holder l = l.nodes - l.holder

@@ -73,7 +73,7 @@ returns c =
     let m : length (counts table (64 * a.n)) ≡ length xs = length-map xs (λ c. get_or table c 0) in
     rw k at c.loop-c.invariant.3
     ∙ rw (c.put_head.ensures, c.requires.1)
-    (record_placed a.out-1.now (a.n ∷ a.t ∷ length xs ∷ []) xs (counts table (64 * a.n)) 12 (4 * (3 + length xs)) refl (omega arith)
+    (record_placed a.out.now (a.n ∷ a.t ∷ length xs ∷ []) xs (counts table (64 * a.n)) 12 (4 * (3 + length xs)) refl (omega arith)
     (omega (arith, c.requires.1, c.requires.2)))
 
 pub put_entry-requires : goal.put_entry-requires

@@ -18,8 +18,8 @@ use Rattle.sheet.proofs.write.put_sheet.Given as goal
 abbrev pub invariant-loop-c : goal.invariant-loop-c
 invariant-loop-c l =
     (l.c ≤ l.cells) × (l.i ≤ l.c) × (l.i ≡ length (collect l.c (filled l.table)))
-    × (l.out-1 ≡ sets (sets l.initial.out-1 12 (encode (collect l.c (filled l.table)))) (4 * (3 + l.e)) (encode (counts l.table l.c)))
-    × (length l.out-1 ≡ length l.initial.out-1)
+    × (l.out ≡ sets (sets l.initial.out 12 (encode (collect l.c (filled l.table)))) (4 * (3 + l.e)) (encode (counts l.table l.c)))
+    × (length l.out ≡ length l.initial.out)
 
 abbrev pub decreases-loop-c : goal.decreases-loop-c
 decreases-loop-c l = l.cells - l.c

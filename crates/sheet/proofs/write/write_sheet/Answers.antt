@@ -20,11 +20,11 @@ pub returns-then-out-size : goal.returns-then-out-size
 returns-then-out-size c =
     let k = c.before in
     let a = k.args in
-    short_writes (sheet_bytes a.n a.t a.table.now) a.out-1.now _ (size k) c.if-out-size.true
+    short_writes (sheet_bytes a.n a.t a.table.now) a.out.now _ (size k) c.if-out-size.true
 
 pub returns-then-out-size : goal.returns
 returns c =
     let k = c.before in
     let a = k.args in
-    let w = long_writes (sheet_bytes a.n a.t a.table.now) a.out-1.now _ (size k) c.if-out-size.false in
+    let w = long_writes (sheet_bytes a.n a.t a.table.now) a.out.now _ (size k) c.if-out-size.false in
     (w.0, c.put_sheet.ensures ∙ w.1)

@@ -12,7 +12,7 @@ loop-k-preserved c =
     let l = c.loop-k in
     (
       omega (arith, c.loop-k-test.true),
-      copied_next _ _ _ l.k l.cells-1 l.invariant.1 (omega (arith, c.requires, c.loop-k-test.true)),
+      copied_next _ _ _ l.k l.cells l.invariant.1 (omega (arith, c.requires, c.loop-k-test.true)),
     )
 
 pub returns : goal.returns

@@ -9,7 +9,7 @@ use Rattle.tally.proofs.Copying.{copied_none, copied_next}
 use Rattle.tally.proofs.lay.put_counts.Given as goal
 
 abbrev pub invariant-loop-k : goal.invariant-loop-k
-invariant-loop-k l = (l.k ≤ table_size) × Copied 128 l.k l.counts l.initial.cells-1 l.cells-1
+invariant-loop-k l = (l.k ≤ table_size) × Copied 128 l.k l.counts l.initial.cells l.cells
 
 abbrev pub decreases-loop-k : goal.decreases-loop-k
 decreases-loop-k l = table_size - l.k

@@ -8,7 +8,7 @@ use Rattle.tally.proofs.Copying.{copied_none, copied_next}
 use Rattle.tally.proofs.lay.put_row.Given as goal
 
 abbrev pub invariant-loop-k : goal.invariant-loop-k
-invariant-loop-k l = (l.k ≤ 64) × Copied l.from l.k l.row l.initial.cells-1 l.cells-1
+invariant-loop-k l = (l.k ≤ 64) × Copied l.from l.k l.row l.initial.cells l.cells
 
 abbrev pub decreases-loop-k : goal.decreases-loop-k
 decreases-loop-k l = 64 - l.k

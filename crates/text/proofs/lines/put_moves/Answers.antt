@@ -13,7 +13,7 @@ use Rattle.text.proofs.lines.put_moves.Goals as goal
 pub loop-i-init : goal.loop-i-init
 loop-i-init c =
     let a = c.args in
-    (omega arith, rw collect-none (put_none a.out-1.now a.at), refl)
+    (omega arith, rw collect-none (put_none a.out.now a.at), refl)
 
 pub put_move-next-requires : goal.put_move-next-requires
 put_move-next-requires c =

@@ -13,7 +13,7 @@ use Rattle.text.proofs.lines.put_moves.Given as goal
 
 abbrev pub invariant-loop-i : goal.invariant-loop-i
 invariant-loop-i l =
-    (l.i ≤ l.e) × Put l.initial.out-1 l.at (moves_text l.i l.routes l.counts) l.out-1 l.next × (length l.out-1 ≡ length l.initial.out-1)
+    (l.i ≤ l.e) × Put l.initial.out l.at (moves_text l.i l.routes l.counts) l.out l.next × (length l.out ≡ length l.initial.out)
 
 abbrev pub decreases-loop-i : goal.decreases-loop-i
 decreases-loop-i l = l.e - l.i

@@ -13,7 +13,7 @@ use Rattle.text.proofs.lines.put_nodes.Goals as goal
 pub loop-k-init : goal.loop-k-init
 loop-k-init c =
     let a = c.args in
-    (omega arith, rw collect-none (put_none a.out-1.now a.at), refl)
+    (omega arith, rw collect-none (put_none a.out.now a.at), refl)
 
 pub put_node-next-requires : goal.put_node-next-requires
 put_node-next-requires c =

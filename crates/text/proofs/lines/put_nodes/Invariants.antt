@@ -13,7 +13,7 @@ use Rattle.text.proofs.lines.put_nodes.Given as goal
 
 abbrev pub invariant-loop-k : goal.invariant-loop-k
 invariant-loop-k l =
-    (l.k ≤ l.nodes) × Put l.initial.out-1 l.at (nodes_text l.k l.helpands l.shares l.own) l.out-1 l.next × (length l.out-1 ≡ length l.initial.out-1)
+    (l.k ≤ l.nodes) × Put l.initial.out l.at (nodes_text l.k l.helpands l.shares l.own) l.out l.next × (length l.out ≡ length l.initial.out)
 
 abbrev pub decreases-loop-k : goal.decreases-loop-k
 decreases-loop-k l = l.nodes - l.k

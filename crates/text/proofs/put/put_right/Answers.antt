@@ -14,19 +14,19 @@ some c = omega (arith, c.requires.0, decimal-some c.args.x c.ranges.x.fits)
 pub loop-i-init : goal.loop-i-init
 loop-i-init c =
     let a = c.args in
-    filling_none a.out-1.now a.at (a.width - 1) a.x
+    filling_none a.out.now a.at (a.width - 1) a.x
 
 pub loop-i-preserved : goal.loop-i-preserved
 loop-i-preserved c =
     let a = c.args in
     rw c.column.ensures
-    (filling_more a.out-1.now a.at (a.width - 1) a.x c.loop-i.invariant c.loop-i-test.true)
+    (filling_more a.out.now a.at (a.width - 1) a.x c.loop-i.invariant c.loop-i-test.true)
 
 -- the buffer stays as long as it was
 size : (l : goal.At-loop-i) → length l.loop-i.out-1 ≡ length l.args.out.now
 size l =
     let a = l.args in
-    filling_length a.out-1.now a.at (a.width - 1) a.x l.loop-i.invariant
+    filling_length a.out.now a.at (a.width - 1) a.x l.loop-i.invariant
 
 -- the columns up to the last lie in the buffer
 inside : (l : goal.At-loop-i) →
@@ -43,7 +43,7 @@ shape_of-out c =
 pub returns : goal.returns
 returns c =
     let a = c.args in
-    let before = filling_all a.out-1.now a.at (a.width - 1) a.x c.loop-i.invariant (omega (arith, c.loop-i-test.false)) in
+    let before = filling_all a.out.now a.at (a.width - 1) a.x c.loop-i.invariant (omega (arith, c.loop-i-test.false)) in
     rw (aligned_right a.width a.x c.ranges.x.fits c.requires.0) (put_then before c.put_byte.ensures)
 
 pub overflow_sub-last : goal.overflow_sub-last

@@ -9,7 +9,7 @@ use Rattle.text.proofs.Writing.{put_then}
 use Rattle.text.proofs.put.put_right.Given as goal
 
 abbrev pub invariant-loop-i : goal.invariant-loop-i
-invariant-loop-i l = Filling l.initial.out-1 l.at l.last l.x l.out-1 l.i l.rest
+invariant-loop-i l = Filling l.initial.out l.at l.last l.x l.out l.i l.rest
 
 abbrev pub decreases-loop-i : goal.decreases-loop-i
 decreases-loop-i l = l.i

@@ -14,7 +14,7 @@ use Rattle.traffic.proofs.page.put_nodes.Given as goal
 
 abbrev pub invariant-loop-k : goal.invariant-loop-k
 invariant-loop-k l =
-    (l.k ≤ l.nodes) × Put l.initial.out-1 0 (node_lines l.k (at l.sent) (at l.received)) l.out-1 l.next × (length l.out-1 ≡ length l.initial.out-1)
+    (l.k ≤ l.nodes) × Put l.initial.out 0 (node_lines l.k (at l.sent) (at l.received)) l.out l.next × (length l.out ≡ length l.initial.out)
 
 abbrev pub decreases-loop-k : goal.decreases-loop-k
 decreases-loop-k l = l.nodes - l.k

@@ -51,7 +51,7 @@ module _ (c : goal.After-word_number-received) where
   fits-here =
       let a = start.args in
       let l = turn.loop-i in
-      fits a.table-1.now a.moves.now a.e l.table-1 l.i l.inv turn.loop-i-test.true _ _ read start.pre.1
+      fits a.table.now a.moves.now a.e l.table l.i l.inv turn.loop-i-test.true _ _ read start.pre.1
       c.into_cell-into.result c.into_cell-into.ensures
 
 pub loop-i-init : goal.loop-i-init
@@ -63,14 +63,14 @@ loop-i-preserved c =
     let a = (start k).args in
     let l = (turn k).before.loop in
     rw k.into_cell-into.ensures
-    (after a.table-1.now a.moves.now a.e l.table-1 l.i l.inv (turn k).loop-test.true _ _ (read k))
+    (after a.table.now a.moves.now a.e l.table l.i l.inv (turn k).loop-test.true _ _ (read k))
 
 pub returns : goal.returns
 returns c =
     let l = c.loop-i in
     let m = c.args.moves.now in
     let e = c.args.e in
-    each-is (λ j x. x + receives (routes_of m e) (counts_of m e) j) c.args.table.now l.table-1 (l.invariant.size ∙ sym c.requires.0.size)
+    each-is (λ j x. x + receives (routes_of m e) (counts_of m e) j) c.args.table.now l.table (l.invariant.size ∙ sym c.requires.0.size)
     (λ j b. omega (arith, l.invariant.added j, moved-from-none into_cell m e l.i c.loop-i-test.false j))
 
 pub offset_bounds-table-into : goal.offset_bounds-table-into

@@ -20,7 +20,7 @@ pub record Adding (old moves : List ℕ) (e : ℕ) (table : List ℕ) (i : ℕ) 
   added : (c : ℕ) → at table c + moved_from into_cell moves e i c ≡ at old c + receives (routes_of moves e) (counts_of moves e) c
 
 abbrev pub invariant-loop-i : goal.invariant-loop-i
-invariant-loop-i l = Adding l.initial.table-1 l.moves l.e l.table-1 l.i
+invariant-loop-i l = Adding l.initial.table l.moves l.e l.table l.i
 
 abbrev pub decreases-loop-i : goal.decreases-loop-i
 decreases-loop-i l = l.e - l.i

@@ -68,7 +68,7 @@ returns-then-table-from c =
     let k = c.before in
     let a = (start k).args in
     let l = (turn k).before.loop in (
-      sym (fails a.table-1.now a.moves.now a.e l.table-1 l.i l.inv (turn k).loop-test.true _ _ (read k)
+      sym (fails a.table.now a.moves.now a.e l.table l.i l.inv (turn k).loop-test.true _ _ (read k)
           (start k).requires.size (rw (← k.from_cell-from.ensures) c.if-table-from.true)),
       λ z. absurd (true≢false (sym z)),
     )
@@ -79,7 +79,7 @@ loop-i-preserved c =
     let a = (start k).args in
     let l = (turn k).before.loop in
     rw k.from_cell-from.ensures
-    (after a.table-1.now a.moves.now a.e l.table-1 l.i l.inv (turn k).loop-test.true _ _ (read k)
+    (after a.table.now a.moves.now a.e l.table l.i l.inv (turn k).loop-test.true _ _ (read k)
     (rw (← k.from_cell-from.ensures) c.if-table-from.false))
 
 pub returns-then-table-from : goal.returns
@@ -87,8 +87,8 @@ returns c =
     let l = c.loop-i in
     let a = c.args in
     let h = c.loop-i-test.false in (
-      sym (passes a.table-1.now a.moves.now a.e l.table-1 l.i l.invariant h c.requires.size),
-      λ z. left_is a.table-1.now a.moves.now a.e l.table-1 l.i l.invariant h c.requires.size,
+      sym (passes a.table.now a.moves.now a.e l.table l.i l.invariant h c.requires.size),
+      λ z. left_is a.table.now a.moves.now a.e l.table l.i l.invariant h c.requires.size,
     )
 
 pub offset_bounds-table-from : goal.offset_bounds-table-from

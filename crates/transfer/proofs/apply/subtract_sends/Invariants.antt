@@ -20,7 +20,7 @@ pub record Subtracting (old moves : List ℕ) (e : ℕ) (table : List ℕ) (i : 
   left : (c : ℕ) → at table c + sends (routes_of moves e) (counts_of moves e) c ≡ at old c + moved_from from_cell moves e i c
 
 abbrev pub invariant-loop-i : goal.invariant-loop-i
-invariant-loop-i l = Subtracting l.initial.table-1 l.moves l.e l.table-1 l.i
+invariant-loop-i l = Subtracting l.initial.table l.moves l.e l.table l.i
 
 abbrev pub decreases-loop-i : goal.decreases-loop-i
 decreases-loop-i l = l.e - l.i

@@ -32,10 +32,10 @@ put_subdomain-e-requires c =
     let few : l.e ≤ l.n * (a.nodes - 1) = rw w.entries (few-all a.nodes a.table.now d l.n) in (
       p.0,
       c.loop-n-test.true,
-      fits a.nodes l.n l.e (length l.routes-1) (length a.routes-1.now) c.loop-n-test.true few p.3
-          (routes_long a.nodes a.table.now d a.routes-1.now a.counts-1.now l.n l.routes-1 l.counts-1 l.e w),
-      fits a.nodes l.n l.e (length l.counts-1) (length a.counts-1.now) c.loop-n-test.true few p.4
-          (counts_long a.nodes a.table.now d a.routes-1.now a.counts-1.now l.n l.routes-1 l.counts-1 l.e w),
+      fits a.nodes l.n l.e (length l.routes) (length a.routes.now) c.loop-n-test.true few p.3
+          (routes_long a.nodes a.table.now d a.routes.now a.counts.now l.n l.routes l.counts l.e w),
+      fits a.nodes l.n l.e (length l.counts) (length a.counts.now) c.loop-n-test.true few p.4
+          (counts_long a.nodes a.table.now d a.routes.now a.counts.now l.n l.routes l.counts l.e w),
     )
 
 pub loop-n-preserved : goal.loop-n-preserved
@@ -53,7 +53,7 @@ loop-n-preserved c =
     (λ k b. ap (λ (xs : List ℕ). at xs k) c.holdings-holding.ensures ∙ tabulate-at a.nodes holding k b)
     (λ k b. ap (λ (xs : List ℕ). at xs k) c.due_amounts-due.ensures ∙ tabulate-at a.nodes (d l.n) k b) in (
       omega (arith, c.loop-n-test.true),
-      written_more a.nodes a.table.now d a.routes-1.now a.counts-1.now l.n l.routes-1 l.counts-1 l.e l.invariant.1 moves
+      written_more a.nodes a.table.now d a.routes.now a.counts.now l.n l.routes l.counts l.e l.invariant.1 moves
           arrays.0 arrays.1.0 r.result same r.ensures.0 r.ensures.1.0 r.ensures.1.1,
     )
 
@@ -71,7 +71,7 @@ returns c =
     (ap (λ (xs : List ℕ). at xs n) own.ensures ∙ tabulate-at a.nodes (own_of a.nodes h (at a.totals) share) n b) in
     let e : l.n ≡ a.nodes = omega arith in
     rw (← all-routes-eq a.nodes a.table.now d d' same, ← all-counts-eq a.nodes a.table.now d d' same)
-    (written_all a.nodes a.table.now d a.routes-1.now a.counts-1.now l.routes-1 l.counts-1 l.e (rw e at l.invariant.1)
+    (written_all a.nodes a.table.now d a.routes.now a.counts.now l.routes l.counts l.e (rw e at l.invariant.1)
     c.requires.3 c.requires.4)
 
 -- the totals end where the nodes do
@@ -84,13 +84,13 @@ own_amounts-own-requires c =
 same_length : (c : goal.After-loop-n) →
     let l = c.loop-n in
     let a = c.args in
-    (length l.routes-1 ≡ length a.routes-1.now) × (length l.counts-1 ≡ length a.counts-1.now)
+    (length l.routes ≡ length a.routes.now) × (length l.counts ≡ length a.counts.now)
 same_length c =
     let l = c.loop-n in
     let a = c.args in
     let d = dues a.helpands a.shares c.own_amounts-own.result in (
-      routes_long a.nodes a.table.now d a.routes-1.now a.counts-1.now l.n l.routes-1 l.counts-1 l.e l.invariant.1,
-      counts_long a.nodes a.table.now d a.routes-1.now a.counts-1.now l.n l.routes-1 l.counts-1 l.e l.invariant.1,
+      routes_long a.nodes a.table.now d a.routes.now a.counts.now l.n l.routes l.counts l.e l.invariant.1,
+      counts_long a.nodes a.table.now d a.routes.now a.counts.now l.n l.routes l.counts l.e l.invariant.1,
     )
 
 pub loop-n-init : goal.loop-n-init

@@ -22,7 +22,7 @@ dues helpands shares own n = due_with (at helpands) (at shares) (at own n) n
 
 abbrev pub invariant-loop-n : goal.invariant-loop-n
 invariant-loop-n l =
-    (l.n ≤ l.nodes) × WrittenBelow l.nodes l.table (dues l.helpands-1 l.shares-1 l.own) l.initial.routes-1 l.initial.counts-1 l.n l.routes-1 l.counts-1 l.e
+    (l.n ≤ l.nodes) × WrittenBelow l.nodes l.table (dues l.helpands l.shares l.own) l.initial.routes l.initial.counts l.n l.routes l.counts l.e
 
 abbrev pub decreases-loop-n : goal.decreases-loop-n
 decreases-loop-n l = l.nodes - l.n

@@ -52,12 +52,12 @@ module _ (c : goal.After-min-count) where
       let p = start.pre in
       let k = l.entries + length (move_of l.s.node l.r.node c.min-count.result) in
       let b : k ≤ a.e + length all =
-      room a.nodes surplus shortage a.n a.routes-1.now a.counts-1.now a.e all l.routes-1 l.counts-1 l.entries
+      room a.nodes surplus shortage a.n a.routes.now a.counts.now a.e all l.routes l.counts l.entries
       l.s.node l.s.count l.r.node l.r.count
       l.inv sender-lt receiver-lt c.min-count.result c.min-count.ensures in
       let f : length all ≤ a.nodes - 1 = moves-few a.nodes (at a.holding.now) (at a.due.now) in (
-        within k a.e (length all) (a.nodes - 1) (length l.routes-1) (length a.routes-1.now) b f p.2 l.inv.moves.routes_long,
-        within k a.e (length all) (a.nodes - 1) (length l.counts-1) (length a.counts-1.now) b f p.3 l.inv.moves.counts_long,
+        within k a.e (length all) (a.nodes - 1) (length l.routes) (length a.routes.now) b f p.2 l.inv.moves.routes_long,
+        within k a.e (length all) (a.nodes - 1) (length l.counts) (length a.counts.now) b f p.3 l.inv.moves.counts_long,
       )
 
 -- from after the turn's move, with its two arrays, back to the move
@@ -83,8 +83,8 @@ next_above-r-requires-else-s-r c =
 pub loop-s-init : goal.loop-s-init
 loop-s-init c =
     let a = c.args in
-    begin a.nodes (above a.holding.now a.due.now) (lacks a.holding.now a.due.now) a.n a.routes-1.now
-    a.counts-1.now a.e
+    begin a.nodes (above a.holding.now a.due.now) (lacks a.holding.now a.due.now) a.n a.routes.now
+    a.counts.now a.e
     c.next_above-s.result.node c.next_above-s.result.count c.next_above-r.result.node c.next_above-r.result.count
     (omega (arith, c.requires.1)) (sender a.holding.now a.due.now c.next_above-s.ensures)
     (receiver a.holding.now a.due.now c.next_above-r.ensures)
@@ -95,7 +95,7 @@ loop-s-preserved-then-s-r c =
     let q = p.before in
     let l = (head q).loop in
     let a = (start q).args in
-    sender-next a.nodes (surplus q) (shortage q) a.n a.routes-1.now a.counts-1.now a.e (all q) l.routes-1 l.counts-1
+    sender-next a.nodes (surplus q) (shortage q) a.n a.routes.now a.counts.now a.e (all q) l.routes l.counts
     l.entries l.s.node l.s.count l.r.node l.r.count
     l.inv (sender-lt q) (receiver-lt q) q.min-count.result q.min-count.ensures
     p.put_move-entries.last.0 p.put_move-entries.last.1.0 p.put_move-entries.result p.put_move-entries.ensures.0 p.put_move-entries.ensures.1.0
@@ -109,7 +109,7 @@ loop-s-preserved c =
     let q = p.before in
     let l = (head q).loop in
     let a = (start q).args in
-    receiver-next a.nodes (surplus q) (shortage q) a.n a.routes-1.now a.counts-1.now a.e (all q) l.routes-1 l.counts-1
+    receiver-next a.nodes (surplus q) (shortage q) a.n a.routes.now a.counts.now a.e (all q) l.routes l.counts
     l.entries l.s.node l.s.count l.r.node l.r.count
     l.inv (sender-lt q) (receiver-lt q) q.min-count.result q.min-count.ensures
     p.put_move-entries.last.0 p.put_move-entries.last.1.0 p.put_move-entries.result p.put_move-entries.ensures.0 p.put_move-entries.ensures.1.0
@@ -120,15 +120,15 @@ loop-s-preserved c =
 pub returns-else-r-nodes : goal.returns-else-r-nodes
 returns-else-r-nodes c =
     let a = c.args in
-    finish a.nodes (above a.holding.now a.due.now) (lacks a.holding.now a.due.now) a.n a.routes-1.now
-    a.counts-1.now a.e (whole a.nodes a.holding.now a.due.now)
+    finish a.nodes (above a.holding.now a.due.now) (lacks a.holding.now a.due.now) a.n a.routes.now
+    a.counts.now a.e (whole a.nodes a.holding.now a.due.now)
     c.loop-s.routes-1 c.loop-s.counts-1 c.loop-s.entries c.loop-s.s.node c.loop-s.s.count c.loop-s.r.node c.loop-s.r.count
     c.loop-s.invariant (inr (ltb-false c.loop-s.r.node a.nodes c.if-r-nodes.false))
 
 pub returns-after-loop-s : goal.returns-after-loop-s
 returns-after-loop-s c =
     let a = c.args in
-    finish a.nodes (above a.holding.now a.due.now) (lacks a.holding.now a.due.now) a.n a.routes-1.now
-    a.counts-1.now a.e (whole a.nodes a.holding.now a.due.now)
+    finish a.nodes (above a.holding.now a.due.now) (lacks a.holding.now a.due.now) a.n a.routes.now
+    a.counts.now a.e (whole a.nodes a.holding.now a.due.now)
     c.loop-s.routes-1 c.loop-s.counts-1 c.loop-s.entries c.loop-s.s.node c.loop-s.s.count c.loop-s.r.node c.loop-s.r.count
     c.loop-s.invariant (inl c.loop-s-test.false)

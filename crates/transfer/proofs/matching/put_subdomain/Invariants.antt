@@ -28,7 +28,7 @@ whole nodes holding due = moves_between nodes (at holding) (at due)
 
 abbrev pub invariant-loop-s : goal.invariant-loop-s
 invariant-loop-s l =
-    Pending l.nodes (above l.holding l.due) (lacks l.holding l.due) l.n l.initial.routes-1 l.initial.counts-1 l.e (whole l.nodes l.holding l.due) l.routes-1 l.counts-1 l.entries l.s.node
+    Pending l.nodes (above l.holding l.due) (lacks l.holding l.due) l.n l.initial.routes l.initial.counts l.e (whole l.nodes l.holding l.due) l.routes l.counts l.entries l.s.node
     l.s.count l.r.node l.r.count
 
 abbrev pub decreases-loop-s : goal.decreases-loop-s
