@@ -11,7 +11,7 @@ returns-in-Refused c =
 
 pub carry_read-requires : goal.carry_read-requires
 carry_read-requires c =
-    pair-accepted _ _ c.read_pair.ensures c.s-1.given.1
+    pair-accepted _ _ c.read_pair.ensures c.in-Accepted.is
 
 pub returns-in-Accepted : goal.returns-in-Accepted
 returns-in-Accepted c = c.carry_read.ensures

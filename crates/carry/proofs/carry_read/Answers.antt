@@ -17,11 +17,12 @@ use Rattle.carry.specs.Checks.{within_in}
 use Rattle.carry.specs.Carry.{next_table}
 use Rattle.carry.proofs.Checks.{sheet_facts, within-is}
 use Rattle.carry.proofs.Carried.{appliable, carried-is, ends_sends, ends_carried, ends_unwritten}
+use Rattle.carry.proofs.carry_read.Goals.{After-apply_moves, After-slice_known-2-1, After-unpack-table, After-write_sheet, Else-not-apply_moves, Start}
 use Rattle.carry.proofs.carry_read.Goals as goal
 
 -- the table of the sheet
-module _ (c : goal.After-unpack-table) where
-  abbrev start : goal.Start
+module _ (c : After-unpack-table) where
+  abbrev start : Start
   start = c.before
   abbrev sheet : List ℕ
   sheet = start.args.sheet.now
@@ -36,42 +37,40 @@ module _ (c : goal.After-unpack-table) where
 
 pub apply_moves-requires : goal.apply_moves-requires
 apply_moves-requires c =
-    let u = c.before in
-    appliable (start u).requires u.unpack-table.ensures
+    appliable (start (goal.at.apply_moves-requires c).After-unpack-table).requires c.unpack-table.ensures
 
 -- the moves were applied to it
-module _ (c : goal.After-apply_moves) where
-  abbrev read : goal.After-unpack-table
+module _ (c : After-apply_moves) where
+  abbrev read : After-unpack-table
   read = c.before
   within-is-here : c.apply_moves.result ≡ within_in (sheet read) (moves read)
   within-is-here = c.apply_moves.ensures.0 ∙ within-is (start read).pre read.unpack-table.ensures
 
 pub returns-then-not-apply_moves : goal.returns-then-not-apply_moves
 returns-then-not-apply_moves c =
-    let a = c.before in
-    ends_sends (start (read a)).pre _ (sym (within-is-here a) ∙ not-true _ c.if-not-apply_moves.true)
+    ends_sends (start (read (goal.at.returns-then-not-apply_moves c).After-apply_moves)).pre _ (sym (within-is-here (goal.at.returns-then-not-apply_moves c).After-apply_moves) ∙ c.if-not-apply_moves.true)
 
 -- past 42: the table that follows
-module _ (c : goal.Else-not-apply_moves) where
-  abbrev applied : goal.After-apply_moves
+module _ (c : Else-not-apply_moves) where
+  abbrev applied : After-apply_moves
   applied = c.before
-  abbrev u₀ : goal.After-unpack-table
+  abbrev u₀ : After-unpack-table
   u₀ = read applied
   within : within_in (sheet u₀) (moves u₀) ≡ true
-  within = sym (within-is-here applied) ∙ not-false _ c.if-not-apply_moves.false
+  within = sym (within-is-here applied) ∙ c.if-not-apply_moves.false
   abbrev table : List ℕ
   table = applied.apply_moves.last.0
   table_is : table ≡ next_table (sheet u₀) (moves u₀)
-  table_is = applied.apply_moves.ensures.1 (not-false _ c.if-not-apply_moves.false) ∙ carried-is (start u₀).pre u₀.unpack-table.ensures
+  table_is = applied.apply_moves.ensures.1 (c.if-not-apply_moves.false) ∙ carried-is (start u₀).pre u₀.unpack-table.ensures
 
 -- and the table was written
-module _ (c : goal.After-write_sheet) where
-  abbrev passed : goal.Else-not-apply_moves
+module _ (c : After-write_sheet) where
+  abbrev passed : Else-not-apply_moves
   passed = c.before
   abbrev rec : List ℕ
   rec = sheet_bytes (head (u₀ passed)).n (head (u₀ passed)).t (table passed)
 
-abbrev answered : goal.After-slice_known-2-1 → goal.After-write_sheet
+abbrev answered : After-slice_known-2-1 → After-write_sheet
 answered c = c.before
 
 pub returns-in-Bytes : goal.returns-in-Bytes
@@ -88,7 +87,7 @@ returns-in-Short c =
     let w = answered c.before in
     let p = passed w in
     let x = ends_unwritten (start (u₀ p)).pre (next (u₀ p)) (within p) (table_is p)
-    (sym c.enum_told-1.given.1 ∙ w.write_sheet.ensures.0) in
+    (sym c.in-Short.is ∙ w.write_sheet.ensures.0) in
     (x.0, w.write_sheet.ensures.1 ∙ x.1)
 
 -- the length that the writer gives fits
@@ -105,4 +104,4 @@ pub unpack-table-requires : goal.unpack-table-requires
 unpack-table-requires c = (_, sheet_unpackable _ _ (sheet_facts c.requires))
 
 pub write_sheet-requires : goal.write_sheet-requires
-write_sheet-requires c = n_high (u₀ c.before)
+write_sheet-requires c = n_high (u₀ (goal.at.write_sheet-requires c).Else-not-apply_moves)

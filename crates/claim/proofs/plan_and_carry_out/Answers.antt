@@ -13,6 +13,7 @@ use Rattle.words.specs.declared.WrittenAnswer.{WrittenAnswer}
 use Rattle.carry.specs.Carry.{carry_answer, next_after}
 use Rattle.claim.specs.Claim.{Demand3}
 use Rattle.claim.proofs.Demand.{demand}
+use Rattle.claim.proofs.plan_and_carry_out.Goals.{After-firrozka_plan_step-step, After-slice_known-3-1, After-struct_known-1, Start}
 use Rattle.claim.proofs.plan_and_carry_out.Goals as goal
 
 -- the demand, of answers and buffers that are what the contracts say
@@ -22,10 +23,10 @@ handed-on : (s o p m x : List ℕ) (a : StepAnswer) (c : WrittenAnswer) (p₁ m�
 handed-on s o p m x a c p₁ m₁ x₁ e f g h i = rw (h, i, g, f, e) (demand s o p m x)
 
 -- the step was planned or refused
-module _ (c : goal.After-firrozka_plan_step-step) where
-  abbrev begun : goal.After-slice_known-3-1
+module _ (c : After-firrozka_plan_step-step) where
+  abbrev begun : After-slice_known-3-1
   begun = c.before
-  abbrev start : goal.Start
+  abbrev start : Start
   start = begun.before
   abbrev m : List ℕ
   m = start.args.moves.now
@@ -35,7 +36,7 @@ module _ (c : goal.After-firrozka_plan_step-step) where
       let sizes = moves-inside a.sheet.now a.old.now (length a.plan.now) (length m) in
       omega (arith, ap (λ (x : StepAnswer). x.moves-1) c.firrozka_plan_step-step.ensures.0, sizes)
 
-abbrev stepped : goal.After-struct_known-1 → goal.After-firrozka_plan_step-step
+abbrev stepped : After-struct_known-1 → After-firrozka_plan_step-step
 stepped c = c.before
 
 pub returns : goal.returns

@@ -15,7 +15,7 @@ returns-then-tree c =
     way_weighed a.nodes a.p a.limit a.table.now a.totals a.old a.tree c.is_primary.result
     c.is_primary.ensures c.if-is_primary.false c.if-tree.true c.weighed_plan.result c.weighed_plan.ensures
 
-pub returns-then-is_primary : goal.returns
+pub returns : goal.returns
 returns c =
     let a = c.args in
     way_none a.nodes a.p a.limit a.table.now a.totals a.old a.tree c.is_primary.result

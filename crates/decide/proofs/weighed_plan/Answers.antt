@@ -3,35 +3,34 @@
 use borrow.Author.Rules.{rules}
 use Rattle.plan.proofs.Trees.{tree-below}
 use Rattle.decide.proofs.Ways.{way_kept, way_broken}
+use Rattle.decide.proofs.weighed_plan.Goals.{After-helper_links-links, After-holds, After-leasts-leasts, Start}
 use Rattle.decide.proofs.weighed_plan.Goals as goal
 
 -- the tree was weighed and its leasts tested
-module _ (c : goal.After-holds) where
-  abbrev weighed : goal.After-leasts-leasts
+module _ (c : After-holds) where
+  abbrev weighed : After-leasts-leasts
   weighed = c.before
-  abbrev linked : goal.After-helper_links-links
+  abbrev linked : After-helper_links-links
   linked = weighed.before
-  abbrev start : goal.Start
+  abbrev start : Start
   start = linked.before
 
 pub returns-then-holds : goal.returns-then-holds
 returns-then-holds c =
-    let h = c.before in
-    let l = (weighed h).leasts in
-    let a = (start h).args in
-    way_kept a.nodes a.p a.limit a.table.now a.totals a.old l.result l.ensures h.holds.result
-    h.holds.ensures c.if-holds.true c.shares.result c.shares.ensures
+    let l = (weighed (goal.at.returns-then-holds c).After-holds).leasts in
+    let a = (start (goal.at.returns-then-holds c).After-holds).args in
+    way_kept a.nodes a.p a.limit a.table.now a.totals a.old l.result l.ensures c.holds.result
+    c.holds.ensures c.if-holds.true c.shares.result c.shares.ensures
 
-pub returns-then-holds : goal.returns
+pub returns : goal.returns
 returns c =
-    let h = c.before in
-    let l = (weighed h).leasts in
-    let a = (start h).args in
-    way_broken a.nodes a.p a.limit a.table.now a.totals a.old l.result l.ensures h.holds.result
-    h.holds.ensures c.if-holds.false c.rebuilt_plan.result c.rebuilt_plan.ensures
+    let l = (weighed (goal.at.returns c).After-holds).leasts in
+    let a = (start (goal.at.returns c).After-holds).args in
+    way_broken a.nodes a.p a.limit a.table.now a.totals a.old l.result l.ensures c.holds.result
+    c.holds.ensures c.if-holds.false c.rebuilt_plan.result c.rebuilt_plan.ensures
 
 pub helper_links-links-requires : goal.helper_links-links-requires
 helper_links-links-requires c = (c.requires.1, c.find_root-root.ensures.inside)
 
 pub rebuilt_plan-requires : goal.rebuilt_plan-requires
-rebuilt_plan-requires c = let s = (start c.before).pre in (s.0, s.1, tree-below s.5.1, s.3, s.4)
+rebuilt_plan-requires c = let s = (start (goal.at.rebuilt_plan-requires c).After-holds).pre in (s.0, s.1, tree-below s.5.1, s.3, s.4)

@@ -6,7 +6,7 @@ use Rattle.groups.specs.Groups.{answer_of}
 use Rattle.groups.proofs.answer.Goals as goal
 
 pub returns-in-Grouped : goal.returns-in-Grouped
-returns-in-Grouped c = sym (ap answer_of c.g-1.given.1)
+returns-in-Grouped c = sym (ap answer_of c.in-Grouped.is)
 
 pub returns-in-Refused : goal.returns-in-Refused
-returns-in-Refused c = ap refused c.number.ensures ∙ sym (ap answer_of c.g-in-Refused-1.given.1)
+returns-in-Refused c = ap refused c.number.ensures ∙ sym (ap answer_of c.in-Refused.is)

@@ -17,7 +17,7 @@ returns-in-Refused c =
 
 pub groups_read-requires : goal.groups_read-requires
 groups_read-requires c =
-    ap answer_of (sym c.p-1.given.1) ∙ c.read_plan.ensures
+    ap answer_of (sym c.in-Accepted.is) ∙ c.read_plan.ensures
 
 pub returns-in-Accepted : goal.returns-in-Accepted
 returns-in-Accepted c = c.groups_read.ensures

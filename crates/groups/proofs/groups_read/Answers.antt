@@ -16,12 +16,12 @@ use Rattle.groups.specs.Inner.{no_groups}
 use Rattle.groups.proofs.Planned.{array_rooted, reading_none}
 use Rattle.groups.proofs.Placing.{length-groups, none-groups}
 use Rattle.groups.proofs.Checks.{ends_buffer, ends_grouped}
-use Rattle.groups.proofs.groups_read.Goals.{else-p-eq0, then-p-eq0}
+use Rattle.groups.proofs.groups_read.Goals.{After-struct_known-1, After-struct_known-2-1, Else-groups-nodes, Joined-p-eq0, Start, else-p-eq0, then-p-eq0}
 use Rattle.groups.proofs.groups_read.Goals as goal
 
 -- what was read
-module _ (c : goal.After-struct_known-1) where
-  abbrev start : goal.Start
+module _ (c : After-struct_known-1) where
+  abbrev start : Start
   start = c.before
   abbrev plan : List ℕ
   plan = start.args.plan.now
@@ -29,10 +29,10 @@ module _ (c : goal.After-struct_known-1) where
   facts = reading_accepted plan start.args.p start.pre
 
 pub returns-then-groups-nodes : goal.returns-then-groups-nodes
-returns-then-groups-nodes c = ends_buffer _ _ (start c.before).pre (omega (arith, c.if-groups-nodes.true))
+returns-then-groups-nodes c = ends_buffer _ _ (start (goal.at.returns-then-groups-nodes c).After-struct_known-1).pre (omega (arith, c.if-groups-nodes.true))
 
 -- past the test of the buffer
-abbrev long : goal.After-struct_known-2-1 → goal.Else-groups-nodes
+abbrev long : After-struct_known-2-1 → Else-groups-nodes
 long c = c.before
 
 pub put_none-requires : goal.put_none-requires
@@ -52,8 +52,8 @@ put_groups-requires c =
     (rw c.words_64.ensures (array_rooted (plan e.before) s.args.p s.pre), omega (arith, e.if-groups-nodes.left))
 
 -- what was written, whichever way it went
-module _ (c : goal.Joined-p-eq0) where
-  abbrev read : goal.After-struct_known-1
+module _ (c : Joined-p-eq0) where
+  abbrev read : After-struct_known-1
   read = (long c.before).before
   abbrev n : ℕ
   n = (start read).args.p.n
@@ -69,25 +69,23 @@ module _ (c : goal.Joined-p-eq0) where
       (ap at w.2.ensures ∙ padded-same (helpands_of (plan read) n))
     ]
 
-pub returns-then-groups-nodes : goal.returns
+pub returns : goal.returns
 returns c =
-    let j = c.before in
-    let e = long j.before in
-    ends_grouped _ _ (start e.before).pre (omega (arith, e.if-groups-nodes.left)) (written j)
+    let e = long c.before in
+    ends_grouped _ _ (start e.before).pre (omega (arith, e.if-groups-nodes.left)) (written (goal.at.returns c).Joined-p-eq0)
 
 pub shape_of-groups : goal.shape_of-groups
 shape_of-groups c =
-    let j = c.before in
-    let out = (start (read j)).args.groups.now in
-    let rec = groups_bytes (n j) (h j) in
-    let e : length rec ≤ length out = omega (arith, length-groups (n j) (h j), (long j.before).if1.false) in
-    ap length (written j) ∙ length-append rec (drop (length rec) out) ∙ simp length-drop (omega arith)
+    let out = (start (read (goal.at.shape_of-groups c).Joined-p-eq0)).args.groups.now in
+    let rec = groups_bytes (n (goal.at.shape_of-groups c).Joined-p-eq0) (h (goal.at.shape_of-groups c).Joined-p-eq0) in
+    let e : length rec ≤ length out = omega (arith, length-groups (n (goal.at.shape_of-groups c).Joined-p-eq0) (h (goal.at.shape_of-groups c).Joined-p-eq0), (long c.before).if1.false) in
+    ap length (written (goal.at.shape_of-groups c).Joined-p-eq0) ∙ length-append rec (drop (length rec) out) ∙ simp length-drop (omega arith)
 
 pub overflow_mul-result : goal.overflow_mul-result
-overflow_mul-result c = omega (arith, (facts (read c.before)).n_high)
+overflow_mul-result c = omega (arith, (facts (read (goal.at.overflow_mul-result c).Joined-p-eq0)).n_high)
 
 pub overflow_add-result : goal.overflow_add-result
-overflow_add-result c = omega (arith, (facts (read c.before)).n_high)
+overflow_add-result c = omega (arith, (facts (read (goal.at.overflow_add-result c).Joined-p-eq0)).n_high)
 
 pub overflow_mul-result-2 : goal.overflow_mul-result-2
-overflow_mul-result-2 c = omega (arith, (facts (read c.before)).n_high)
+overflow_mul-result-2 c = omega (arith, (facts (read (goal.at.overflow_mul-result-2 c).Joined-p-eq0)).n_high)

@@ -9,6 +9,7 @@ use Rattle.groups.specs.Group.{group_in}
 use Rattle.groups.specs.Groups.{groups_size}
 use Rattle.groups.specs.Inner.{with_entries}
 use Rattle.groups.proofs.Placing.{entries_none, entries-stored}
+use Rattle.groups.proofs.put_entries.Goals.{In-loop-k, Start}
 use Rattle.groups.proofs.put_entries.Goals as goal
 
 pub loop-k-init : goal.loop-k-init
@@ -17,7 +18,7 @@ loop-k-init c =
     (omega arith, entries_none a.nodes (group_in a.nodes (at a.helpands.now)) a.out.now, refl)
 
 -- ---- a turn: the even entry is stored, then the odd one
-abbrev start : goal.In-loop-k → goal.Start
+abbrev start : In-loop-k → Start
 start c = c.before
 
 pub entries_of-entries-requires : goal.entries_of-entries-requires
@@ -34,7 +35,7 @@ loop-k-preserved c =
     (omega (arith, i.loop-k-test.true), s.0, s.1)
 
 -- the record fits
-fits : (i : goal.In-loop-k) → groups_size (start i).args.nodes ≤ length i.loop-k.out-1
+fits : (i : In-loop-k) → groups_size (start i).args.nodes ≤ length i.loop-k.out-1
 fits i = omega (arith, (start i).requires.1, i.loop-k.invariant.2)
 
 pub returns : goal.returns
@@ -43,15 +44,14 @@ returns c =
     rw e at c.loop-k.invariant.1
 
 pub put_word-requires : goal.put_word-requires
-put_word-requires c = let i = c.before in omega (arith, i.loop-k-test.true, fits i)
+put_word-requires c = omega (arith, c.loop-k-test.true, fits (goal.at.put_word-requires c).In-loop-k)
 
 pub put_word-requires-in-loop-k : goal.put_word-requires-in-loop-k
 put_word-requires-in-loop-k c =
-        let i = c.before in
-    omega (
+        omega (
       arith,
-      i.loop-k-test.true,
-      fits i,
+      c.loop-k-test.true,
+      fits (goal.at.put_word-requires-in-loop-k c).In-loop-k,
       ap length c.put_word.ensures,
-      length_put i.loop-k.out-1 (4 * (1 + i.loop-k.k)) c.entries_of-entries.result.even,
+      length_put c.loop-k.out-1 (4 * (1 + c.loop-k.k)) c.entries_of-entries.result.even,
     )

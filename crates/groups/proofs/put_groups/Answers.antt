@@ -5,12 +5,13 @@ use native.Mathlib.Omega.{arith}
 use Rattle.arrays.specs.Arrays.{at}
 use Rattle.groups.specs.Inner.{Rooted, Groupable}
 use Rattle.groups.proofs.Placing.{groups-placed}
+use Rattle.groups.proofs.put_groups.Goals.{After-own_groups-own, After-slice_known-1}
 use Rattle.groups.proofs.put_groups.Goals as goal
 
-rooted : (c : goal.After-slice_known-1) → Rooted c.args.n (at c.args.helpands)
+rooted : (c : After-slice_known-1) → Rooted c.args.n (at c.args.helpands)
 rooted c = c.requires.0
 
-groupable : (c : goal.After-own_groups-own) →
+groupable : (c : After-own_groups-own) →
     let a = c.args in
     Groupable a.n (at a.helpands) c.distances-distances.result c.own_groups-own.result
 groupable c =
@@ -18,15 +19,14 @@ groupable c =
 
 pub put_entries-requires : goal.put_entries-requires
 put_entries-requires c =
-    let o = c.before in
-    (groupable o, omega (arith, o.requires.1))
+    (groupable (goal.at.put_entries-requires c).After-own_groups-own, omega (arith, c.requires.1))
 
 pub returns : goal.returns
 returns c =
     c.put_entries.ensures ∙ groups-placed c.args.n (at c.args.helpands) c.args.out.now _ c.requires.1 c.put_word.ensures
 
 pub distances-distances-requires : goal.distances-distances-requires
-distances-distances-requires c = rooted c.before
+distances-distances-requires c = rooted (goal.at.distances-distances-requires c).After-slice_known-1
 
 pub own_groups-own-requires : goal.own_groups-own-requires
-own_groups-own-requires c = rooted c.before
+own_groups-own-requires c = rooted (goal.at.own_groups-own-requires c).After-slice_known-1

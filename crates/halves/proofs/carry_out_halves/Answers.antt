@@ -11,6 +11,7 @@ use Rattle.carry.specs.Carry.{carry_answer, next_after}
 use Rattle.carry.proofs.Sizes.{carry_inside}
 use Rattle.halves.specs.Halves.{HalfFirst}
 use Rattle.halves.proofs.Halves.{half_first}
+use Rattle.halves.proofs.carry_out_halves.Goals.{After-firrozka_carry_out-a, Start}
 use Rattle.halves.proofs.carry_out_halves.Goals as goal
 
 -- the request, of answers and buffers that are what the contracts say
@@ -20,8 +21,8 @@ handed-on : (s a b x y : List ℕ) (c d : WrittenAnswer) (x₁ y₁ : List ℕ)
 handed-on s a b x y c d x₁ y₁ e f g h = rw (g, h, f, e) (half_first s a b x y)
 
 -- the first call was answered
-module _ (c : goal.After-firrozka_carry_out-a) where
-  abbrev start : goal.Start
+module _ (c : After-firrozka_carry_out-a) where
+  abbrev start : Start
   start = c.before
   size-inside : c.firrozka_carry_out-a.result.bytes ≤ length start.args.between.now
   size-inside =

@@ -6,6 +6,7 @@ use Rattle.limit.specs.Limit.{max_total, table_size}
 use Rattle.arrays.specs.Arrays.{at}
 use Rattle.inlet.specs.Inner.{Addable}
 use Rattle.inlet.proofs.Adding.{Adding, begin, end, index_below, fits, again}
+use Rattle.inlet.proofs.add_counts.Goals.{After-word_number, After-word_number-c, At-loop-i, In-loop-i, Start}
 use Rattle.inlet.proofs.add_counts.Goals as goal
 
 pub loop-i-init : goal.loop-i-init
@@ -15,18 +16,18 @@ loop-i-init c =
     (p.0, p.1, begin a.table.now a.s.now p.0 a.e p.1)
 
 -- all entries are there
-long : (l : goal.At-loop-i) → let a = l.args in 4 * (3 + 2 * a.e) ≤ length a.s.now
+long : (l : At-loop-i) → let a = l.args in 4 * (3 + 2 * a.e) ≤ length a.s.now
 long l = l.loop-i.invariant.1.entries.long
 
 -- ---- a turn: the cell and the count that were read
-module _ (c : goal.After-word_number) where
-  abbrev cell-read : goal.After-word_number-c
+module _ (c : After-word_number) where
+  abbrev cell-read : After-word_number-c
   cell-read = c.before
-  abbrev turn : goal.In-loop-i
+  abbrev turn : In-loop-i
   turn = cell-read.before
-  abbrev start : goal.Start
+  abbrev start : Start
   start = turn.before
-  abbrev head : goal.At-loop-i
+  abbrev head : At-loop-i
   head = turn.before
   below : cell-read.word_number-c.result < table_size
   below =
@@ -43,14 +44,13 @@ module _ (c : goal.After-word_number) where
 
 pub loop-i-preserved : goal.loop-i-preserved
 loop-i-preserved c =
-    let k = c.before in
-    let a = (start k).args in
-    let l = (head k).loop in
+    let a = (start (goal.at.loop-i-preserved c).After-word_number).args in
+    let l = (head (goal.at.loop-i-preserved c).After-word_number).loop in
     let v = l.inv in (
       v.0,
       v.1,
-      again a.table.now a.s.now v.0 a.e v.1 l.table l.i v.2 (turn k).loop-test.true _ _
-          (cell-read k).word_number.ensures k.word_number.ensures,
+      again a.table.now a.s.now v.0 a.e v.1 l.table l.i v.2 (turn (goal.at.loop-i-preserved c).After-word_number).loop-test.true _ _
+          (cell-read (goal.at.loop-i-preserved c).After-word_number).word_number.ensures c.word_number.ensures,
     )
 
 pub returns : goal.returns
@@ -60,19 +60,19 @@ returns c =
     end a.table.now a.s.now l.invariant.0 a.e l.invariant.1 l.table l.i l.invariant.2 c.loop-i-test.false
 
 pub word_number-c-requires : goal.word_number-c-requires
-word_number-c-requires c = omega (arith, long c.before)
+word_number-c-requires c = omega (arith, long (goal.at.word_number-c-requires c).At-loop-i)
 
 pub word_number-requires : goal.word_number-requires
-word_number-requires c = omega (arith, long c.before)
+word_number-requires c = omega (arith, long (goal.at.word_number-requires c).At-loop-i)
 
 pub offset_bounds-table-c : goal.offset_bounds-table-c
-offset_bounds-table-c c = omega (arith, below c)
+offset_bounds-table-c c = omega (arith, below (goal.at.offset_bounds-table-c c).After-word_number)
 
 pub bounds-table-c : goal.bounds-table-c
-bounds-table-c c = below c
+bounds-table-c c = below (goal.at.bounds-table-c c).After-word_number
 
 pub overflow_add-table : goal.overflow_add-table
-overflow_add-table c = omega (arith, fits-here c.before)
+overflow_add-table c = omega (arith, fits-here (goal.at.overflow_add-table c).After-word_number)
 
 pub bounds-table-c-in-loop-i : goal.bounds-table-c-in-loop-i
-bounds-table-c-in-loop-i c = below c.before
+bounds-table-c-in-loop-i c = below (goal.at.bounds-table-c-in-loop-i c).After-word_number

@@ -6,7 +6,7 @@ use Rattle.inlet.specs.Join.{answer_of}
 use Rattle.inlet.proofs.answer.Goals as goal
 
 pub returns-in-Joined : goal.returns-in-Joined
-returns-in-Joined c = sym (ap answer_of c.j-1.given.1)
+returns-in-Joined c = sym (ap answer_of c.in-Joined.is)
 
 pub returns-in-Refused : goal.returns-in-Refused
-returns-in-Refused c = ap refused c.number.ensures ∙ sym (ap answer_of c.j-in-Refused-1.given.1)
+returns-in-Refused c = ap refused c.number.ensures ∙ sym (ap answer_of c.in-Refused.is)

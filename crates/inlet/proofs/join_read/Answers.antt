@@ -13,11 +13,12 @@ use Rattle.sheet.proofs.Accepted.{Accepted, sheet_unpackable}
 use Rattle.sheet.proofs.Filled.{length_most}
 use Rattle.inlet.specs.Join.{joined_table}
 use Rattle.inlet.proofs.Checks.{first_facts, second_facts, addable, joined_is, ends_nodes, ends_tolerance, ends_total, ends_joined, ends_unwritten}
+use Rattle.inlet.proofs.join_read.Goals.{After-add_counts, After-slice_known-2-1, After-struct_known-2-1, After-struct_known-4-1, After-struct_known-6-1, After-unpack-table, After-write_sheet, Else-a-b, Else-a-b-2, Else-a-b-gt-MAX_TOTAL, Start}
 use Rattle.inlet.proofs.join_read.Goals as goal
 
 -- before the first check
-module _ (c : goal.After-struct_known-2-1) where
-  abbrev start : goal.Start
+module _ (c : After-struct_known-2-1) where
+  abbrev start : Start
   start = c.before
   abbrev first : List ℕ
   first = start.args.first.now
@@ -36,38 +37,36 @@ module _ (c : goal.After-struct_known-2-1) where
 
 pub returns-then-a-b : goal.returns-then-a-b
 returns-then-a-b c =
-    let b = c.before in
-    ends_nodes (start b).requires _ c.if-a-b.true
+    ends_nodes (start (goal.at.returns-then-a-b c).After-struct_known-2-1).requires _ c.if-a-b.true
 
 -- past the test of N
-module _ (c : goal.After-struct_known-4-1) where
-  abbrev nodes-same : goal.Else-a-b
+module _ (c : After-struct_known-4-1) where
+  abbrev nodes-same : Else-a-b
   nodes-same = c.before
 
 pub returns-then-a-b-2 : goal.returns-then-a-b-2
 returns-then-a-b-2 c =
-    let n = nodes-same c.before in
+    let n = nodes-same (goal.at.returns-then-a-b-2 c).After-struct_known-4-1 in
     ends_tolerance (start n.before).pre _ c.if-a-b-2.true
 
 -- past the test of t
-module _ (c : goal.After-struct_known-6-1) where
-  abbrev both-same : goal.Else-a-b-2
+module _ (c : After-struct_known-6-1) where
+  abbrev both-same : Else-a-b-2
   both-same = c.before
-  abbrev begun : goal.After-struct_known-2-1
+  abbrev begun : After-struct_known-2-1
   begun = (nodes-same both-same.before).before
 
 pub returns-then-a-b-gt-MAX_TOTAL : goal.returns-then-a-b-gt-MAX_TOTAL
 returns-then-a-b-gt-MAX_TOTAL c =
-    let k = c.before in
-    ends_total (start (begun k)).pre _ (nodes-same (both-same k).before).if1.left (both-same k).if2.false c.if-a-b-gt-MAX_TOTAL.true
+    ends_total (start (begun (goal.at.returns-then-a-b-gt-MAX_TOTAL c).After-struct_known-6-1)).pre _ (nodes-same (both-same (goal.at.returns-then-a-b-gt-MAX_TOTAL c).After-struct_known-6-1).before).if1.left (both-same (goal.at.returns-then-a-b-gt-MAX_TOTAL c).After-struct_known-6-1).if2.false c.if-a-b-gt-MAX_TOTAL.true
 
 -- past the test of the joint total: the first sheet's table, and the second's counts added to it
-module _ (c : goal.After-add_counts) where
-  abbrev unpacked : goal.After-unpack-table
+module _ (c : After-add_counts) where
+  abbrev unpacked : After-unpack-table
   unpacked = c.before
-  abbrev within : goal.Else-a-b-gt-MAX_TOTAL
+  abbrev within : Else-a-b-gt-MAX_TOTAL
   within = unpacked.before
-  abbrev b₁ : goal.After-struct_known-2-1
+  abbrev b₁ : After-struct_known-2-1
   b₁ = begun within.before
   abbrev table : List ℕ
   table = c.add_counts.new.0
@@ -75,13 +74,13 @@ module _ (c : goal.After-add_counts) where
   table_is = c.add_counts.ensures ∙ joined_is (start b₁).pre unpacked.unpack-table.ensures
 
 -- and the sum was written
-module _ (c : goal.After-write_sheet) where
-  abbrev summed : goal.After-add_counts
+module _ (c : After-write_sheet) where
+  abbrev summed : After-add_counts
   summed = c.before
   abbrev rec : List ℕ
   rec = sheet_bytes (a₀ (b₁ summed)).n (a₀ (b₁ summed)).t (table summed)
 
-abbrev answered : goal.After-slice_known-2-1 → goal.After-write_sheet
+abbrev answered : After-slice_known-2-1 → After-write_sheet
 answered c = c.before
 
 pub returns-in-Bytes : goal.returns-in-Bytes
@@ -100,7 +99,7 @@ returns-in-Short c =
     let p = summed w in
     let e = within p in
     let x = ends_unwritten (start (b₁ p)).pre (out (b₁ p)) (nodes-same (both-same e.before).before).if1.left
-    (both-same e.before).if2.left e.if-a-b-gt-MAX_TOTAL.left (table_is p) (sym c.enum_told-1.given.1 ∙ w.write_sheet.ensures.0) in
+    (both-same e.before).if2.left e.if-a-b-gt-MAX_TOTAL.left (table_is p) (sym c.in-Short.is ∙ w.write_sheet.ensures.0) in
     (x.0, w.write_sheet.ensures.1 ∙ x.1)
 
 -- the length that the writer gives fits
@@ -115,13 +114,13 @@ overflow_cast-result c =
 
 pub add_counts-requires : goal.add_counts-requires
 add_counts-requires c =
-    (_, addable (start (begun c.before)).pre c.unpack-table.ensures c.if-a-b-gt-MAX_TOTAL.false)
+    (_, addable (start (begun (goal.at.add_counts-requires c).After-struct_known-6-1)).pre c.unpack-table.ensures c.if-a-b-gt-MAX_TOTAL.false)
 
 pub overflow_add-a : goal.overflow_add-a
-overflow_add-a c = omega (arith, (facts (begun c)).sum.within, (others (begun c)).sum.within)
+overflow_add-a c = omega (arith, (facts (begun (goal.at.overflow_add-a c).After-struct_known-6-1)).sum.within, (others (begun (goal.at.overflow_add-a c).After-struct_known-6-1)).sum.within)
 
 pub unpack-table-requires : goal.unpack-table-requires
-unpack-table-requires c = (_, sheet_unpackable _ _ (facts (begun c.before)))
+unpack-table-requires c = (_, sheet_unpackable _ _ (facts (begun (goal.at.unpack-table-requires c).After-struct_known-6-1)))
 
 pub write_sheet-requires : goal.write_sheet-requires
-write_sheet-requires c = (facts (b₁ c.before)).n_high
+write_sheet-requires c = (facts (b₁ (goal.at.write_sheet-requires c).After-add_counts)).n_high

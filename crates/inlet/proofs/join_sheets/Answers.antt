@@ -9,11 +9,12 @@ use Rattle.sheet.specs.declared.SheetReading.TheVariants as sheet-way
 use Rattle.sheet.specs.Sheet.{read_sheet, answer_of as sheetAnswer, refusal_number}
 use Rattle.sheet.proofs.Answers.{number_more}
 use Rattle.inlet.proofs.Checks.{ends_first, ends_second}
+use Rattle.inlet.proofs.join_sheets.Goals.{After-read_sheet, After-read_sheet-in-Accepted, In-Accepted-2, Start}
 use Rattle.inlet.proofs.join_sheets.Goals as goal
 
 -- the first sheet was read
-module _ (c : goal.After-read_sheet) where
-  abbrev start : goal.Start
+module _ (c : After-read_sheet) where
+  abbrev start : Start
   start = c.before
   abbrev first : List ℕ
   first = start.args.first.now
@@ -26,26 +27,24 @@ returns-in-Refused c =
     (λ z. omega (arith, number_more r.0.0))
 
 -- it was accepted, and the second was read
-module _ (c : goal.After-read_sheet-in-Accepted) where
-  abbrev accepted : goal.In-Accepted-2
+module _ (c : After-read_sheet-in-Accepted) where
+  abbrev accepted : In-Accepted-2
   accepted = c.before
-  abbrev one : goal.After-read_sheet
+  abbrev one : After-read_sheet
   one = accepted.before
-  first_read : sheetAnswer (sheet-way.Accepted accepted.a-1.given.0.0) ≡ read_sheet (first one)
-  first_read = ap sheetAnswer (sym accepted.a-1.given.1) ∙ one.read_sheet.ensures
+  first_read : sheetAnswer (sheet-way.Accepted accepted.in-Accepted.a) ≡ read_sheet (first one)
+  first_read = ap sheetAnswer (sym accepted.in-Accepted.is) ∙ one.read_sheet.ensures
 
 pub returns-in-Refused-read_sheet : goal.returns-in-Refused-read_sheet
 returns-in-Refused-read_sheet c =
-    let f = c.before in
     let r = c.r-in-Refused-read_sheet-2-1.given in
-    ends_second _ _ _ (ap (λ (x : SheetAnswer). x.refusal) (first_read f)) (refusal_number r.0.0)
-    (ap (λ (x : SheetAnswer). x.refusal) (ap sheetAnswer (sym r.1) ∙ f.read_sheet-in-Accepted.ensures))
+    ends_second _ _ _ (ap (λ (x : SheetAnswer). x.refusal) (first_read (goal.at.returns-in-Refused-read_sheet c).After-read_sheet-in-Accepted)) (refusal_number r.0.0)
+    (ap (λ (x : SheetAnswer). x.refusal) (ap sheetAnswer (sym r.1) ∙ c.read_sheet-in-Accepted.ensures))
     (λ z. omega (arith, number_more r.0.0))
 
 pub join_read-requires : goal.join_read-requires
 join_read-requires c =
-    let f = c.before in
-    record { first = first_read f; second = ap sheetAnswer (sym c.b-1.given.1) ∙ f.read_sheet-in-Accepted.ensures }
+    record { first = first_read (goal.at.join_read-requires c).After-read_sheet-in-Accepted; second = ap sheetAnswer (sym c.in-Accepted-read_sheet.is) ∙ c.read_sheet-in-Accepted.ensures }
 
 pub returns-in-Accepted-read_sheet : goal.returns-in-Accepted-read_sheet
 returns-in-Accepted-read_sheet c = c.join_read.ensures

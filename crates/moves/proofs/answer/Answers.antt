@@ -5,7 +5,7 @@ use Rattle.moves.specs.Moves.{refused, answer_of}
 use Rattle.moves.proofs.answer.Goals as goal
 
 pub returns-in-Accepted : goal.returns-in-Accepted
-returns-in-Accepted c = sym (ap answer_of c.a-1.given.1)
+returns-in-Accepted c = sym (ap answer_of c.in-Accepted.is)
 
 pub returns-in-Refused : goal.returns-in-Refused
-returns-in-Refused c = ap refused c.number.ensures ∙ sym (ap answer_of c.a-in-Refused-1.given.1)
+returns-in-Refused c = ap refused c.number.ensures ∙ sym (ap answer_of c.in-Refused.is)

@@ -13,10 +13,11 @@ use Rattle.limit.specs.Limit.{max_nodes, one_to}
 use Rattle.limit.proofs.Laws.{one-to-is}
 use Rattle.moves.specs.Moves.{refused, head_answer, entries_answer, read_moves}
 use Rattle.words.specs.Checks.{refuse_if}
+use Rattle.moves.proofs.read_moves.Goals.{After-word_number-e, Else-not-one_to}
 use Rattle.moves.proofs.read_moves.Goals as goal
 
 -- past the first test: the two words of the header are those of the list
-module _ (c : goal.After-word_number-e) where
+module _ (c : After-word_number-e) where
   abbrev s : List ℕ
   s = c.args.s.now
   abbrev n : ℕ
@@ -28,11 +29,11 @@ module _ (c : goal.After-word_number-e) where
   head = simp (le-ltb (length s) 8 (omega arith), ← c.word_number-n.ensures, ← c.word_number-e.ensures)
 
 -- N is in its range
-nodes : (c : goal.Else-not-one_to) → one_to max_nodes (n c.before) ≡ true
-nodes c = sym c.one_to.ensures ∙ not-false _ c.if-not-one_to.false
+nodes : (c : Else-not-one_to) → one_to max_nodes (n c.before) ≡ true
+nodes c = sym c.one_to.ensures ∙ c.if-not-one_to.false
 
 -- past the test of N
-ranges : (c : goal.Else-not-one_to) →
+ranges : (c : Else-not-one_to) →
     let w = c.before in
     read_moves (s w)
     ≡ refuse_if (ltb (n w * (n w - 1)) (e w)) (refused 33)
@@ -45,42 +46,34 @@ returns-then-s-lt8 c = simp (lt-ltb (length c.args.s.now) 8 (omega arith))
 
 pub returns-then-not-one_to : goal.returns-then-not-one_to
 returns-then-not-one_to c =
-    let w = c.before in
-    let bad : one_to max_nodes (n w) ≡ false = sym c.one_to.ensures ∙ not-true _ c.if-not-one_to.true in
-    sym (head w ∙ rw bad)
+    let bad : one_to max_nodes (n (goal.at.returns-then-not-one_to c).After-word_number-e) ≡ false = sym c.one_to.ensures ∙ c.if-not-one_to.true in
+    sym (head (goal.at.returns-then-not-one_to c).After-word_number-e ∙ rw bad)
 
 pub overflow_sub-n : goal.overflow_sub-n
-overflow_sub-n c = omega (arith, (one-to-is max_nodes (n c.before) (nodes c)).0)
+overflow_sub-n c = omega (arith, (one-to-is max_nodes (n (goal.at.overflow_sub-n c).After-word_number-e) (nodes (goal.at.overflow_sub-n c).Else-not-one_to)).0)
 
 -- of at most 64 nodes the product fits a word
 pub overflow_mul-n : goal.overflow_mul-n
 overflow_mul-n c =
-    let w = c.before in
-    let high : n w ≤ max_nodes = (one-to-is max_nodes (n w) (nodes c)).1 in
-    let less : n w - 1 ≤ max_nodes = omega arith in
+    let high : n (goal.at.overflow_mul-n c).After-word_number-e ≤ max_nodes = (one-to-is max_nodes (n (goal.at.overflow_mul-n c).After-word_number-e) (nodes (goal.at.overflow_mul-n c).Else-not-one_to)).1 in
+    let less : n (goal.at.overflow_mul-n c).After-word_number-e - 1 ≤ max_nodes = omega arith in
     omega (arith, mul-le-mul high less)
 
 pub returns-then-n-e : goal.returns-then-n-e
 returns-then-n-e c =
-    let w = c.before in
-    sym (ranges c.before ∙ simp (lt-ltb (n w * (n w - 1)) (e w) (omega arith)))
+    sym (ranges (goal.at.returns-then-n-e c).Else-not-one_to ∙ simp (lt-ltb (n (goal.at.returns-then-n-e c).After-word_number-e * (n (goal.at.returns-then-n-e c).After-word_number-e - 1)) (e (goal.at.returns-then-n-e c).After-word_number-e) (omega arith)))
 
 pub returns-then-s-e : goal.returns-then-s-e
 returns-then-s-e c =
-    let two = c.before in
-    let w = two.before in
     sym
-    (ranges two ∙ simp (le-ltb (n w * (n w - 1)) (e w) (omega arith), ne_eqb (length (s w)) (4 * (2 + 2 * e w)) (λ z. omega arith)))
+    (ranges (goal.at.returns-then-s-e c).Else-not-one_to ∙ simp (le-ltb (n (goal.at.returns-then-s-e c).After-word_number-e * (n (goal.at.returns-then-s-e c).After-word_number-e - 1)) (e (goal.at.returns-then-s-e c).After-word_number-e) (omega arith), ne_eqb (length (s (goal.at.returns-then-s-e c).After-word_number-e)) (4 * (2 + 2 * e (goal.at.returns-then-s-e c).After-word_number-e)) (λ z. omega arith)))
 
 pub read_entries-requires : goal.read_entries-requires
 read_entries-requires c =
-    let two = c.before in
-    omega (arith, (one-to-is max_nodes (n two.before) (nodes two)).1)
+    omega (arith, (one-to-is max_nodes (n (goal.at.read_entries-requires c).After-word_number-e) (nodes (goal.at.read_entries-requires c).Else-not-one_to)).1)
 
-pub returns-then-s-lt8 : goal.returns
+pub returns : goal.returns
 returns c =
-    let two = c.before in
-    let w = two.before in
     c.read_entries.ensures
     ∙ sym
-    (ranges two ∙ simp (le-ltb (n w * (n w - 1)) (e w) (omega arith), eq-eqb (length (s w)) (4 * (2 + 2 * e w)) (omega arith)))
+    (ranges (goal.at.returns c).Else-not-one_to ∙ simp (le-ltb (n (goal.at.returns c).After-word_number-e * (n (goal.at.returns c).After-word_number-e - 1)) (e (goal.at.returns c).After-word_number-e) (omega arith), eq-eqb (length (s (goal.at.returns c).After-word_number-e)) (4 * (2 + 2 * e (goal.at.returns c).After-word_number-e)) (omega arith)))

@@ -8,7 +8,7 @@ use Prim.Native.Nat.{ℕ}
 use lib.Dec.{ltb, eqb}
 use borrow.Author.Tests.{lt-ltb, le-ltb}
 use Rattle.moves.specs.Moves.{subdomain, sender, receiver, route_fine}
-use Rattle.moves.proofs.route_fine.Goals.{else-sender-n, else-subdomain-n, then-sender-n, then-subdomain-n}
+use Rattle.moves.proofs.route_fine.Goals.{After-receiver-receiver, Joined-sender-n, Joined-subdomain-n, Start, else-sender-n, else-subdomain-n, then-sender-n, then-subdomain-n}
 use Rattle.moves.proofs.route_fine.Goals as goal
 
 -- with the parts as they were computed
@@ -16,11 +16,11 @@ fine_parts : (n r d s t : ℕ) → d ≡ subdomain r → s ≡ sender r → t �
     → route_fine n r ≡ (ltb d n && (ltb s n && (ltb t n && not (eqb s t))))
 fine_parts n r d s t p q u = rw (p, q, u)
 
-abbrev start : goal.After-receiver-receiver → goal.Start
+abbrev start : After-receiver-receiver → Start
 start c = c.before
 
 -- after two tests
-two : (c : goal.Joined-subdomain-n) (rest : Bool) →
+two : (c : Joined-subdomain-n) (rest : Bool) →
     let k = c.before in
     let n = (start k).args.n in
     (ltb k.subdomain-subdomain.result n && (ltb k.sender-sender.result n && rest)) ≡ (c.if-subdomain-n.if-sender-n && rest)
@@ -30,7 +30,7 @@ two c rest = elim c.if-subdomain-n.branch [
     ]
 
 -- after three
-three : (c : goal.Joined-sender-n) →
+three : (c : Joined-sender-n) →
     let k = c.before in
     route_fine (start k).args.n (start k).args.r ≡ (c.if-sender-n.if-receiver-n && not (eqb k.sender-sender.result k.receiver-receiver.result))
 three c =
@@ -43,7 +43,7 @@ three c =
     ]
 
 pub returns-then-receiver-n : goal.returns-then-receiver-n
-returns-then-receiver-n c = sym (three c.before ∙ rw c.if-receiver-n.true)
+returns-then-receiver-n c = sym (three (goal.at.returns-then-receiver-n c).Joined-sender-n ∙ rw c.if-receiver-n.true)
 
 pub returns-else-receiver-n : goal.returns-else-receiver-n
-returns-else-receiver-n c = sym (three c.before ∙ rw c.if-receiver-n.false)
+returns-else-receiver-n c = sym (three (goal.at.returns-else-receiver-n c).Joined-sender-n ∙ rw c.if-receiver-n.false)

@@ -8,5 +8,5 @@ returns-then-kind-gt2 c = simp (lt-leb _ _ c.if-kind-gt2.true)
 pub returns-then-kind-eq0 : goal.returns-then-kind-eq0
 returns-then-kind-eq0 c = simp (le-leb _ _ c.if-kind-gt2.false, eq-eqb _ _ c.if-kind-eq0.true)
 
-pub returns-then-kind-gt2 : goal.returns
+pub returns : goal.returns
 returns c = simp (le-leb _ _ c.if-kind-gt2.false, ne_eqb _ _ c.if-kind-eq0.false)

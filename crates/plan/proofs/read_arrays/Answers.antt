@@ -11,10 +11,11 @@ use Rattle.plan.proofs.Checks.{checked-passed, checked_refused}
 use Rattle.plan.proofs.Reading.{arrays_helpand, arrays_shape, arrays_share, arrays_fine}
 use Rattle.arrays.specs.Arrays.{at}
 use Rattle.arrays.proofs.Padded.{padded-same}
+use Rattle.plan.proofs.read_arrays.Goals.{After-check_shape-shape, After-helpands_below, After-shares_fine, After-words_64-helpands, Else-not-helpands_below}
 use Rattle.plan.proofs.read_arrays.Goals as goal
 
 -- the array holds the helpands
-same : (c : goal.After-words_64-helpands) →
+same : (c : After-words_64-helpands) →
     let a = c.args in
     at c.words_64-helpands.result ≡ at (helpands_of a.s.now a.n)
 same c =
@@ -22,14 +23,14 @@ same c =
     ap at c.words_64-helpands.ensures ∙ padded-same (helpands_of a.s.now a.n)
 
 -- so each check's answer is of the plan's words
-below : (c : goal.After-helpands_below) →
+below : (c : After-helpands_below) →
     let a = c.args in
     c.helpands_below.result ≡ helpands_below a.n (at (helpands_of a.s.now a.n))
 below c =
     let a = c.args in
     c.helpands_below.ensures ∙ ap (λ (h : ℕ → ℕ). helpands_below a.n h) (same c.before)
 
-shape : (c : goal.After-check_shape-shape) →
+shape : (c : After-check_shape-shape) →
     let a = c.args in
     c.check_shape-shape.result ≡ checked_of (shape_fine a.n a.kind (at (helpands_of a.s.now a.n)))
 shape c =
@@ -37,7 +38,7 @@ shape c =
     let a = w.args in
     c.check_shape-shape.ensures ∙ ap (λ (h : ℕ → ℕ). checked_of (shape_fine a.n a.kind h)) (same w)
 
-fine : (c : goal.After-shares_fine) →
+fine : (c : After-shares_fine) →
     let a = c.args in
     c.shares_fine.result ≡ shares_fine a.n a.limit (at (helpands_of a.s.now a.n)) (at (shares_of a.s.now a.n))
 fine c =
@@ -47,30 +48,27 @@ fine c =
     c.shares_fine.ensures ∙ ap₂ (λ (h x : ℕ → ℕ). shares_fine a.n a.limit h x) (same w) x
 
 -- past the first check
-passed : (c : goal.Else-not-helpands_below) →
+passed : (c : Else-not-helpands_below) →
     let a = c.args in
     helpands_below a.n (at (helpands_of a.s.now a.n)) ≡ true
-passed c = sym (below c.before) ∙ not-false _ c.if-not-helpands_below.false
+passed c = sym (below c.before) ∙ c.if-not-helpands_below.false
 
 pub returns-then-not-helpands_below : goal.returns-then-not-helpands_below
-returns-then-not-helpands_below c = sym (arrays_helpand _ _ _ _ (sym (below c.before) ∙ not-true _ c.if-not-helpands_below.true))
+returns-then-not-helpands_below c = sym (arrays_helpand _ _ _ _ (sym (below (goal.at.returns-then-not-helpands_below c).After-helpands_below) ∙ c.if-not-helpands_below.true))
 
 pub returns-in_default : goal.returns-in_default
 returns-in_default c =
-    let k = c.before in
-    sym (arrays_shape _ _ _ _ (passed k.before) (checked_refused _ (shape k) c.enum_told-in_default-1.given.1))
+    sym (arrays_shape _ _ _ _ (passed (goal.at.returns-in_default c).Else-not-helpands_below) (checked_refused _ (shape (goal.at.returns-in_default c).After-check_shape-shape) c.in_default.is))
 
 pub returns-then-shares_fine : goal.returns-then-shares_fine
 returns-then-shares_fine c =
-    let k = c.before in
-    sym (arrays_fine _ _ _ _ (passed k.before) (checked-passed _ (shape k) c.enum_told-1.given.1)
-    (sym (fine c.before) ∙ c.if-shares_fine.true))
+    sym (arrays_fine _ _ _ _ (passed (goal.at.returns-then-shares_fine c).Else-not-helpands_below) (checked-passed _ (shape (goal.at.returns-then-shares_fine c).After-check_shape-shape) c.in-Passed.is)
+    (sym (fine (goal.at.returns-then-shares_fine c).After-shares_fine) ∙ c.if-shares_fine.true))
 
 pub returns-else-shares_fine : goal.returns-else-shares_fine
 returns-else-shares_fine c =
-    let k = c.before in
-    sym (arrays_share _ _ _ _ (passed k.before) (checked-passed _ (shape k) c.enum_told-1.given.1)
-    (sym (fine c.before) ∙ c.if-shares_fine.false))
+    sym (arrays_share _ _ _ _ (passed (goal.at.returns-else-shares_fine c).Else-not-helpands_below) (checked-passed _ (shape (goal.at.returns-else-shares_fine c).After-check_shape-shape) c.in-Passed.is)
+    (sym (fine (goal.at.returns-else-shares_fine c).After-shares_fine) ∙ c.if-shares_fine.false))
 
 pub check_shape-shape-requires : goal.check_shape-shape-requires
-check_shape-shape-requires c = (search rules, sym c.helpands_below.ensures ∙ not-false _ c.if-not-helpands_below.false)
+check_shape-shape-requires c = (search rules, sym c.helpands_below.ensures ∙ c.if-not-helpands_below.false)

@@ -7,7 +7,7 @@ use Rattle.planner.specs.Step.{refused}
 use Rattle.planner.proofs.not_read.Goals as goal
 
 pub returns-in-Refused : goal.returns-in-Refused
-returns-in-Refused c = ap (λ (r : SheetReading). refused (sheetAnswer r).refusal) (sym c.reading-1.given.1)
+returns-in-Refused c = ap (λ (r : SheetReading). refused (sheetAnswer r).refusal) (sym c.in-Refused.is)
 
 pub returns-in-Accepted : goal.returns-in-Accepted
-returns-in-Accepted c = absurd (c.requires (ap (λ (r : SheetReading). (sheetAnswer r).refusal) c.enum_told-1.given.1))
+returns-in-Accepted c = absurd (c.requires (ap (λ (r : SheetReading). (sheetAnswer r).refusal) c.in-Accepted.is))

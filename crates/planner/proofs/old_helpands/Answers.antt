@@ -20,7 +20,7 @@ without o n xs t e = rw t e
 pub returns-then-tree : goal.returns-then-tree
 returns-then-tree c = let a = c.args in with_tree a.old.now a.nodes _ c.if-tree.true c.words_64.ensures
 
-pub returns-then-tree : goal.returns
+pub returns : goal.returns
 returns c =
     let a = c.args in
     without a.old.now a.nodes _ c.if-tree.false c.own_numbers.ensures

@@ -10,13 +10,14 @@ use Rattle.sheet.proofs.Accepted.{Accepted, sheet_unpackable}
 use Rattle.planner.specs.Step.{answer_of}
 use Rattle.planner.proofs.Facts.{facts, sum-within, old-size}
 use Rattle.planner.proofs.Records.{Here, product_small, before_deciding, here_allotted, here_few, here_long, here_ends}
+use Rattle.planner.proofs.plan_read.Goals.{After-all_moves-e, After-counts-1, After-counts-3-1, After-decide-d, After-old_helpands-helpands, After-slice_known-2-1, After-struct_known-2-1, After-totals-totals, After-unpack-table, After-write_records-arg-2-1, Start}
 use Rattle.planner.proofs.plan_read.Goals as goal
 
 -- before the table is unpacked
-module _ (c : goal.After-struct_known-2-1) where
-  abbrev lent : goal.After-slice_known-2-1
+module _ (c : After-struct_known-2-1) where
+  abbrev lent : After-slice_known-2-1
   lent = c.before
-  abbrev start : goal.Start
+  abbrev start : Start
   start = lent.before
   abbrev sheet : List ℕ
   sheet = start.args.sheet.now
@@ -26,36 +27,34 @@ module _ (c : goal.After-struct_known-2-1) where
   known = facts start.pre
 
 -- the totals were summed
-module _ (c : goal.After-totals-totals) where
-  abbrev unpacked : goal.After-unpack-table
+module _ (c : After-totals-totals) where
+  abbrev unpacked : After-unpack-table
   unpacked = c.before
-  abbrev b₀ : goal.After-struct_known-2-1
+  abbrev b₀ : After-struct_known-2-1
   b₀ = unpacked.before
 
 pub totals-totals-requires : goal.totals-totals-requires
 totals-totals-requires c =
-    let b = c.before in
-    ((known b).n_high, rw c.unpack-table.ensures (sum-within (start b).requires))
+    ((known (goal.at.totals-totals-requires c).After-struct_known-2-1).n_high, rw c.unpack-table.ensures (sum-within (start (goal.at.totals-totals-requires c).After-struct_known-2-1).requires))
 
 pub old_helpands-helpands-requires : goal.old_helpands-helpands-requires
-old_helpands-helpands-requires c = let b = b₀ c in ((known b).n_high, old-size (start b).pre)
+old_helpands-helpands-requires c = let b = b₀ (goal.at.old_helpands-helpands-requires c).After-totals-totals in ((known b).n_high, old-size (start b).pre)
 
 pub decide-d-requires : goal.decide-d-requires
 decide-d-requires c =
-    let t = c.before in
-    let u = unpacked t in
-    let b = b₀ t in
-    let w = before_deciding (start b).pre u.unpack-table.result t.totals-totals.result c.old_helpands-helpands.result
-    u.unpack-table.ensures t.totals-totals.ensures c.old_helpands-helpands.ensures in
-    ((known b).n_low, (known b).n_high, t.totals-totals.ensures, w.0, (known b).sum.within, w.1, w.2)
+    let u = unpacked (goal.at.decide-d-requires c).After-totals-totals in
+    let b = b₀ (goal.at.decide-d-requires c).After-totals-totals in
+    let w = before_deciding (start b).pre u.unpack-table.result c.totals-totals.result c.old_helpands-helpands.result
+    u.unpack-table.ensures c.totals-totals.ensures c.old_helpands-helpands.ensures in
+    ((known b).n_low, (known b).n_high, c.totals-totals.ensures, w.0, (known b).sum.within, w.1, w.2)
 
 -- the decision was made
-module _ (c : goal.After-decide-d) where
-  abbrev read : goal.After-old_helpands-helpands
+module _ (c : After-decide-d) where
+  abbrev read : After-old_helpands-helpands
   read = c.before
-  abbrev summed : goal.After-totals-totals
+  abbrev summed : After-totals-totals
   summed = read.before
-  abbrev begun : goal.After-struct_known-2-1
+  abbrev begun : After-struct_known-2-1
   begun = b₀ summed
   abbrev table : List ℕ
   table = (unpacked summed).unpack.result
@@ -70,7 +69,7 @@ module _ (c : goal.After-decide-d) where
       }
 
 -- the two arrays for the moves are there
-abbrev decided : goal.After-counts-1 → goal.After-decide-d
+abbrev decided : After-counts-1 → After-decide-d
 decided c = c.before
 
 pub all_moves-e-requires : goal.all_moves-e-requires
@@ -86,10 +85,10 @@ all_moves-e-requires c =
     )
 
 -- the moves were worked out
-abbrev handed : goal.After-counts-3-1 → goal.After-write_records-arg-2-1
+abbrev handed : After-counts-3-1 → After-write_records-arg-2-1
 handed c = c.before
 
-abbrev moved : goal.After-counts-3-1 → goal.After-all_moves-e
+abbrev moved : After-counts-3-1 → After-all_moves-e
 moved c = (handed c).before.before.before.before
 
 pub write_records-requires : goal.write_records-requires
@@ -112,4 +111,4 @@ returns c =
     (answer_of c.write_records.result) (start b).args.plan.now (start b).args.moves.now _ _ c.write_records.ensures
 
 pub unpack-table-requires : goal.unpack-table-requires
-unpack-table-requires c = (_, sheet_unpackable _ _ (known c))
+unpack-table-requires c = (_, sheet_unpackable _ _ (known (goal.at.unpack-table-requires c).After-struct_known-2-1))

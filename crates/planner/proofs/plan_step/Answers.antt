@@ -13,11 +13,12 @@ use Rattle.planner.specs.declared.OldPlan.{OldPlan}
 use Rattle.planner.specs.Step.{number_of, old_of, old_read}
 use Rattle.planner.specs.Inner.{StepRead}
 use Rattle.planner.proofs.Ways.{ends_sheet, ends_old, number_more, refusal_more}
+use Rattle.planner.proofs.plan_step.Goals.{After-read_old, After-read_sheet-reading, In-Accepted-2, In_default, Start}
 use Rattle.planner.proofs.plan_step.Goals as goal
 
 -- the sheet was read
-module _ (c : goal.After-read_sheet-reading) where
-  abbrev start : goal.Start
+module _ (c : After-read_sheet-reading) where
+  abbrev start : Start
   start = c.before
   abbrev sheet : List ℕ
   sheet = start.args.sheet.now
@@ -25,26 +26,26 @@ module _ (c : goal.After-read_sheet-reading) where
   old = start.args.old.now
 
 -- it was refused: its number is not 0
-not-zero : (c : goal.In_default) → (sheetAnswer c.read_sheet-reading.result).refusal ≢ 0
-not-zero c = refusal_more _ _ c.enum_told-1.given.1
+not-zero : (c : In_default) → (sheetAnswer c.read_sheet-reading.result).refusal ≢ 0
+not-zero c = refusal_more _ _ c.in_default.is
 
 pub returns-in_default : goal.returns-in_default
 returns-in_default c =
     let k = (sheetAnswer c.read_sheet-reading.result).refusal in
     let e = ap (λ (x : SheetAnswer). x.refusal) c.read_sheet-reading.ensures in
-    let ends = ends_sheet _ _ _ _ k e (not-zero c.before) in
+    let ends = ends_sheet _ _ _ _ k e (not-zero (goal.at.returns-in_default c).In_default) in
     (c.not_read.ensures ∙ ends.0, ends.1)
 
 -- it was accepted, and the old plan read
-module _ (c : goal.After-read_old) where
-  abbrev reading : goal.In-Accepted-2
+module _ (c : After-read_old) where
+  abbrev reading : In-Accepted-2
   reading = c.before
-  abbrev first : goal.After-read_sheet-reading
+  abbrev first : After-read_sheet-reading
   first = reading.before
   abbrev head : Sheet
-  head = reading.reading-1.given.0.0
+  head = reading.in-Accepted.s
   sheet-read : sheetAnswer (Accepted head) ≡ read_sheet (sheet first)
-  sheet-read = ap sheetAnswer (sym reading.reading-1.given.1) ∙ first.read_sheet-reading.ensures
+  sheet-read = ap sheetAnswer (sym reading.in-Accepted.is) ∙ first.read_sheet-reading.ensures
   -- with a tree, or without one
   both_read : (x : OldPlan) (tree : Bool) → c.read_old.result ≡ x → old_of x ≡ old_read tree → StepRead (sheet first) (old first) head tree
   both_read x tree e f = record { sheet = sheet-read; old = sym c.read_old.ensures ∙ ap old_of e ∙ f }
@@ -52,20 +53,19 @@ module _ (c : goal.After-read_old) where
 pub returns-in-Refused : goal.returns-in-Refused
 returns-in-Refused c =
     let r = c.r-1.given in
-    let o = c.before in
-    let f = first o in
-    let refused = ap old_of (sym r.1) ∙ o.read_old.ensures in
-    ends_old _ _ _ _ (head o).n (ap (λ (x : SheetAnswer). x.refusal) (sheet-read o))
-    (ap (λ (x : SheetAnswer). x.n) (sheet-read o)) (number_of r.0.0) refused (number_more r.0.0)
+    let f = first (goal.at.returns-in-Refused c).After-read_old in
+    let refused = ap old_of (sym r.1) ∙ c.read_old.ensures in
+    ends_old _ _ _ _ (head (goal.at.returns-in-Refused c).After-read_old).n (ap (λ (x : SheetAnswer). x.refusal) (sheet-read (goal.at.returns-in-Refused c).After-read_old))
+    (ap (λ (x : SheetAnswer). x.n) (sheet-read (goal.at.returns-in-Refused c).After-read_old)) (number_of r.0.0) refused (number_more r.0.0)
 
 pub not_read-requires : goal.not_read-requires
-not_read-requires c = not-zero c
+not_read-requires c = not-zero (goal.at.not_read-requires c).In_default
 
 pub plan_read-requires : goal.plan_read-requires
-plan_read-requires c = both_read c.before _ true c.enum_told-in-Tree-1.given.1 refl
+plan_read-requires c = both_read (goal.at.plan_read-requires c).After-read_old _ true c.in-Tree.is refl
 
 pub plan_read-requires-in-NoTree : goal.plan_read-requires-in-NoTree
-plan_read-requires-in-NoTree c = both_read c.before _ false c.enum_told-in-NoTree-1.given.1 refl
+plan_read-requires-in-NoTree c = both_read (goal.at.plan_read-requires-in-NoTree c).After-read_old _ false c.in-NoTree.is refl
 
 pub returns-in-Tree : goal.returns-in-Tree
 returns-in-Tree c = c.plan_read.ensures

@@ -7,6 +7,7 @@ use Rattle.plan.specs.declared.PlanReading.TheVariants.{Accepted}
 use Rattle.plan.specs.Plan.{read_plan, answer_of, refusal_number}
 use Rattle.plan.proofs.Answers.{number_more}
 use Rattle.planner.proofs.Ways.{old_empty, old-refused, old_differs, old-primary, old-tree}
+use Rattle.planner.proofs.read_old.Goals.{Else-old-eq0, In-Accepted-2, Start}
 use Rattle.planner.proofs.read_old.Goals as goal
 
 pub returns-then-old-eq0 : goal.returns-then-old-eq0
@@ -15,33 +16,30 @@ returns-then-old-eq0 c =
     old_empty a.old.now a.n c.if-old-eq0.true
 
 -- the plan was accepted
-module _ (c : goal.In-Accepted-2) where
-  abbrev full : goal.Else-old-eq0
+module _ (c : In-Accepted-2) where
+  abbrev full : Else-old-eq0
   full = c.before
-  abbrev start : goal.Start
+  abbrev start : Start
   start = full.before
-  plan_read : answer_of (Accepted c.p-1.given.0.0) ≡ read_plan start.args.old.now
-  plan_read = ap answer_of (sym c.p-1.given.1) ∙ c.read_plan.ensures
+  plan_read : answer_of (Accepted c.in-Accepted.p) ≡ read_plan start.args.old.now
+  plan_read = ap answer_of (sym c.in-Accepted.is) ∙ c.read_plan.ensures
 
 pub returns-then-p-n : goal.returns-then-p-n
 returns-then-p-n c =
-    let p = c.before in
-    old_differs (start p).args.old.now (start p).args.n (full p).if1.false p.p-1.given.0.0 (plan_read p) c.if-p-n.true
+    old_differs (start (goal.at.returns-then-p-n c).In-Accepted-2).args.old.now (start (goal.at.returns-then-p-n c).In-Accepted-2).args.n (full (goal.at.returns-then-p-n c).In-Accepted-2).if1.false c.in-Accepted.p (plan_read (goal.at.returns-then-p-n c).In-Accepted-2) c.if-p-n.true
 
 pub returns-in-Refused : goal.returns-in-Refused
 returns-in-Refused c =
     let a = c.args in
-    let k = refusal_number c.r-1.given.0.0 in
-    let d : k ≡ 0 → ⊥ = λ z. omega (arith, number_more c.r-1.given.0.0) in
-    let e = ap (λ (x : PlanAnswer). x.refusal) (ap answer_of (sym c.r-1.given.1) ∙ c.read_plan.ensures) in
+    let k = refusal_number c.in-Refused.r in
+    let d : k ≡ 0 → ⊥ = λ z. omega (arith, number_more c.in-Refused.r) in
+    let e = ap (λ (x : PlanAnswer). x.refusal) (ap answer_of (sym c.in-Refused.is) ∙ c.read_plan.ensures) in
     old-refused a.old.now a.n c.if-old-eq0.false k e d
 
 pub returns-then-p-eq0 : goal.returns-then-p-eq0
 returns-then-p-eq0 c =
-    let p = c.before in
-    old-primary (start p).args.old.now (start p).args.n (full p).if1.false _ (plan_read p) c.if-p-n.false c.if-p-eq0.true
+    old-primary (start (goal.at.returns-then-p-eq0 c).In-Accepted-2).args.old.now (start (goal.at.returns-then-p-eq0 c).In-Accepted-2).args.n (full (goal.at.returns-then-p-eq0 c).In-Accepted-2).if1.false _ (plan_read (goal.at.returns-then-p-eq0 c).In-Accepted-2) c.if-p-n.false c.if-p-eq0.true
 
 pub returns-else-p-eq0 : goal.returns-else-p-eq0
 returns-else-p-eq0 c =
-    let p = c.before in
-    old-tree (start p).args.old.now (start p).args.n (full p).if1.false _ (plan_read p) c.if-p-n.false c.if-p-eq0.false
+    old-tree (start (goal.at.returns-else-p-eq0 c).In-Accepted-2).args.old.now (start (goal.at.returns-else-p-eq0 c).In-Accepted-2).args.n (full (goal.at.returns-else-p-eq0 c).In-Accepted-2).if1.false _ (plan_read (goal.at.returns-else-p-eq0 c).In-Accepted-2) c.if-p-n.false c.if-p-eq0.false

@@ -11,11 +11,12 @@ use Rattle.plan.proofs.Writing.{length-plan}
 use Rattle.decide.specs.declared.Decision.{Decision}
 use Rattle.planner.specs.Step.{plan_record}
 use Rattle.planner.proofs.Ways.{writes_plan_short, writes_moves_short, writes_both}
+use Rattle.planner.proofs.write_records.Goals.{After-shared_slice_known-2-1, Start}
 use Rattle.planner.proofs.write_records.Goals as goal
 
 -- before the first test
-module _ (c : goal.After-shared_slice_known-2-1) where
-  abbrev start : goal.Start
+module _ (c : After-shared_slice_known-2-1) where
+  abbrev start : Start
   start = c.before
   abbrev d : Decision
   d = start.args.d
@@ -35,19 +36,16 @@ module _ (c : goal.After-shared_slice_known-2-1) where
 
 pub returns-then-plan-plan_size : goal.returns-then-plan-plan_size
 returns-then-plan-plan_size c =
-    let b = c.before in
-    writes_plan_short _ _ _ _ _ _ _ (plan-size b) c.if-plan-plan_size.true
+    writes_plan_short _ _ _ _ _ _ _ (plan-size (goal.at.returns-then-plan-plan_size c).After-shared_slice_known-2-1) c.if-plan-plan_size.true
 
 pub returns-then-moves-moves_size : goal.returns-then-moves-moves_size
 returns-then-moves-moves_size c =
-    let b = c.before in
-    writes_moves_short _ _ _ _ _ _ _ (plan-size b) c.if-plan-plan_size.false _
-    (moves-size b) c.if-moves-moves_size.true
+    writes_moves_short _ _ _ _ _ _ _ (plan-size (goal.at.returns-then-moves-moves_size c).After-shared_slice_known-2-1) c.if-plan-plan_size.false _
+    (moves-size (goal.at.returns-then-moves-moves_size c).After-shared_slice_known-2-1) c.if-moves-moves_size.true
 
-pub returns-then-plan-plan_size : goal.returns
+pub returns : goal.returns
 returns c =
-    let b = c.before in
     let put = c.put_records.ensures in
-    let w = writes_both _ _ _ _ _ _ _ (plan-size b) c.if-plan-plan_size.false _
-    (moves-size b) c.if-moves-moves_size.false in
+    let w = writes_both _ _ _ _ _ _ _ (plan-size (goal.at.returns c).After-shared_slice_known-2-1) c.if-plan-plan_size.false _
+    (moves-size (goal.at.returns c).After-shared_slice_known-2-1) c.if-moves-moves_size.false in
     (w.0, (put.0 ∙ w.1.0, put.1 ∙ w.1.1))

@@ -9,21 +9,21 @@ use Rattle.arrays.specs.Arrays.{tabulate}
 use Rattle.rebuild.specs.Rebuild.{lowest_in_b, new_helpand, new_share}
 use Rattle.rebuild.proofs.Choices.{finish-none, finish-at, helpand_in, helpand-out, share_in, share-out}
 use Rattle.arrays.proofs.Tabulate.{tabulate-none, tabulate-next}
-use Rattle.rebuild.proofs.finish.Goals.{else-in_b, then-in_b}
+use Rattle.rebuild.proofs.finish.Goals.{After-in_b, At-loop-k, In-loop-k, Start, else-in_b, then-in_b}
 use Rattle.rebuild.proofs.finish.Goals as goal
 
 -- the points that the facts below speak of: the start, and the loop's turn
-abbrev begun : goal.At-loop-k → goal.Start
+abbrev begun : At-loop-k → Start
 begun l =
     l.before
 
-abbrev turn-of : goal.After-in_b → goal.In-loop-k
+abbrev turn-of : After-in_b → In-loop-k
 turn-of c = c.before
 
 -- no node is in B
 pub returns-in_default : goal.returns-in_default
 returns-in_default c =
-    sym (finish-none _ _ (sym c.lowest_in_b.ensures ∙ c.enum_told-1.given.1))
+    sym (finish-none _ _ (sym c.lowest_in_b.ensures ∙ c.in_default.is))
 
 pub loop-k-preserved : goal.loop-k-preserved
 loop-k-preserved c =
@@ -32,7 +32,7 @@ loop-k-preserved c =
     let k = l.loop-k.k in
     let v = l.loop-k.inv in
     let o = sym c.in_b.ensures in
-    let root = l.root.given.0.0 in
+    let root = l.in-At.root in
     let h : k < 64 = omega arith in
     elim c.if-in_b.branch [
       | then-in_b w ↦ (
@@ -49,7 +49,7 @@ loop-k-preserved c =
     )
     ]
 
-pub returns-in_default : goal.returns
+pub returns : goal.returns
 returns c =
     let l = c.before in
     let v = l.loop-k.invariant in
@@ -61,7 +61,7 @@ loop-k-init c =
     (
       search rules,
       sym c.lowest_in_b.ensures
-          ∙ c.root-1.given.1,
+          ∙ c.in-At.is,
       sym (tabulate-none _),
       sym (tabulate-none _),
     )

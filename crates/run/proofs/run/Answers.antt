@@ -10,6 +10,7 @@ use Rattle.words.specs.Buffer.{placed}
 use Rattle.text.specs.Split.{split_at}
 use Rattle.text.proofs.Splitting.{split-le}
 use Rattle.run.specs.Run.{text_in, run_text}
+use Rattle.run.proofs.run.Goals.{After-split-at}
 use Rattle.run.proofs.run.Goals as goal
 
 -- the parts before and behind the split
@@ -20,7 +21,7 @@ parts_text s k e =
     ap (text_in (take k s)) behind ∙ ap (λ (j : ℕ). text_in (take j s) (drop j s)) e
 
 -- the split lies within the input
-within : (c : goal.After-split-at) → c.split-at.result ≤ length c.args.input.now
+within : (c : After-split-at) → c.split-at.result ≤ length c.args.input.now
 within c = omega (arith, c.split-at.ensures, split-le c.args.input.now)
 
 pub returns : goal.returns
@@ -29,10 +30,10 @@ returns c =
     (c.step.ensures.0 ∙ ap length same, c.step.ensures.1 ∙ ap (λ (x : List ℕ). placed x c.args.out.now) same)
 
 pub slice_bounds-step-end : goal.slice_bounds-step-end
-slice_bounds-step-end c = sym (length-take-le _ _ (within c.before))
+slice_bounds-step-end c = sym (length-take-le _ _ (within (goal.at.slice_bounds-step-end c).After-split-at))
 
 pub slice_bounds-step-count : goal.slice_bounds-step-count
-slice_bounds-step-count c = within c.before
+slice_bounds-step-count c = within (goal.at.slice_bounds-step-count c).After-split-at
 
 pub slice_bounds-step-start : goal.slice_bounds-step-start
-slice_bounds-step-start c = within c.before
+slice_bounds-step-start c = within (goal.at.slice_bounds-step-start c).After-split-at

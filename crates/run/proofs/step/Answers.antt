@@ -9,15 +9,16 @@ use lib.Seq.{length-take-le}
 use Rattle.words.specs.Buffer.{placed}
 use Rattle.run.specs.Run.{plan_size, moves_size}
 use Rattle.run.proofs.Planned.{Answered, number_text, plan_in_front, moves_in_front, fronts_printable, fronts_text}
+use Rattle.run.proofs.step.Goals.{After-answer-answer, After-moves-3-1, After-plan-1, After-plan_step, Else-answer-ne0, Start}
 use Rattle.run.proofs.step.Goals as goal
 
 -- the step was planned or refused
-module _ (c : goal.After-answer-answer) where
-  abbrev step : goal.After-plan_step
+module _ (c : After-answer-answer) where
+  abbrev step : After-plan_step
   step = c.before
-  abbrev lent : goal.After-plan-1
+  abbrev lent : After-plan-1
   lent = step.before
-  abbrev start : goal.Start
+  abbrev start : Start
   start = lent.before
   abbrev out : List ℕ
   out = start.args.out.now
@@ -40,21 +41,20 @@ module _ (c : goal.After-answer-answer) where
 
 pub returns-then-answer-ne0 : goal.returns-then-answer-ne0
 returns-then-answer-ne0 c =
-    let a = c.before in
-    let same = number_text (answered a) c.if-answer-ne0.true in
-    (c.write_refused.ensures.0 ∙ ap length same, c.write_refused.ensures.1 ∙ ap (λ (x : List ℕ). placed x (out a)) same)
+    let same = number_text (answered (goal.at.returns-then-answer-ne0 c).After-answer-answer) c.if-answer-ne0.true in
+    (c.write_refused.ensures.0 ∙ ap length same, c.write_refused.ensures.1 ∙ ap (λ (x : List ℕ). placed x (out (goal.at.returns-then-answer-ne0 c).After-answer-answer)) same)
 
 -- it was planned
-abbrev planned : goal.Else-answer-ne0 → goal.After-answer-answer
+abbrev planned : Else-answer-ne0 → After-answer-answer
 planned c = c.before
 
-plan-within : (c : goal.Else-answer-ne0) → (planned c).answer.result.plan ≤ length (plan (planned c))
+plan-within : (c : Else-answer-ne0) → (planned c).answer.result.plan ≤ length (plan (planned c))
 plan-within c = (plan_in_front (answered (planned c)) c.if-answer-ne0.false).within
 
-moves-within : (c : goal.Else-answer-ne0) → (planned c).answer.result.moves ≤ length (moves (planned c))
+moves-within : (c : Else-answer-ne0) → (planned c).answer.result.moves ≤ length (moves (planned c))
 moves-within c = (moves_in_front (answered (planned c)) c.if-answer-ne0.false).within
 
-abbrev accepted : goal.After-moves-3-1 → goal.Else-answer-ne0
+abbrev accepted : After-moves-3-1 → Else-answer-ne0
 accepted c = c.before
 
 pub write_records-requires : goal.write_records-requires
@@ -62,20 +62,20 @@ write_records-requires c =
     let e = accepted c.before in
     (fronts_printable (answered (planned e)) e.if-answer-ne0.left, (start (planned e)).pre)
 
-pub returns-then-answer-ne0 : goal.returns
+pub returns : goal.returns
 returns c =
     let e = accepted c.before in
     let same = fronts_text (answered (planned e)) e.if-answer-ne0.left in
     (c.write_records.ensures.0 ∙ ap length same, c.write_records.ensures.1 ∙ ap (λ (x : List ℕ). placed x (out (planned e))) same)
 
 pub slice_bounds-plan-end : goal.slice_bounds-plan-end
-slice_bounds-plan-end c = plan-within c.before
+slice_bounds-plan-end c = plan-within (goal.at.slice_bounds-plan-end c).Else-answer-ne0
 
 pub slice_bounds-write_records-end : goal.slice_bounds-write_records-end
-slice_bounds-write_records-end c = sym (length-take-le _ _ (plan-within c.before))
+slice_bounds-write_records-end c = sym (length-take-le _ _ (plan-within (goal.at.slice_bounds-write_records-end c).Else-answer-ne0))
 
 pub slice_bounds-moves-end : goal.slice_bounds-moves-end
-slice_bounds-moves-end c = moves-within c.before
+slice_bounds-moves-end c = moves-within (goal.at.slice_bounds-moves-end c).Else-answer-ne0
 
 pub slice_bounds-write_records-end-2 : goal.slice_bounds-write_records-end-2
 slice_bounds-write_records-end-2 c = sym (length-take-le _ _ (moves-within (accepted c)))

@@ -15,7 +15,7 @@ returns-then-affords c =
           c.divide_with.ensures.1,
     )
 
-pub returns-then-affords : goal.returns
+pub returns : goal.returns
 returns c =
     let a = c.args in (
       c.divide_with-2.ensures.0,

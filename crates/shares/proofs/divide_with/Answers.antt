@@ -23,7 +23,7 @@ fill-requires c =
           a.shares.now _ c.keep-kept.ensures.4 c.keep-kept.ensures.0 c.keep-kept.ensures.2,
     )
 
-pub returns-then-kept-eq0 : goal.returns
+pub returns : goal.returns
 returns c =
     let a = c.args in (
       c.fill.ensures.0,

@@ -8,10 +8,11 @@ use Rattle.limit.specs.Limit.{max_total}
 use Rattle.words.proofs.Words.{part_more, part_end}
 use Rattle.sheet.specs.Sheet.{counts_of, running_sum}
 use Rattle.sheet.proofs.Laws.{running_more, running_none, running_over}
+use Rattle.sheet.proofs.sum_counts.Goals.{After-word_number-c}
 use Rattle.sheet.proofs.sum_counts.Goals as goal
 
 -- after a word is read: what is left begins with it
-here : (c : goal.After-word_number-c) →
+here : (c : After-word_number-c) →
     let a = c.args in
     running_sum 0 (counts_of a.s.now a.e) ≡ running_sum c.loop-i.sum
     (c.word_number-c.result ∷ drop (c.loop-i.i + 1) (counts_of a.s.now a.e))
@@ -30,10 +31,10 @@ pub loop-i-init : goal.loop-i-init
 loop-i-init c = (omega arith, omega arith, refl)
 
 pub returns-then-c-eq0 : goal.returns-then-c-eq0
-returns-then-c-eq0 c = sym (here c.before ∙ running_none _ _ _ c.if-c-eq0.true)
+returns-then-c-eq0 c = sym (here (goal.at.returns-then-c-eq0 c).After-word_number-c ∙ running_none _ _ _ c.if-c-eq0.true)
 
 pub returns-then-sum-c : goal.returns-then-sum-c
-returns-then-sum-c c = sym (here c.before ∙ running_over _ _ _ c.if-c-eq0.false (omega arith))
+returns-then-sum-c c = sym (here (goal.at.returns-then-sum-c c).After-word_number-c ∙ running_over _ _ _ c.if-c-eq0.false (omega arith))
 
 pub loop-i-preserved : goal.loop-i-preserved
-loop-i-preserved c = (omega arith, omega arith, here c.before ∙ running_more _ _ _ c.if-c-eq0.false (omega arith))
+loop-i-preserved c = (omega arith, omega arith, here (goal.at.loop-i-preserved c).After-word_number-c ∙ running_more _ _ _ c.if-c-eq0.false (omega arith))

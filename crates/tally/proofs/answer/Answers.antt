@@ -13,4 +13,4 @@ returns-in-Holding c =
     ap (λ (x : ℕ). record { refusal = 0; holds = x }) (bool-number t.0.0) ∙ sym (ap answer_of t.1)
 
 pub returns-in-Refused : goal.returns-in-Refused
-returns-in-Refused c = ap refused c.number.ensures ∙ sym (ap answer_of c.t-in-Refused-1.given.1)
+returns-in-Refused c = ap refused c.number.ensures ∙ sym (ap answer_of c.in-Refused.is)

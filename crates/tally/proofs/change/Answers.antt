@@ -12,18 +12,19 @@ use Rattle.tally.specs.declared.Head.{Head}
 use Rattle.tally.specs.Layout.{total_at, count_at}
 use Rattle.tally.specs.Inner.{named, amount_number, checked_number}
 use Rattle.tally.proofs.Calling.{ends_unnamed, ends_amounts, ends_changed, few, named-holder, named-subdomain, changeable, total_countable}
+use Rattle.tally.proofs.change.Goals.{After-cell, After-change_cells, After-check_amounts, Else-not-is_named, In-Passed, Start}
 use Rattle.tally.proofs.change.Goals as goal
 
 pub returns-then-not-is_named : goal.returns-then-not-is_named
 returns-then-not-is_named c =
     let a = c.args in
     let x = ends_unnamed a.h a.cells.now a.adds a.holder a.subdomain a.count
-    (sym c.is_named.ensures ∙ not-true _ c.if-not-is_named.true) in
+    (sym c.is_named.ensures ∙ c.if-not-is_named.true) in
     (rw c.answer.ensures x.0, x.1)
 
 -- the call names a cell
-module _ (c : goal.Else-not-is_named) where
-  abbrev start : goal.Start
+module _ (c : Else-not-is_named) where
+  abbrev start : Start
   start = c.before
   abbrev head : Head
   head = start.args.h
@@ -38,7 +39,7 @@ module _ (c : goal.Else-not-is_named) where
   abbrev count : ℕ
   count = start.args.count
   is-named : named head.n (at head.helpands-1) holder subdomain count ≡ true
-  is-named = sym c.is_named.ensures ∙ not-false _ c.if-not-is_named.false
+  is-named = sym c.is_named.ensures ∙ c.if-not-is_named.false
   holder-below : holder < 64
   holder-below = named-holder head cells adds holder subdomain count is-named
   subdomain_below : subdomain < 64
@@ -47,14 +48,14 @@ module _ (c : goal.Else-not-is_named) where
   abbrev amounts : ℕ
   amounts = amount_number (count_at cells (cell holder subdomain)) (total_at cells subdomain) head.total count adds
 
-cell_below : (c : goal.After-cell) → 128 + c.cell.result < 4224
+cell_below : (c : After-cell) → 128 + c.cell.result < 4224
 cell_below c = omega (arith, c.cell.ensures, holder-below c.before, subdomain_below c.before)
 
 -- the amounts were checked
-module _ (c : goal.After-check_amounts) where
-  abbrev at-cell : goal.After-cell
+module _ (c : After-check_amounts) where
+  abbrev at-cell : After-cell
   at-cell = c.before
-  abbrev past-named : goal.Else-not-is_named
+  abbrev past-named : Else-not-is_named
   past-named = at-cell.before
   checked : checked_number c.check_amounts.result ≡ amounts past-named
   checked =
@@ -66,27 +67,25 @@ module _ (c : goal.After-check_amounts) where
 pub returns-in-Refused : goal.returns-in-Refused
 returns-in-Refused c =
     let r = c.r-1.given in
-    let a = c.before in
-    let p = past-named a in
+    let p = past-named (goal.at.returns-in-Refused c).After-check_amounts in
     let x = ends_amounts (head p) (cells p) (adds p) (holder p) (subdomain p) (count p) (is-named p) r.0.0
-    (ap checked_number (sym r.1) ∙ checked a) in
+    (ap checked_number (sym r.1) ∙ checked (goal.at.returns-in-Refused c).After-check_amounts) in
     (rw c.answer-in-Refused.ensures x.0, x.1)
 
 -- they pass
-module _ (c : goal.In-Passed) where
-  abbrev named-call : goal.Else-not-is_named
+module _ (c : In-Passed) where
+  abbrev named-call : Else-not-is_named
   named-call = past-named c.before
   passed : 0 ≡ amounts named-call
-  passed = ap checked_number (sym c.enum_told-1.given.1) ∙ checked c.before
+  passed = ap checked_number (sym c.in-Passed.is) ∙ checked c.before
 
 pub change_cells-requires : goal.change_cells-requires
 change_cells-requires c =
-    let e = c.before in
-    let p = named-call e in
-    changeable (head p) (cells p) (adds p) (holder p) (subdomain p) (count p) (is-named p) (passed e)
+    let p = named-call (goal.at.change_cells-requires c).In-Passed in
+    changeable (head p) (cells p) (adds p) (holder p) (subdomain p) (count p) (is-named p) (passed (goal.at.change_cells-requires c).In-Passed)
 
 -- the cells were changed
-abbrev told : goal.After-change_cells → goal.In-Passed
+abbrev told : After-change_cells → In-Passed
 told c = c.before
 
 pub holds-requires : goal.holds-requires
@@ -110,13 +109,13 @@ returns-in-Passed c =
     (rw (c.answer-in-Passed.ensures, c.holds.ensures, c.count_in.ensures) x.0, x.1)
 
 pub cell-requires : goal.cell-requires
-cell-requires c = (holder-below c, omega (arith, subdomain_below c))
+cell-requires c = (holder-below (goal.at.cell-requires c).Else-not-is_named, omega (arith, subdomain_below (goal.at.cell-requires c).Else-not-is_named))
 
 pub overflow_add-has : goal.overflow_add-has
-overflow_add-has c = omega (arith, cell_below c)
+overflow_add-has c = omega (arith, cell_below (goal.at.overflow_add-has c).After-cell)
 
 pub bounds-cells-cell : goal.bounds-cells-cell
-bounds-cells-cell c = cell_below c
+bounds-cells-cell c = cell_below (goal.at.bounds-cells-cell c).After-cell
 
 pub bounds-cells-n : goal.bounds-cells-n
-bounds-cells-n c = omega (arith, subdomain_below c.before)
+bounds-cells-n c = omega (arith, subdomain_below (goal.at.bounds-cells-n c).Else-not-is_named)

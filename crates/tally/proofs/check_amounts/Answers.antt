@@ -17,7 +17,7 @@ pub returns-then-adds : goal.returns-then-adds
 returns-then-adds c =
     rw (le-leb _ _ c.if-has-own.false, le-leb _ _ c.if-own-total.false, c.if-adds.true, ← c.exceeds.ensures, c.if-exceeds.false)
 
-pub returns-then-has-own : goal.returns
+pub returns : goal.returns
 returns c =
     rw (le-leb _ _ c.if-has-own.false, le-leb _ _ c.if-own-total.false, c.if-adds.false, le-ltb _ _ c.if-has-count.false)
 

@@ -17,7 +17,7 @@ pub returns-then-count-eq0 : goal.returns-then-count-eq0
 returns-then-count-eq0 c =
     rw (le-leb _ _ c.if-n-gt-MAX_NODES.false, lt-ltb _ _ c.if-holder-n.false, lt-ltb _ _ c.if-subdomain-n.false, eq-eqb _ _ c.if-count-eq0.true)
 
-pub returns-then-n-gt-MAX_NODES : goal.returns
+pub returns : goal.returns
 returns c =
     rw (le-leb _ _ c.if-n-gt-MAX_NODES.false, lt-ltb _ _ c.if-holder-n.false, lt-ltb _ _ c.if-subdomain-n.false, ne_eqb _ _ c.if-count-eq0.false)
     c.helpands_below.ensures

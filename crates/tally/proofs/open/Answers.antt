@@ -13,7 +13,7 @@ returns-in-Refused c =
 
 pub open_read-requires : goal.open_read-requires
 open_read-requires c =
-    pair-accepted _ _ c.read_pair.ensures c.s-1.given.1
+    pair-accepted _ _ c.read_pair.ensures c.in-Accepted.is
 
 pub returns-in-Accepted : goal.returns-in-Accepted
 returns-in-Accepted c = c.open_read.ensures

@@ -9,10 +9,11 @@ use Rattle.sheet.proofs.Accepted.{Accepted, sheet_unpackable}
 use Rattle.plan.proofs.Accepted.{plan-accepted}
 use Rattle.weigh.proofs.Checks.{facts, sum-within, array_tree}
 use Rattle.tally.proofs.Opening.{ends_opened}
+use Rattle.tally.proofs.open_read.Goals.{After-struct_known-2-1, Start}
 use Rattle.tally.proofs.open_read.Goals as goal
 
-module _ (c : goal.After-struct_known-2-1) where
-  abbrev start : goal.Start
+module _ (c : After-struct_known-2-1) where
+  abbrev start : Start
   start = c.before
   abbrev sheet : List ℕ
   sheet = start.args.sheet.now
@@ -23,28 +24,25 @@ module _ (c : goal.After-struct_known-2-1) where
 
 pub totals-totals-requires : goal.totals-totals-requires
 totals-totals-requires c =
-    let s = c.before in
-    ((read s).n_high, rw c.unpack-table.ensures (sum-within (sheet s) (plan s) (start s).args.s (start s).requires))
+    ((read (goal.at.totals-totals-requires c).After-struct_known-2-1).n_high, rw c.unpack-table.ensures (sum-within (sheet (goal.at.totals-totals-requires c).After-struct_known-2-1) (plan (goal.at.totals-totals-requires c).After-struct_known-2-1) (start (goal.at.totals-totals-requires c).After-struct_known-2-1).args.s (start (goal.at.totals-totals-requires c).After-struct_known-2-1).requires))
 
 pub words_64-helpands-requires : goal.words_64-helpands-requires
 words_64-helpands-requires c =
-    let s = c.before in
-    let w = (start s).requires in
-    (omega (arith, (plan-accepted (plan s) w.plan).size, w.nodes), (read s).n_high)
+    let w = (start (goal.at.words_64-helpands-requires c).After-struct_known-2-1).requires in
+    (omega (arith, (plan-accepted (plan (goal.at.words_64-helpands-requires c).After-struct_known-2-1) w.plan).size, w.nodes), (read (goal.at.words_64-helpands-requires c).After-struct_known-2-1).n_high)
 
 pub tree_leasts-leasts-requires : goal.tree_leasts-leasts-requires
 tree_leasts-leasts-requires c =
-    let s = c.before in
-    ((read s).n_high, rw c.words_64-helpands.ensures (array_tree (sheet s) (plan s) (start s).args.s (start s).requires))
+    ((read (goal.at.tree_leasts-leasts-requires c).After-struct_known-2-1).n_high, rw c.words_64-helpands.ensures (array_tree (sheet (goal.at.tree_leasts-leasts-requires c).After-struct_known-2-1) (plan (goal.at.tree_leasts-leasts-requires c).After-struct_known-2-1) (start (goal.at.tree_leasts-leasts-requires c).After-struct_known-2-1).args.s (start (goal.at.tree_leasts-leasts-requires c).After-struct_known-2-1).requires))
 
 pub returns : goal.returns
 returns c =
-    let x = ends_opened (start c.before).pre c.unpack-table.ensures c.totals-totals.ensures c.words_64-helpands.ensures
+    let x = ends_opened (start (goal.at.returns c).After-struct_known-2-1).pre c.unpack-table.ensures c.totals-totals.ensures c.words_64-helpands.ensures
     c.tree_leasts-leasts.ensures c.lay_out.ensures in
     (rw (c.answer.ensures, c.holds-holds.ensures) x.0, x.1)
 
 pub unpack-table-requires : goal.unpack-table-requires
-unpack-table-requires c = (_, sheet_unpackable _ _ (read c))
+unpack-table-requires c = (_, sheet_unpackable _ _ (read (goal.at.unpack-table-requires c).After-struct_known-2-1))
 
 pub holds-holds-requires : goal.holds-holds-requires
-holds-holds-requires c = (read c.before).n_high
+holds-holds-requires c = (read (goal.at.holds-holds-requires c).After-struct_known-2-1).n_high

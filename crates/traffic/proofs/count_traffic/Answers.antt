@@ -12,6 +12,7 @@ use Rattle.moves.specs.Moves.{sender, receiver, routes_of, counts_of}
 use Rattle.transfer.specs.Apply.{moved}
 use Rattle.transfer.proofs.Applied.{Entry, entry_read, moved_from, moved-from-none, moved-from_more, moved-from-here, plus-at}
 use Rattle.transfer.proofs.Counts.{moved-most}
+use Rattle.traffic.proofs.count_traffic.Goals.{After-receiver, After-sender, After-word_number-count, At-loop-i, In-loop-i, Start}
 use Rattle.traffic.proofs.count_traffic.Invariants.{Column}
 use Rattle.traffic.proofs.count_traffic.Goals as goal
 
@@ -49,12 +50,12 @@ loop-i-init c =
     (omega arith, none sender a.moves.now a.e, none receiver a.moves.now a.e)
 
 -- ---- the entry that was read
-module _ (c : goal.After-word_number-count) where
-  abbrev turn : goal.In-loop-i
+module _ (c : After-word_number-count) where
+  abbrev turn : In-loop-i
   turn = c.before
-  abbrev head : goal.At-loop-i
+  abbrev head : At-loop-i
   head = turn.before
-  abbrev start : goal.Start
+  abbrev start : Start
   start = head.before
   abbrev route : ℕ
   route = c.word_number-r.result
@@ -65,8 +66,8 @@ module _ (c : goal.After-word_number-count) where
       entry_read _ _ _ start.pre.entries turn.loop-i-test.true _ _ c.word_number-r.ensures c.word_number-count.ensures
 
 -- the sender was taken from it
-module _ (c : goal.After-sender) where
-  abbrev entry : goal.After-word_number-count
+module _ (c : After-sender) where
+  abbrev entry : After-word_number-count
   entry = c.before
   sender-lt : c.sender.result < 64
   sender-lt = omega (arith, c.sender.ensures)
@@ -78,8 +79,8 @@ module _ (c : goal.After-sender) where
       c.sender.result c.sender.ensures
 
 -- and the receiver
-module _ (c : goal.After-receiver) where
-  abbrev before : goal.After-sender
+module _ (c : After-receiver) where
+  abbrev before : After-sender
   before = c.before
   receiver-lt : c.receiver.result < 64
   receiver-lt = omega (arith, c.receiver.ensures)
@@ -93,7 +94,7 @@ module _ (c : goal.After-receiver) where
 
 pub loop-i-preserved : goal.loop-i-preserved
 loop-i-preserved c =
-    let s = before c in
+    let s = before (goal.at.loop-i-preserved c).After-receiver in
     let w = entry s in
     let l = (head w).loop in
     let a = (start w).args in (
@@ -114,25 +115,25 @@ returns c =
     }
 
 pub offset_bounds-sent-sender : goal.offset_bounds-sent-sender
-offset_bounds-sent-sender c = omega (arith, sender-lt c)
+offset_bounds-sent-sender c = omega (arith, sender-lt (goal.at.offset_bounds-sent-sender c).After-sender)
 
 pub bounds-sent-sender : goal.bounds-sent-sender
-bounds-sent-sender c = omega (arith, sender-lt c)
+bounds-sent-sender c = omega (arith, sender-lt (goal.at.bounds-sent-sender c).After-sender)
 
 pub overflow_add-sent : goal.overflow_add-sent
-overflow_add-sent c = omega (arith, sent-fits c)
+overflow_add-sent c = omega (arith, sent-fits (goal.at.overflow_add-sent c).After-sender)
 
 pub bounds-sent-sender-in-loop-i : goal.bounds-sent-sender-in-loop-i
-bounds-sent-sender-in-loop-i c = omega (arith, sender-lt c)
+bounds-sent-sender-in-loop-i c = omega (arith, sender-lt (goal.at.bounds-sent-sender-in-loop-i c).After-sender)
 
 pub offset_bounds-received-receiver : goal.offset_bounds-received-receiver
-offset_bounds-received-receiver c = omega (arith, receiver-lt c)
+offset_bounds-received-receiver c = omega (arith, receiver-lt (goal.at.offset_bounds-received-receiver c).After-receiver)
 
 pub bounds-received-receiver : goal.bounds-received-receiver
-bounds-received-receiver c = omega (arith, receiver-lt c)
+bounds-received-receiver c = omega (arith, receiver-lt (goal.at.bounds-received-receiver c).After-receiver)
 
 pub overflow_add-received : goal.overflow_add-received
-overflow_add-received c = omega (arith, received-fits c)
+overflow_add-received c = omega (arith, received-fits (goal.at.overflow_add-received c).After-receiver)
 
 pub bounds-received-receiver-in-loop-i : goal.bounds-received-receiver-in-loop-i
-bounds-received-receiver-in-loop-i c = omega (arith, receiver-lt c)
+bounds-received-receiver-in-loop-i c = omega (arith, receiver-lt (goal.at.bounds-received-receiver-in-loop-i c).After-receiver)

@@ -11,7 +11,7 @@ returns-in-Refused c =
 
 pub page_read-requires : goal.page_read-requires
 page_read-requires c =
-    pair-accepted _ _ c.read_pair.ensures c.s-1.given.1
+    pair-accepted _ _ c.read_pair.ensures c.in-Accepted.is
 
 pub returns-in-Accepted : goal.returns-in-Accepted
 returns-in-Accepted c = c.page_read.ensures

@@ -12,4 +12,4 @@ returns-in-Weighed c =
     ap (λ (x : ℕ). record { refusal = 0; holds = x }) (bool-number w.0.0) ∙ sym (ap answer_of w.1)
 
 pub returns-in-Refused : goal.returns-in-Refused
-returns-in-Refused c = ap refused c.number.ensures ∙ sym (ap answer_of c.w-in-Refused-1.given.1)
+returns-in-Refused c = ap refused c.number.ensures ∙ sym (ap answer_of c.in-Refused.is)

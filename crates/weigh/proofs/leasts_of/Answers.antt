@@ -9,10 +9,11 @@ use Rattle.sheet.proofs.Accepted.{Accepted, sheet_unpackable}
 use Rattle.plan.proofs.Accepted.{plan-accepted}
 use Rattle.weigh.proofs.Checks.{facts, sum-within, array_tree}
 use Rattle.weigh.proofs.Weighed.{leasts-read}
+use Rattle.weigh.proofs.leasts_of.Goals.{After-struct_known-2-1, Start}
 use Rattle.weigh.proofs.leasts_of.Goals as goal
 
-module _ (c : goal.After-struct_known-2-1) where
-  abbrev start : goal.Start
+module _ (c : After-struct_known-2-1) where
+  abbrev start : Start
   start = c.before
   abbrev sheet : List ℕ
   sheet = start.args.sheet.now
@@ -22,26 +23,22 @@ module _ (c : goal.After-struct_known-2-1) where
   read = facts sheet plan start.args.s start.pre
 
 pub unpack-table-requires : goal.unpack-table-requires
-unpack-table-requires c = (_, sheet_unpackable _ _ (read c))
+unpack-table-requires c = (_, sheet_unpackable _ _ (read (goal.at.unpack-table-requires c).After-struct_known-2-1))
 
 pub totals-totals-requires : goal.totals-totals-requires
 totals-totals-requires c =
-    let s = c.before in
-    ((read s).n_high, rw c.unpack-table.ensures (sum-within (sheet s) (plan s) (start s).args.s (start s).requires))
+    ((read (goal.at.totals-totals-requires c).After-struct_known-2-1).n_high, rw c.unpack-table.ensures (sum-within (sheet (goal.at.totals-totals-requires c).After-struct_known-2-1) (plan (goal.at.totals-totals-requires c).After-struct_known-2-1) (start (goal.at.totals-totals-requires c).After-struct_known-2-1).args.s (start (goal.at.totals-totals-requires c).After-struct_known-2-1).requires))
 
 pub words_64-helpands-requires : goal.words_64-helpands-requires
 words_64-helpands-requires c =
-    let s = c.before in
-    let w = (start s).requires in
-    (omega (arith, (plan-accepted (plan s) w.plan).size, w.nodes), (read s).n_high)
+    let w = (start (goal.at.words_64-helpands-requires c).After-struct_known-2-1).requires in
+    (omega (arith, (plan-accepted (plan (goal.at.words_64-helpands-requires c).After-struct_known-2-1) w.plan).size, w.nodes), (read (goal.at.words_64-helpands-requires c).After-struct_known-2-1).n_high)
 
 pub tree_leasts-requires : goal.tree_leasts-requires
 tree_leasts-requires c =
-    let s = c.before in
-    ((read s).n_high, rw c.words_64-helpands.ensures (array_tree (sheet s) (plan s) (start s).args.s (start s).requires))
+    ((read (goal.at.tree_leasts-requires c).After-struct_known-2-1).n_high, rw c.words_64-helpands.ensures (array_tree (sheet (goal.at.tree_leasts-requires c).After-struct_known-2-1) (plan (goal.at.tree_leasts-requires c).After-struct_known-2-1) (start (goal.at.tree_leasts-requires c).After-struct_known-2-1).args.s (start (goal.at.tree_leasts-requires c).After-struct_known-2-1).requires))
 
 pub returns : goal.returns
 returns c =
-    let s = c.before in
-    leasts-read (sheet s) (plan s) (start s).args.s (start s).requires c.unpack-table.result c.totals-totals.result c.words_64-helpands.result
+    leasts-read (sheet (goal.at.returns c).After-struct_known-2-1) (plan (goal.at.returns c).After-struct_known-2-1) (start (goal.at.returns c).After-struct_known-2-1).args.s (start (goal.at.returns c).After-struct_known-2-1).requires c.unpack-table.result c.totals-totals.result c.words_64-helpands.result
     c.tree_leasts.result c.unpack-table.ensures c.totals-totals.ensures c.words_64-helpands.ensures c.tree_leasts.ensures

@@ -14,11 +14,12 @@ use Rattle.plan.proofs.Answers.{number_more as plan-more}
 use Rattle.weigh.specs.declared.check.CheckRefusal.TheVariants.{Sheet, Plan}
 use Rattle.weigh.proofs.Checks.{stops_sheet, stops_plan}
 use Rattle.weigh.proofs.Weighed.{ends_refused}
+use Rattle.weigh.proofs.weigh.Goals.{After-read_plan, After-read_sheet, In-Accepted-2, Start}
 use Rattle.weigh.proofs.weigh.Goals as goal
 
 -- the sheet was read
-module _ (c : goal.After-read_sheet) where
-  abbrev start : goal.Start
+module _ (c : After-read_sheet) where
+  abbrev start : Start
   start = c.before
   abbrev sheet : List ℕ
   sheet = start.args.sheet.now
@@ -32,26 +33,24 @@ returns-in-Refused c =
     (λ z. omega (arith, sheet-more r.0.0)))
 
 -- it was accepted, and the plan was read
-module _ (c : goal.After-read_plan) where
-  abbrev accepted : goal.In-Accepted-2
+module _ (c : After-read_plan) where
+  abbrev accepted : In-Accepted-2
   accepted = c.before
-  abbrev first : goal.After-read_sheet
+  abbrev first : After-read_sheet
   first = accepted.before
-  sheet-read : sheetAnswer (sheet-way.Accepted accepted.s-1.given.0.0) ≡ read_sheet (sheet first)
-  sheet-read = ap sheetAnswer (sym accepted.s-1.given.1) ∙ first.read_sheet.ensures
+  sheet-read : sheetAnswer (sheet-way.Accepted accepted.in-Accepted.s) ≡ read_sheet (sheet first)
+  sheet-read = ap sheetAnswer (sym accepted.in-Accepted.is) ∙ first.read_sheet.ensures
 
 pub returns-in-Refused-read_plan : goal.returns-in-Refused-read_plan
 returns-in-Refused-read_plan c =
-    let f = c.before in
     let r = c.r-in-Refused-read_plan-1.given in
     ends_refused _ _ _ (Plan r.0.0)
-    (stops_plan _ _ (ap (λ (x : SheetAnswer). x.refusal) (sheet-read f)) (planNumber r.0.0)
-    (ap (λ (x : PlanAnswer). x.refusal) (ap planAnswer (sym r.1) ∙ f.read_plan.ensures)) (λ z. omega (arith, plan-more r.0.0)))
+    (stops_plan _ _ (ap (λ (x : SheetAnswer). x.refusal) (sheet-read (goal.at.returns-in-Refused-read_plan c).After-read_plan)) (planNumber r.0.0)
+    (ap (λ (x : PlanAnswer). x.refusal) (ap planAnswer (sym r.1) ∙ c.read_plan.ensures)) (λ z. omega (arith, plan-more r.0.0)))
 
 pub weigh_read-requires : goal.weigh_read-requires
 weigh_read-requires c =
-    let f = c.before in
-    record { sheet = sheet-read f; plan = ap planAnswer (sym c.p-1.given.1) ∙ f.read_plan.ensures }
+    record { sheet = sheet-read (goal.at.weigh_read-requires c).After-read_plan; plan = ap planAnswer (sym c.in-Accepted-read_plan.is) ∙ c.read_plan.ensures }
 
 pub returns-in-Accepted-read_plan : goal.returns-in-Accepted-read_plan
 returns-in-Accepted-read_plan c = c.weigh_read.ensures

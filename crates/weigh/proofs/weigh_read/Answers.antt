@@ -14,11 +14,12 @@ use Rattle.weigh.specs.Weigh.{weighed, least_in}
 use Rattle.weigh.specs.Inner.{Weighable}
 use Rattle.weigh.proofs.Checks.{stops_differ, stops_primary, stops_nowhere, facts}
 use Rattle.weigh.proofs.Weighed.{ends_refused, ends_short, ends_weighed}
+use Rattle.weigh.proofs.weigh_read.Goals.{After-leasts_of-leasts, After-put_words, After-struct_known-2-1, Else-least-nodes, Else-p-eq0, Else-s-p, Start}
 use Rattle.weigh.proofs.weigh_read.Goals as goal
 
 -- before the first check
-module _ (c : goal.After-struct_known-2-1) where
-  abbrev start : goal.Start
+module _ (c : After-struct_known-2-1) where
+  abbrev start : Start
   start = c.before
   abbrev sheet : List ℕ
   sheet = start.args.sheet.now
@@ -28,22 +29,22 @@ module _ (c : goal.After-struct_known-2-1) where
   head = start.args.s
 
 -- past 21, and past 24
-abbrev same_nodes : goal.Else-p-eq0 → goal.Else-s-p
+abbrev same_nodes : Else-p-eq0 → Else-s-p
 same_nodes c = c.before
 
 pub returns-then-s-p : goal.returns-then-s-p
 returns-then-s-p c =
-    let r = (start c.before).pre in
+    let r = (start (goal.at.returns-then-s-p c).After-struct_known-2-1).pre in
     ends_refused _ _ _ NodesDiffer (stops_differ _ _ r.sheet r.plan c.if-s-p.true)
 
 pub returns-then-p-eq0 : goal.returns-then-p-eq0
 returns-then-p-eq0 c =
-    let r = (start c.before).pre in
+    let r = (start (goal.at.returns-then-p-eq0 c).After-struct_known-2-1).pre in
     ends_refused _ _ _ Primary (stops_primary _ _ r.sheet r.plan c.if-s-p.false c.if-p-eq0.true)
 
 -- past 24
-module _ (c : goal.Else-p-eq0) where
-  abbrev begun : goal.After-struct_known-2-1
+module _ (c : Else-p-eq0) where
+  abbrev begun : After-struct_known-2-1
   begun = (same_nodes c).before
   can_weigh : Weighable (sheet begun) (plan begun) (head begun)
   can_weigh =
@@ -52,23 +53,23 @@ module _ (c : goal.Else-p-eq0) where
   few : (head begun).n ≤ max_nodes
   few = (facts (sheet begun) (plan begun) (head begun) can_weigh).n_high
 
-abbrev tree : goal.Else-least-nodes → goal.Else-p-eq0
+abbrev tree : Else-least-nodes → Else-p-eq0
 tree c = c.before
 
 pub returns-then-least-nodes : goal.returns-then-least-nodes
-returns-then-least-nodes c = ends_short (can_weigh c.before) _ c.if-least-nodes.true
+returns-then-least-nodes c = ends_short (can_weigh (goal.at.returns-then-least-nodes c).Else-p-eq0) _ c.if-least-nodes.true
 
 -- the leasts were worked out
-long : (c : goal.After-leasts_of-leasts) → length c.leasts_of-leasts.result ≡ 64
+long : (c : After-leasts_of-leasts) → length c.leasts_of-leasts.result ≡ 64
 long c =
     let t = tree c.before in
     let b = begun t in
     ap length c.leasts_of-leasts.ensures ∙ length-tabulate (head b).n (least_in (sheet b) (plan b)) (few t)
 
-abbrev written : goal.After-put_words → goal.After-leasts_of-leasts
+abbrev written : After-put_words → After-leasts_of-leasts
 written c = c.before
 
-pub returns-then-s-p : goal.returns
+pub returns : goal.returns
 returns c =
     let w = c.before in
     let l = written w in
@@ -79,9 +80,7 @@ pub leasts_of-leasts-requires : goal.leasts_of-leasts-requires
 leasts_of-leasts-requires c = can_weigh (tree c)
 
 pub put_words-requires : goal.put_words-requires
-put_words-requires c =
-    let l = c.before in
-    omega (arith, long l, few (tree l.before), l.if-least-nodes.false)
+put_words-requires c =     omega (arith, long (goal.at.put_words-requires c).After-leasts_of-leasts, few (tree c.before), c.if-least-nodes.false)
 
 pub holds-requires : goal.holds-requires
 holds-requires c = few (tree (written c.before).before)

@@ -6,7 +6,7 @@ use Rattle.archive.specs.Archive.{reading_of}
 use Rattle.archive.proofs.read.answer.Goals as goal
 
 pub returns-in-Restored : goal.returns-in-Restored
-returns-in-Restored c = sym (ap reading_of c.r-1.given.1)
+returns-in-Restored c = sym (ap reading_of c.in-Restored.is)
 
 pub returns-in-Refused : goal.returns-in-Refused
-returns-in-Refused c = ap refused c.number.ensures ∙ sym (ap reading_of c.r-in-Refused-1.given.1)
+returns-in-Refused c = ap refused c.number.ensures ∙ sym (ap reading_of c.in-Refused.is)

@@ -14,13 +14,13 @@ use Rattle.archive.proofs.read.counts_fine.Goals as goal
 
 pub returns-then-not-count_fine : goal.returns-then-not-count_fine
 returns-then-not-count_fine c =
-    sym (all_fails table_size _ _ c.loop-c-test.true (sym c.count_fine.ensures ∙ not-true _ c.if-not-count_fine.true))
+    sym (all_fails table_size _ _ c.loop-c-test.true (sym c.count_fine.ensures ∙ c.if-not-count_fine.true))
 
 pub loop-c-preserved : goal.loop-c-preserved
 loop-c-preserved c =
-    (omega arith, all_more _ _ c.loop-c.invariant.1 (sym c.count_fine.ensures ∙ not-false _ c.if-not-count_fine.false))
+    (omega arith, all_more _ _ c.loop-c.invariant.1 (sym c.count_fine.ensures ∙ c.if-not-count_fine.false))
 
-pub returns-then-not-count_fine : goal.returns
+pub returns : goal.returns
 returns c =
     let e : c.loop-c.c ≡ table_size = omega arith in
     sym (rw e at c.loop-c.invariant.1)

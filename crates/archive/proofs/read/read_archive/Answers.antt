@@ -14,16 +14,17 @@ use Rattle.words.specs.declared.WrittenAnswer.{WrittenAnswer}
 use Rattle.archive.specs.Archive.{nodes_in, tolerance_in, sheet_from}
 use Rattle.archive.specs.Inner.{HeadRead}
 use Rattle.archive.proofs.Checks.{ends_length, ends_nodes, ends_tolerance, head-passes}
+use Rattle.archive.proofs.read.read_archive.Goals.{After-word_number-t, Else-archive-ne-ARCHIVE_SIZE, Else-not-one_to, Else-not-one_to-2, Start}
 use Rattle.archive.proofs.read.read_archive.Goals as goal
 
 pub returns-then-archive-ne-ARCHIVE_SIZE : goal.returns-then-archive-ne-ARCHIVE_SIZE
 returns-then-archive-ne-ARCHIVE_SIZE c = ends_length _ _ c.if-archive-ne-ARCHIVE_SIZE.true
 
 -- N and t were read
-module _ (c : goal.After-word_number-t) where
-  abbrev long : goal.Else-archive-ne-ARCHIVE_SIZE
+module _ (c : After-word_number-t) where
+  abbrev long : Else-archive-ne-ARCHIVE_SIZE
   long = c.before
-  abbrev start : goal.Start
+  abbrev start : Start
   start = long.before
   abbrev a₀ : List ℕ
   a₀ = start.args.archive.now
@@ -36,33 +37,31 @@ module _ (c : goal.After-word_number-t) where
 
 pub returns-then-not-one_to : goal.returns-then-not-one_to
 returns-then-not-one_to c =
-    let w = c.before in
-    ends_nodes (a₀ w) (out₀ w) (long w).if1.false
-    (ap (one_to max_nodes) (sym (nodes_are w)) ∙ sym c.one_to.ensures ∙ not-true _ c.if-not-one_to.true)
+    ends_nodes (a₀ (goal.at.returns-then-not-one_to c).After-word_number-t) (out₀ (goal.at.returns-then-not-one_to c).After-word_number-t) (long (goal.at.returns-then-not-one_to c).After-word_number-t).if1.false
+    (ap (one_to max_nodes) (sym (nodes_are (goal.at.returns-then-not-one_to c).After-word_number-t)) ∙ sym c.one_to.ensures ∙ c.if-not-one_to.true)
 
 -- N is in its range
-module _ (c : goal.Else-not-one_to) where
-  abbrev read : goal.After-word_number-t
+module _ (c : Else-not-one_to) where
+  abbrev read : After-word_number-t
   read = c.before
   nodes_fine : one_to max_nodes read.word_number-n.result ≡ true
-  nodes_fine = sym c.one_to.ensures ∙ not-false _ c.if-not-one_to.false
+  nodes_fine = sym c.one_to.ensures ∙ c.if-not-one_to.false
 
 pub returns-then-not-one_to-2 : goal.returns-then-not-one_to-2
 returns-then-not-one_to-2 c =
-    let n = c.before in
-    let w = read n in
-    ends_tolerance (a₀ w) (out₀ w) (long w).if1.left (ap (one_to max_nodes) (sym (nodes_are w)) ∙ nodes_fine n)
-    (ap (one_to max_tolerance) (sym (tolerance-is w)) ∙ sym c.one_to-2.ensures ∙ not-true _ c.if-not-one_to-2.true)
+    let w = read (goal.at.returns-then-not-one_to-2 c).Else-not-one_to in
+    ends_tolerance (a₀ w) (out₀ w) (long w).if1.left (ap (one_to max_nodes) (sym (nodes_are w)) ∙ nodes_fine (goal.at.returns-then-not-one_to-2 c).Else-not-one_to)
+    (ap (one_to max_tolerance) (sym (tolerance-is w)) ∙ sym c.one_to-2.ensures ∙ c.if-not-one_to-2.true)
 
 -- and t too
-head_read : (c : goal.Else-not-one_to-2) →
+head_read : (c : Else-not-one_to-2) →
     let w = read c.before in
     HeadRead (a₀ w) w.word_number-n.result w.word_number-t.result
 head_read c =
     let n = c.before in
     let w = read n in
     let nodes = one-to-is max_nodes w.word_number-n.result (nodes_fine n) in
-    let tolerance = one-to-is max_tolerance w.word_number-t.result (sym c.one_to-2.ensures ∙ not-false _ c.if-not-one_to-2.false) in
+    let tolerance = one-to-is max_tolerance w.word_number-t.result (sym c.one_to-2.ensures ∙ c.if-not-one_to-2.false) in
     record {
       size = (long w).if1.left;
       n_is = nodes_are w;
@@ -73,13 +72,12 @@ head_read c =
       t_high = tolerance.1;
     }
 
-pub returns-then-archive-ne-ARCHIVE_SIZE : goal.returns
+pub returns : goal.returns
 returns c =
-    let h = c.before in
-    let w = read h.before in
-    let e = sym (head-passes (a₀ w) (length (out₀ w)) (head_read h)) in
+    let w = read (goal.at.returns c).Else-not-one_to in
+    let e = sym (head-passes (a₀ w) (length (out₀ w)) (head_read (goal.at.returns c).Else-not-one_to-2)) in
     let x = c.read_counts.ensures in
     (x.0 ∙ e, x.1 ∙ ap (λ (k : WrittenAnswer). after_call k.refusal (sheet_from (a₀ w)) (out₀ w)) e)
 
 pub read_counts-requires : goal.read_counts-requires
-read_counts-requires c = head_read c.before
+read_counts-requires c = head_read (goal.at.read_counts-requires c).Else-not-one_to-2

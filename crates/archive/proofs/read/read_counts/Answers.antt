@@ -15,13 +15,14 @@ use Rattle.sheet.specs.Write.{sheet_bytes}
 use Rattle.sheet.proofs.Filled.{length_most}
 use Rattle.archive.specs.Archive.{table_from, total_in, counts_fine}
 use Rattle.archive.proofs.Checks.{ends_other-nodes, ends_total, ends_restored, ends_unwritten}
+use Rattle.archive.proofs.read.read_counts.Goals.{After-counts_fine, After-sum_counts, After-unpack-table, After-write_sheet, Else-not-counts_fine, Else-wide-sum_counts, Start}
 use Rattle.archive.proofs.read.read_counts.Goals as goal
 
 -- the counts were tested
-module _ (c : goal.After-counts_fine) where
-  abbrev unpacked : goal.After-unpack-table
+module _ (c : After-counts_fine) where
+  abbrev unpacked : After-unpack-table
   unpacked = c.before
-  abbrev start : goal.Start
+  abbrev start : Start
   start = unpacked.before
   abbrev a₀ : List ℕ
   a₀ = start.args.a.now
@@ -34,14 +35,13 @@ module _ (c : goal.After-counts_fine) where
 
 pub returns-then-not-counts_fine : goal.returns-then-not-counts_fine
 returns-then-not-counts_fine c =
-    let f = c.before in
-    ends_other-nodes (a₀ f) (out₀ f) (start f).requires (table_is f) (sym f.counts_fine_lem.ensures ∙ not-true _ c.if-not-counts_fine.true)
+    ends_other-nodes (a₀ (goal.at.returns-then-not-counts_fine c).After-counts_fine) (out₀ (goal.at.returns-then-not-counts_fine c).After-counts_fine) (start (goal.at.returns-then-not-counts_fine c).After-counts_fine).requires (table_is (goal.at.returns-then-not-counts_fine c).After-counts_fine) (sym c.counts_fine_lem.ensures ∙ c.if-not-counts_fine.true)
 
 -- and the sum was taken
-module _ (c : goal.After-sum_counts) where
-  abbrev passed : goal.Else-not-counts_fine
+module _ (c : After-sum_counts) where
+  abbrev passed : Else-not-counts_fine
   passed = c.before
-  abbrev tested : goal.After-counts_fine
+  abbrev tested : After-counts_fine
   tested = passed.before
   fine : counts_fine (start tested).args.n (table tested) ≡ true
   fine = sym tested.counts_fine_lem.ensures ∙ not-false _ passed.if-not-counts_fine.left
@@ -52,15 +52,14 @@ module _ (c : goal.After-sum_counts) where
 
 pub returns-then-wide-sum_counts : goal.returns-then-wide-sum_counts
 returns-then-wide-sum_counts c =
-    let s = c.before in
-    let f = tested s in
-    ends_total (a₀ f) (out₀ f) (start f).pre (table_is f) (fine s) (sum_is s) (omega (arith, bound_is s, c.if-wide-sum_counts.true))
+    let f = tested (goal.at.returns-then-wide-sum_counts c).After-sum_counts in
+    ends_total (a₀ f) (out₀ f) (start f).pre (table_is f) (fine (goal.at.returns-then-wide-sum_counts c).After-sum_counts) (sum_is (goal.at.returns-then-wide-sum_counts c).After-sum_counts) (omega (arith, bound_is (goal.at.returns-then-wide-sum_counts c).After-sum_counts, c.if-wide-sum_counts.true))
 
 -- and the sheet was handed to the writer
-module _ (c : goal.After-write_sheet) where
-  abbrev within : goal.Else-wide-sum_counts
+module _ (c : After-write_sheet) where
+  abbrev within : Else-wide-sum_counts
   within = c.before
-  abbrev summed : goal.After-sum_counts
+  abbrev summed : After-sum_counts
   summed = within.before
   sum_fits : summed.sum_counts.result ≤ max_total
   sum_fits = omega (arith, bound_is summed, within.if-wide-sum_counts.left)
@@ -72,33 +71,30 @@ module _ (c : goal.After-write_sheet) where
 pub returns-in-Bytes : goal.returns-in-Bytes
 returns-in-Bytes c =
     let size = c.size-1.given in
-    let w = c.before in
-    let s = summed w in
+    let s = summed (goal.at.returns-in-Bytes c).After-write_sheet in
     let f = tested s in
-    let x = ends_restored (a₀ f) (out₀ f) (start f).pre (table_is f) (fine s) (sum_is s) (sum_fits w) size.0.0
-    (sym size.1 ∙ w.write_sheet.ensures.0) in
-    (x.0, w.write_sheet.ensures.1 ∙ x.1)
+    let x = ends_restored (a₀ f) (out₀ f) (start f).pre (table_is f) (fine s) (sum_is s) (sum_fits (goal.at.returns-in-Bytes c).After-write_sheet) size.0.0
+    (sym size.1 ∙ c.write_sheet.ensures.0) in
+    (x.0, c.write_sheet.ensures.1 ∙ x.1)
 
 pub returns-in-Short : goal.returns-in-Short
 returns-in-Short c =
-    let w = c.before in
-    let s = summed w in
+    let s = summed (goal.at.returns-in-Short c).After-write_sheet in
     let f = tested s in
-    let x = ends_unwritten (a₀ f) (out₀ f) (start f).pre (table_is f) (fine s) (sum_is s) (sum_fits w)
-    (sym c.enum_told-1.given.1 ∙ w.write_sheet.ensures.0) in
-    (x.0, w.write_sheet.ensures.1 ∙ x.1)
+    let x = ends_unwritten (a₀ f) (out₀ f) (start f).pre (table_is f) (fine s) (sum_is s) (sum_fits (goal.at.returns-in-Short c).After-write_sheet)
+    (sym c.in-Short.is ∙ c.write_sheet.ensures.0) in
+    (x.0, c.write_sheet.ensures.1 ∙ x.1)
 
 -- the length that the writer gives fits
 pub overflow_cast-result : goal.overflow_cast-result
 overflow_cast-result c =
     let size = c.size-1.given in
-    let w = c.before in
-    let f = tested (summed w) in
-    let z = writing-bytes (rec w) (out₀ f) size.0.0 (sym size.1 ∙ w.write_sheet.ensures.0) in
+    let f = tested (summed (goal.at.overflow_cast-result c).After-write_sheet) in
+    let z = writing-bytes (rec (goal.at.overflow_cast-result c).After-write_sheet) (out₀ f) size.0.0 (sym size.1 ∙ c.write_sheet.ensures.0) in
     omega (arith, z.0, length_most (start f).args.n (start f).args.t (table f) (start f).pre.n_high)
 
 pub unpack-table-requires : goal.unpack-table-requires
 unpack-table-requires c = (omega (arith, c.requires.size), c.positions-positions.ensures)
 
 pub write_sheet-requires : goal.write_sheet-requires
-write_sheet-requires c = (start (tested c.before)).pre.n_high
+write_sheet-requires c = (start (tested (goal.at.write_sheet-requires c).After-sum_counts)).pre.n_high

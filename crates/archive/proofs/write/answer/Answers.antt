@@ -6,7 +6,7 @@ use Rattle.archive.specs.Archive.{writing_of}
 use Rattle.archive.proofs.write.answer.Goals as goal
 
 pub returns-in-Archived : goal.returns-in-Archived
-returns-in-Archived c = sym (ap writing_of c.enum_told-1.given.1)
+returns-in-Archived c = sym (ap writing_of c.in-Archived.is)
 
 pub returns-in-Refused : goal.returns-in-Refused
-returns-in-Refused c = ap refused c.number.ensures ∙ sym (ap writing_of c.w-1.given.1)
+returns-in-Refused c = ap refused c.number.ensures ∙ sym (ap writing_of c.in-Refused.is)

@@ -14,9 +14,10 @@ use Rattle.archive.specs.ZOrder.{position_of, Positions}
 use Rattle.archive.specs.Archive.{archive_size, no_counts, archive_bytes}
 use Rattle.archive.proofs.Bits.{position-below}
 use Rattle.archive.proofs.Storing.{Storing, begin, end, index_below, again, put_count}
+use Rattle.archive.proofs.write.put_archive.Goals.{After-positions-positions, After-put_word, After-word_number, After-word_number-c, At-loop-i, Start}
 use Rattle.archive.proofs.write.put_archive.Goals as goal
 
-abbrev start : goal.After-positions-positions → goal.Start
+abbrev start : After-positions-positions → Start
 start c = c.before
 
 pub loop-i-init : goal.loop-i-init
@@ -26,10 +27,10 @@ loop-i-init c =
     (no_counts, p, c.positions-positions.ensures, omega arith, refl, begin a.s.now a.n a.e p, λ base e. e)
 
 -- ---- a turn: the cell that was read, and its position
-module _ (c : goal.After-word_number-c) where
-  abbrev head : goal.At-loop-i
+module _ (c : After-word_number-c) where
+  abbrev head : At-loop-i
   head = c.before
-  abbrev begun : goal.Start
+  abbrev begun : Start
   begun = start head.before
   abbrev x : ℕ
   x = c.word_number-c.result
@@ -50,10 +51,10 @@ module _ (c : goal.After-word_number-c) where
   p-below = omega (arith, p-is, position-below x)
 
 -- its count was read and stored there
-module _ (c : goal.After-put_word) where
-  abbrev counted : goal.After-word_number
+module _ (c : After-put_word) where
+  abbrev counted : After-word_number
   counted = c.before
-  abbrev cell-read : goal.After-word_number-c
+  abbrev cell-read : After-word_number-c
   cell-read = counted.before
   abbrev k : ℕ
   k = counted.word_number.result
@@ -62,21 +63,20 @@ module _ (c : goal.After-put_word) where
 
 pub loop-i-preserved : goal.loop-i-preserved
 loop-i-preserved c =
-    let w = c.before in
-    let r = cell-read w in
+    let r = cell-read (goal.at.loop-i-preserved c).After-put_word in
     let a = (begun r).args in
     let l = (head r).loop in
     let v = l.inv in
-    let size = ap length (stored w) ∙ length_put l.out (4 * (2 + position_of (x r))) (k w) in (
-      set v.0 (position_of (x r)) (k w),
+    let size = ap length (stored (goal.at.loop-i-preserved c).After-put_word) ∙ length_put l.out (4 * (2 + position_of (x r))) (k (goal.at.loop-i-preserved c).After-put_word) in (
+      set v.0 (position_of (x r)) (k (goal.at.loop-i-preserved c).After-put_word),
       v.1,
       v.2,
       omega (arith, size, v.3),
       size ∙ v.4,
-      again a.s.now a.n a.e v.1 v.0 l.i v.5 r.loop-i-test.true (x r) (k w) r.word_number-c.ensures
-          (counted w).word-number2.ensures,
-      λ base e. stored w ∙ ap (λ (o : List ℕ). put_word o (4 * (2 + position_of (x r))) (k w)) (v.6 base e)
-          ∙ put_count base a.n a.t v.0 (x r) (k w) v.5.size,
+      again a.s.now a.n a.e v.1 v.0 l.i v.5 r.loop-i-test.true (x r) (k (goal.at.loop-i-preserved c).After-put_word) r.word_number-c.ensures
+          (counted (goal.at.loop-i-preserved c).After-put_word).word-number2.ensures,
+      λ base e. stored (goal.at.loop-i-preserved c).After-put_word ∙ ap (λ (o : List ℕ). put_word o (4 * (2 + position_of (x r))) (k (goal.at.loop-i-preserved c).After-put_word)) (v.6 base e)
+          ∙ put_count base a.n a.t v.0 (x r) (k (goal.at.loop-i-preserved c).After-put_word) v.5.size,
     )
 
 pub returns : goal.returns
@@ -94,19 +94,19 @@ pub word_number-c-requires : goal.word_number-c-requires
 word_number-c-requires c = omega (arith, (start c.before).pre.0.long)
 
 pub offset_bounds-positions-c : goal.offset_bounds-positions-c
-offset_bounds-positions-c c = omega (arith, below c)
+offset_bounds-positions-c c = omega (arith, below (goal.at.offset_bounds-positions-c c).After-word_number-c)
 
 pub bounds-positions-c : goal.bounds-positions-c
-bounds-positions-c c = omega (arith, below c)
+bounds-positions-c c = omega (arith, below (goal.at.bounds-positions-c c).After-word_number-c)
 
 pub overflow_cast-p : goal.overflow_cast-p
-overflow_cast-p c = omega (arith, p-below c)
+overflow_cast-p c = omega (arith, p-below (goal.at.overflow_cast-p c).After-word_number-c)
 
 pub overflow_add-p : goal.overflow_add-p
-overflow_add-p c = omega (arith, p-below c.before)
+overflow_add-p c = omega (arith, p-below (goal.at.overflow_add-p c).After-word_number-c)
 
 pub word_number-requires : goal.word_number-requires
-word_number-requires c = omega (arith, long c.before)
+word_number-requires c = omega (arith, long (goal.at.word_number-requires c).After-word_number-c)
 
 pub put_word-requires : goal.put_word-requires
-put_word-requires c = omega (arith, p-below c.before, (head c.before).loop.inv.3)
+put_word-requires c = omega (arith, p-below (goal.at.put_word-requires c).After-word_number-c, (head (goal.at.put_word-requires c).After-word_number-c).loop.inv.3)

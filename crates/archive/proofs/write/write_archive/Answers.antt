@@ -17,7 +17,7 @@ returns-in-Refused c =
 
 pub write_read-requires : goal.write_read-requires
 write_read-requires c =
-    ap answer_of (sym c.h-1.given.1) ∙ c.read_sheet.ensures
+    ap answer_of (sym c.in-Accepted.is) ∙ c.read_sheet.ensures
 
 pub returns-in-Accepted : goal.returns-in-Accepted
 returns-in-Accepted c = c.write_read.ensures

@@ -12,6 +12,6 @@ pub put_archive-requires : goal.put_archive-requires
 put_archive-requires c =
     (sheet_unpackable _ _ (reading_accepted _ c.args.h c.requires), omega (arith, c.if-out-lt-ARCHIVE_SIZE.false))
 
-pub returns-then-out-lt-ARCHIVE_SIZE : goal.returns
+pub returns : goal.returns
 returns c =
     ends_archived _ _ c.requires (omega (arith, c.if-out-lt-ARCHIVE_SIZE.false)) c.put_archive.ensures

@@ -13,11 +13,12 @@ use Rattle.moves.specs.declared.MovesReading.TheVariants as moves-way
 use Rattle.moves.specs.Moves.{read_moves, answer_of as movesAnswer, refusal_number as movesNumber}
 use Rattle.moves.proofs.Answers.{numbered as moves-numbered}
 use Rattle.carry.proofs.Checks.{stops_sheet, stops_moves, stops_differ}
+use Rattle.carry.proofs.check.read_pair.Goals.{After-read_moves, After-read_sheet, In-Accepted-2, In-Accepted-read_moves-2, Start}
 use Rattle.carry.proofs.check.read_pair.Goals as goal
 
 -- the sheet was read
-module _ (c : goal.After-read_sheet) where
-  abbrev start : goal.Start
+module _ (c : After-read_sheet) where
+  abbrev start : Start
   start = c.before
   abbrev sheet : List ℕ
   sheet = start.args.sheet.now
@@ -32,39 +33,36 @@ returns-in-Refused c =
     )
 
 -- it was accepted, and the moves were read
-module _ (c : goal.After-read_moves) where
-  abbrev accepted : goal.In-Accepted-2
+module _ (c : After-read_moves) where
+  abbrev accepted : In-Accepted-2
   accepted = c.before
-  abbrev first : goal.After-read_sheet
+  abbrev first : After-read_sheet
   first = accepted.before
   abbrev moves : List ℕ
   moves = (start first).args.moves.now
-  sheet-read : sheetAnswer (sheet-way.Accepted accepted.s-1.given.0.0) ≡ read_sheet (sheet first)
-  sheet-read = ap sheetAnswer (sym accepted.s-1.given.1) ∙ first.read_sheet.ensures
+  sheet-read : sheetAnswer (sheet-way.Accepted accepted.in-Accepted.s) ≡ read_sheet (sheet first)
+  sheet-read = ap sheetAnswer (sym accepted.in-Accepted.is) ∙ first.read_sheet.ensures
 
 pub returns-in-Refused-read_moves : goal.returns-in-Refused-read_moves
 returns-in-Refused-read_moves c =
-    let f = c.before in
     let r = c.r-in-Refused-read_moves-1.given in
     let n = moves-numbered r.0.0 in (
-      stops_moves _ _ (ap (λ (x : SheetAnswer). x.refusal) (sheet-read f)) (movesNumber r.0.0)
-          (ap (λ (x : MovesAnswer). x.refusal) (ap movesAnswer (sym r.1) ∙ f.read_moves.ensures)) (λ z. omega (arith, n.0)),
+      stops_moves _ _ (ap (λ (x : SheetAnswer). x.refusal) (sheet-read (goal.at.returns-in-Refused-read_moves c).After-read_moves)) (movesNumber r.0.0)
+          (ap (λ (x : MovesAnswer). x.refusal) (ap movesAnswer (sym r.1) ∙ c.read_moves.ensures)) (λ z. omega (arith, n.0)),
       omega (arith, n.1),
     )
 
 -- both were accepted
-module _ (c : goal.In-Accepted-read_moves-2) where
-  abbrev second : goal.After-read_moves
+module _ (c : In-Accepted-read_moves-2) where
+  abbrev second : After-read_moves
   second = c.before
-  moves_read : movesAnswer (moves-way.Accepted c.m-1.given.0.0) ≡ read_moves (moves second)
-  moves_read = ap movesAnswer (sym c.m-1.given.1) ∙ second.read_moves.ensures
+  moves_read : movesAnswer (moves-way.Accepted c.in-Accepted-read_moves.m) ≡ read_moves (moves second)
+  moves_read = ap movesAnswer (sym c.in-Accepted-read_moves.is) ∙ second.read_moves.ensures
 
 pub returns-then-s-m : goal.returns-then-s-m
 returns-then-s-m c =
-    let b = c.before in
-    (stops_differ _ _ (sheet-read (second b)) (moves_read b) (λ same. omega (arith, c.if-s-m.true, same)), omega arith)
+    (stops_differ _ _ (sheet-read (second (goal.at.returns-then-s-m c).In-Accepted-read_moves-2)) (moves_read (goal.at.returns-then-s-m c).In-Accepted-read_moves-2) (λ same. omega (arith, c.if-s-m.true, same)), omega arith)
 
 pub returns-else-s-m : goal.returns-else-s-m
 returns-else-s-m c =
-    let b = c.before in
-    record { sheet = sheet-read (second b); moves = moves_read b; nodes = omega (arith, c.if-s-m.false) }
+    record { sheet = sheet-read (second (goal.at.returns-else-s-m c).In-Accepted-read_moves-2); moves = moves_read (goal.at.returns-else-s-m c).In-Accepted-read_moves-2; nodes = omega (arith, c.if-s-m.false) }

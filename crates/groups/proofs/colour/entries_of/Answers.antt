@@ -11,13 +11,14 @@ use Rattle.groups.specs.declared.colour.Colour.TheVariants.{Even, Odd}
 use Rattle.groups.specs.Colour.{distance, coloured}
 use Rattle.groups.specs.Group.{group_in}
 use Rattle.groups.proofs.Entries.{even-not_odd, odd_not-even, entry-own, entry_helped}
+use Rattle.groups.proofs.colour.entries_of.Goals.{After-family_colour, Start}
 use Rattle.groups.proofs.colour.entries_of.Goals as goal
 
-node : (c : goal.Start) → c.args.k < 64
+node : (c : Start) → c.args.k < 64
 node c = omega (arith, c.requires.1, c.requires.0.rooted.few)
 
-module _ (c : goal.After-family_colour) where
-  abbrev start : goal.Start
+module _ (c : After-family_colour) where
+  abbrev start : Start
   start = c.before
   abbrev h : ℕ → ℕ
   h = at start.args.helpands.now
@@ -41,30 +42,28 @@ module _ (c : goal.After-family_colour) where
 
 pub returns-in-Even : goal.returns-in-Even
 returns-in-Even c =
-    let f = c.before in
-    let e = c.enum_told-1.given.1 in
-    (own f Even e, helped f Odd (even-not_odd (d f) (found f Even e)))
+    let e = c.in-Even.is in
+    (own (goal.at.returns-in-Even c).After-family_colour Even e, helped (goal.at.returns-in-Even c).After-family_colour Odd (even-not_odd (d (goal.at.returns-in-Even c).After-family_colour) (found (goal.at.returns-in-Even c).After-family_colour Even e)))
 
 pub returns-in-Odd : goal.returns-in-Odd
 returns-in-Odd c =
-    let f = c.before in
-    let e = c.enum_told-in-Odd-1.given.1 in
-    (helped f Even (odd_not-even (d f) (found f Odd e)), own f Odd e)
+    let e = c.in-Odd.is in
+    (helped (goal.at.returns-in-Odd c).After-family_colour Even (odd_not-even (d (goal.at.returns-in-Odd c).After-family_colour) (found (goal.at.returns-in-Odd c).After-family_colour Odd e)), own (goal.at.returns-in-Odd c).After-family_colour Odd e)
 
 pub offset_bounds-own-k : goal.offset_bounds-own-k
-offset_bounds-own-k c = omega (arith, node c)
+offset_bounds-own-k c = omega (arith, node (goal.at.offset_bounds-own-k c).Start)
 
 pub bounds-own-k : goal.bounds-own-k
-bounds-own-k c = node c
+bounds-own-k c = node (goal.at.bounds-own-k c).Start
 
 pub offset_bounds-helpands-k : goal.offset_bounds-helpands-k
-offset_bounds-helpands-k c = omega (arith, node c.before)
+offset_bounds-helpands-k c = omega (arith, node (goal.at.offset_bounds-helpands-k c).Start)
 
 pub bounds-helpands-k : goal.bounds-helpands-k
-bounds-helpands-k c = node c.before
+bounds-helpands-k c = node (goal.at.bounds-helpands-k c).Start
 
 pub offset_bounds-distances-k : goal.offset_bounds-distances-k
-offset_bounds-distances-k c = omega (arith, node c.before)
+offset_bounds-distances-k c = omega (arith, node (goal.at.offset_bounds-distances-k c).Start)
 
 pub bounds-distances-k : goal.bounds-distances-k
-bounds-distances-k c = node c.before
+bounds-distances-k c = node (goal.at.bounds-distances-k c).Start

@@ -6,34 +6,33 @@ use native.Mathlib.Omega.{arith}
 use lib.ListN.{length, length-set, length-replicate}
 use Rattle.arrays.specs.Arrays.{at}
 use Rattle.groups.proofs.Owners.{Owning, owning_none, owning_root, owning_helper}
-use Rattle.groups.proofs.colour.own_groups.Goals.{else-helpand-k, then-helpand-k}
+use Rattle.groups.proofs.colour.own_groups.Goals.{After-helpand-1, else-helpand-k, then-helpand-k}
 use Rattle.groups.proofs.colour.own_groups.Goals as goal
 
 -- its helpand is a node
-below : (c : goal.After-helpand-1) →
+below : (c : After-helpand-1) →
     let a = c.args in
     at a.helpands.now c.loop-k.k < a.nodes
 below c = c.requires.inside c.loop-k.k c.loop-k-test.true
 
-fits : (c : goal.After-helpand-1) → at c.args.helpands.now c.loop-k.k < 64
+fits : (c : After-helpand-1) → at c.args.helpands.now c.loop-k.k < 64
 fits c = omega (arith, below c, c.requires.few)
 
 pub loop-k-preserved : goal.loop-k-preserved
 loop-k-preserved c =
-    let b = c.before in
-    let a = b.args in
+    let a = c.args in
     let h = at a.helpands.now in
-    let v = b.loop-k.invariant in
+    let v = c.loop-k.invariant in
     elim c.if-helpand-k.branch [
       | then-helpand-k w ↦ rw w.1 (
-      omega (arith, b.loop-k-test.true),
-      length-set b.loop-k.own _ _ ∙ v.1,
-      owning_helper a.nodes h b.loop-k.k b.loop-k.own v.2 w.if-helpand-k.true (omega (arith, fits b, v.1)),
+      omega (arith, c.loop-k-test.true),
+      length-set c.loop-k.own _ _ ∙ v.1,
+      owning_helper a.nodes h c.loop-k.k c.loop-k.own v.2 w.if-helpand-k.true (omega (arith, fits (goal.at.loop-k-preserved c).After-helpand-1, v.1)),
     )
       | else-helpand-k w ↦ rw w.1 (
-      omega (arith, b.loop-k-test.true),
+      omega (arith, c.loop-k-test.true),
       v.1,
-      owning_root a.nodes h b.loop-k.k b.loop-k.own v.2 w.if-helpand-k.false,
+      owning_root a.nodes h c.loop-k.k c.loop-k.own v.2 w.if-helpand-k.false,
     )
     ]
 
@@ -52,13 +51,13 @@ pub bounds-helpands-k : goal.bounds-helpands-k
 bounds-helpands-k c = omega (arith, c.loop-k-test.true, c.requires.few)
 
 pub overflow_cast-helpand : goal.overflow_cast-helpand
-overflow_cast-helpand c = omega (arith, fits c)
+overflow_cast-helpand c = omega (arith, fits (goal.at.overflow_cast-helpand c).After-helpand-1)
 
 pub overflow_cast-own : goal.overflow_cast-own
-overflow_cast-own c = omega (arith, fits c.before)
+overflow_cast-own c = omega (arith, fits (goal.at.overflow_cast-own c).After-helpand-1)
 
 pub offset_bounds-own-helpand : goal.offset_bounds-own-helpand
-offset_bounds-own-helpand c = omega (arith, fits c.before)
+offset_bounds-own-helpand c = omega (arith, fits (goal.at.offset_bounds-own-helpand c).After-helpand-1)
 
 pub bounds-own-helpand : goal.bounds-own-helpand
-bounds-own-helpand c = omega (arith, fits c.before)
+bounds-own-helpand c = omega (arith, fits (goal.at.bounds-own-helpand c).After-helpand-1)

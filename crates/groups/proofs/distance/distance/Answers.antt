@@ -5,10 +5,11 @@ use Rattle.arrays.specs.Arrays.{at}
 use Rattle.groups.specs.Colour.{distance}
 use Rattle.groups.proofs.Distances.{distance_most}
 use Rattle.groups.proofs.Noting.{unknown-step}
+use Rattle.groups.proofs.distance.distance.Goals.{After-loop-node, At-loop-node, In-loop-node}
 use Rattle.groups.proofs.distance.distance.Goals as goal
 
 -- a node that is not known: its helpand is nearer
-nearer : (c : goal.In-loop-node) →
+nearer : (c : In-loop-node) →
     let a = c.args in
     let h = at a.helpands.now in
     distance a.nodes h c.loop-node.node-1 ≡ distance a.nodes h (h c.loop-node.node-1) + 1
@@ -17,16 +18,15 @@ nearer c =
     unknown-step p.0 p.1 c.loop-node.node-1 c.loop-node.invariant.0 c.loop-node-test.true
 
 -- so few steps do not wrap
-short : (l : goal.At-loop-node) → l.loop-node.steps ≤ 64
+short : (l : At-loop-node) → l.loop-node.steps ≤ 64
 short l = omega (arith, l.loop-node.invariant.1, distance_most l.requires.0 l.args.k)
 
 pub loop-node-preserved : goal.loop-node-preserved
 loop-node-preserved c =
-    let t = c.before in
-    (t.requires.0.inside t.loop-node.node-1 t.loop-node.invariant.0, omega (arith, t.loop-node.invariant.1, nearer t))
+    (c.requires.0.inside c.loop-node.node-1 c.loop-node.invariant.0, omega (arith, c.loop-node.invariant.1, nearer (goal.at.loop-node-preserved c).In-loop-node))
 
 -- a node that is known
-known-right : (c : goal.After-loop-node) →
+known-right : (c : After-loop-node) →
     let a = c.args in
     at a.known.now c.loop-node.node-1 ≡ distance a.nodes (at a.helpands.now) c.loop-node.node-1
 known-right c =
@@ -34,7 +34,7 @@ known-right c =
 
 pub returns : goal.returns
 returns c =
-    omega (arith, c.loop-node.invariant.1, known-right c.before)
+    omega (arith, c.loop-node.invariant.1, known-right (goal.at.returns c).After-loop-node)
 
 pub loop-node-init : goal.loop-node-init
 loop-node-init c = (c.requires.2, omega arith)
@@ -57,10 +57,10 @@ overflow_cast-node c =
     omega (arith, p.inside c.loop-node.node-1 c.loop-node.invariant.0, p.few)
 
 pub overflow_add-steps : goal.overflow_add-steps
-overflow_add-steps c = omega (arith, short c.before)
+overflow_add-steps c = omega (arith, short (goal.at.overflow_add-steps c).At-loop-node)
 
 pub loop-node-smaller : goal.loop-node-smaller
-loop-node-smaller c = omega (arith, nearer c.before)
+loop-node-smaller c = omega (arith, nearer (goal.at.loop-node-smaller c).In-loop-node)
 
 pub offset_bounds-known-node-2 : goal.offset_bounds-known-node-2
 offset_bounds-known-node-2 c = omega (arith, c.loop-node.invariant.0, c.requires.0.few)
@@ -69,6 +69,4 @@ pub bounds-known-node-2 : goal.bounds-known-node-2
 bounds-known-node-2 c = omega (arith, c.loop-node.invariant.0, c.requires.0.few)
 
 pub overflow_add-result : goal.overflow_add-result
-overflow_add-result c =
-    let l = c.before in
-    omega (arith, short l, known-right c.before, distance_most l.requires.0 l.loop-node.node-1)
+overflow_add-result c =     omega (arith, short (goal.at.overflow_add-result c).At-loop-node, known-right (goal.at.overflow_add-result c).After-loop-node, distance_most c.requires.0 c.loop-node.node-1)

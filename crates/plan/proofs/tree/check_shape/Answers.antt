@@ -19,6 +19,6 @@ pub returns-then-roots-ne1 : goal.returns-then-roots-ne1
 returns-then-roots-ne1 c =
     simp (ne_eqb _ _ c.if-kind-eq0.false, ← c.count_roots-roots.ensures, ne_eqb _ _ c.if-roots-ne1.true)
 
-pub returns-then-roots-nodes : goal.returns
+pub returns : goal.returns
 returns c =
     simp (ne_eqb _ _ c.if-kind-eq0.false, ← c.count_roots-roots.ensures, eq-eqb _ _ c.if-roots-ne1.false) c.check_chains.ensures

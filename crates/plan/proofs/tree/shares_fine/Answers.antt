@@ -34,7 +34,7 @@ loop-k-preserved c =
     ])),
     )
 
-pub returns-then-limit-share : goal.returns
+pub returns : goal.returns
 returns c =
     let e : c.loop-k.k ≡ c.args.nodes = omega arith in
     sym (rw e at c.loop-k.invariant.1)

@@ -12,7 +12,7 @@ returns-then-need-loads c =
     sym (chosen-old a.nodes a.loads.now a.targets.now a.finished.now a.l a.need a.old
     c.if-old-l.true (sym c.in_b.ensures ∙ c.if-in_b.true) c.if-need-loads.true)
 
-pub returns-then-need-loads : goal.returns
+pub returns : goal.returns
 returns c =
     let a = c.args in
     c.largest_in_b.ensures

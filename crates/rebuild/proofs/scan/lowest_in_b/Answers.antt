@@ -21,7 +21,7 @@ pub loop-k-preserved : goal.loop-k-preserved
 loop-k-preserved c =
     (search rules, best_skips _ _ _ (sym c.in_b.ensures ∙ c.if-in_b.false) ∙ c.loop-k.invariant.1)
 
-pub returns-then-in_b : goal.returns
+pub returns : goal.returns
 returns c =
     let e : c.loop-k.k ≡ c.args.nodes = omega arith in
     sym (rw e at c.loop-k.invariant.1)

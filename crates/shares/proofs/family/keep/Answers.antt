@@ -17,10 +17,11 @@ use Rattle.shares.proofs.Spaces.{space-own, space-helper}
 use Rattle.shares.proofs.Amounts.{kept-sum, kept-left}
 use Rattle.shares.proofs.Raising.{somewhere_larger}
 use Rattle.shares.proofs.Noting.{NotedSoFar, so_far-none, so_far_more, so_far-all}
+use Rattle.shares.proofs.family.keep.Goals.{After-keeps-amount, After-keeps-own, At-loop-k, Start}
 use Rattle.shares.proofs.family.keep.Goals as goal
 
 -- ---- the owner
-module _ (c : goal.Start) where
+module _ (c : Start) where
   abbrev holding : ℕ → ℕ
   holding k = held c.args.table.now k c.args.n
   abbrev keeps : ℕ → ℕ
@@ -31,41 +32,38 @@ module _ (c : goal.Start) where
       ap (λ (xs : List ℕ). at xs c.args.n) c.requires.2
       ∙ tabulate-at c.args.nodes (total_of c.args.nodes c.args.table.now) c.args.n c.requires.1
 
-own_keeps : (c : goal.After-keeps-own) → c.keeps-own.result ≡ keeps c.before c.args.n
+own_keeps : (c : After-keeps-own) → c.keeps-own.result ≡ keeps c.before c.args.n
 own_keeps c =
     let a = c.args in
     omega (arith, c.keeps-own.ensures, space-own (at a.helpands.now) a.limit (at a.reserves.now) a.share a.n)
 
 pub overflow_sub-rest : goal.overflow_sub-rest
 overflow_sub-rest c =
-    let o = c.before in
-    let b = o.before in
-    omega (arith, own_keeps o, total_is b, sum_term b.args.nodes (holding b) b.args.n b.requires.1)
+    omega (arith, own_keeps (goal.at.overflow_sub-rest c).After-keeps-own, total_is (goal.at.overflow_sub-rest c).Start, sum_term c.args.nodes (holding (goal.at.overflow_sub-rest c).Start) c.args.n c.requires.1)
 
 pub loop-k-init : goal.loop-k-init
 loop-k-init c =
-    let o = c.before in
-    let a = o.args in (
-      so_far-none o.requires.3 (ap (λ (x : ℕ). at a.totals.now a.n - x) (own_keeps o))
-          (link_first o.requires.0.linked a.n o.requires.1 c.first-k.ensures),
+    let a = c.args in (
+      so_far-none c.requires.3 (ap (λ (x : ℕ). at a.totals.now a.n - x) (own_keeps (goal.at.loop-k-init c).After-keeps-own))
+          (link_first c.requires.0.linked a.n c.requires.1 c.first-k.ensures),
       record {
         node = a.n;
-        inside = o.requires.1;
+        inside = c.requires.1;
         there =
             omega (
               arith,
               c.room-most.ensures.0,
-              own_keeps o,
+              own_keeps (goal.at.loop-k-init c).After-keeps-own,
               space-own (at a.helpands.now) a.limit (at a.reserves.now) a.share a.n,
             );
       },
     )
 
 -- ---- a turn, whose helper is k
-module _ (c : goal.After-keeps-amount) where
-  abbrev loop : goal.At-loop-k
+module _ (c : After-keeps-amount) where
+  abbrev loop : At-loop-k
   loop = c.before
-  abbrev start : goal.Start
+  abbrev start : Start
   start = loop.before
   abbrev k : ℕ
   k = loop.loop-k.k
@@ -96,26 +94,23 @@ module _ (c : goal.After-keeps-amount) where
 
 pub loop-k-preserved : goal.loop-k-preserved
 loop-k-preserved c =
-    let m = c.before in
-    let a = (start m).args in
-    let e = space-helper (at a.helpands.now) a.limit (at a.reserves.now) a.share a.n (k m) (helps-n m) in (
-      so_far_more (loop m).loop.invariant.0 (start m).requires.0.few (k_lt m) (keeps-is m)
-          (ap (λ (x : ℕ). (loop m).loop.rest - x) (keeps-is m)) (next-first m c.next-k.ensures),
+    let a = (start (goal.at.loop-k-preserved c).After-keeps-amount).args in
+    let e = space-helper (at a.helpands.now) a.limit (at a.reserves.now) a.share a.n (k (goal.at.loop-k-preserved c).After-keeps-amount) (helps-n (goal.at.loop-k-preserved c).After-keeps-amount) in (
+      so_far_more (loop (goal.at.loop-k-preserved c).After-keeps-amount).loop.invariant.0 (start (goal.at.loop-k-preserved c).After-keeps-amount).requires.0.few (k_lt (goal.at.loop-k-preserved c).After-keeps-amount) (keeps-is (goal.at.loop-k-preserved c).After-keeps-amount)
+          (ap (λ (x : ℕ). (loop (goal.at.loop-k-preserved c).After-keeps-amount).loop.rest - x) (keeps-is (goal.at.loop-k-preserved c).After-keeps-amount)) (next-first (goal.at.loop-k-preserved c).After-keeps-amount c.next-k.ensures),
       rw c.larger-most.ensures
-          (somewhere_larger (loop m).loop.invariant.1 (k_lt m) (omega (arith, c.room.ensures.0, keeps-is m, e))),
+          (somewhere_larger (loop (goal.at.loop-k-preserved c).After-keeps-amount).loop.invariant.1 (k_lt (goal.at.loop-k-preserved c).After-keeps-amount) (omega (arith, c.room.ensures.0, keeps-is (goal.at.loop-k-preserved c).After-keeps-amount, e))),
     )
 
 pub returns : goal.returns
 returns c =
-    let o = c.before in
-    let b = o.before in
-    let a = b.args in
+    let a = c.args in
     let all = so_far-all c.loop-k.invariant.0 c.loop-k-test.false in (
-      own_keeps o,
+      own_keeps (goal.at.returns c).After-keeps-own,
       omega (
         arith,
         (left-all c.loop-k.invariant.0.true c.loop-k-test.false).1,
-        kept-sum (at a.helpands.now) a.limit (at a.reserves.now) (holding b) a.share a.n a.nodes b.requires.1,
+        kept-sum (at a.helpands.now) a.limit (at a.reserves.now) (holding (goal.at.returns c).Start) a.share a.n a.nodes c.requires.1,
       ),
       c.loop-k.invariant.1,
       all.0,
@@ -123,7 +118,7 @@ returns c =
     )
 
 pub overflow_sub-rest-in-loop-k : goal.overflow_sub-rest-in-loop-k
-overflow_sub-rest-in-loop-k c = still_there c
+overflow_sub-rest-in-loop-k c = still_there (goal.at.overflow_sub-rest-in-loop-k c).After-keeps-amount
 
 pub loop-k-smaller : goal.loop-k-smaller
-loop-k-smaller c = omega (arith, (next-first c.before c.next-k.ensures).from_le)
+loop-k-smaller c = omega (arith, (next-first (goal.at.loop-k-smaller c).After-keeps-amount c.next-k.ensures).from_le)

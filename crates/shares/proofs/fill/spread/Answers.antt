@@ -15,9 +15,10 @@ use Rattle.shares.proofs.LevelForm.{gets-turn}
 use Rattle.shares.proofs.Spaces.{family_own, family_helper, family_other}
 use Rattle.shares.proofs.Summing.{left_below}
 use Rattle.shares.proofs.Noting.{NotedSoFar, so_far-none, so_far_more, so_far-all, so_far_before}
+use Rattle.shares.proofs.fill.spread.Goals.{After-min-extra, After-next-k, After-raised-arg-1, After-unit-one, After-unit-owner, At-loop-k, In-loop-k, Start}
 use Rattle.shares.proofs.fill.spread.Goals as goal
 
-module _ (c : goal.Start) where
+module _ (c : Start) where
   abbrev h : ℕ → ℕ
   h = at c.args.helpands.now
   abbrev room : ℕ → ℕ
@@ -30,7 +31,7 @@ module _ (c : goal.Start) where
   none_other : (j : ℕ) → j ≢ c.args.n → helps h c.args.n j ≡ false → unit rooms c.args.level j ≡ 0
   none_other j d y = omega (arith, family_other h c.args.n c.args.own room j d y)
 
-owner-is : (c : goal.After-unit-owner) → c.unit-owner.result ≡ unit (rooms c.before) c.args.level c.args.n
+owner-is : (c : After-unit-owner) → c.unit-owner.result ≡ unit (rooms c.before) c.args.level c.args.n
 owner-is c =
     let a = c.args in
     c.unit-owner.ensures
@@ -41,16 +42,16 @@ loop-k-init c =
     so_far-none c.requires.2 refl (link_first c.requires.0.linked c.args.n c.requires.1 c.first-k.ensures)
 
 -- ---- a turn, whose helper is k
-module _ (c : goal.After-raised-arg-1) where
-  abbrev smaller : goal.After-min-extra
+module _ (c : After-raised-arg-1) where
+  abbrev smaller : After-min-extra
   smaller = c.before
-  abbrev one : goal.After-unit-one
+  abbrev one : After-unit-one
   one = smaller.before
-  abbrev turn : goal.In-loop-k
+  abbrev turn : In-loop-k
   turn = one.before
-  abbrev loop : goal.At-loop-k
+  abbrev loop : At-loop-k
   loop = turn.before
-  abbrev start : goal.Start
+  abbrev start : Start
   start = loop.before
   abbrev k : ℕ
   k = loop.loop-k.k
@@ -78,9 +79,9 @@ module _ (c : goal.After-raised-arg-1) where
   extra-most = omega (arith, smaller.min-extra.ensures)
 
 pub raised-requires : goal.raised-requires
-raised-requires c = (omega (arith, extra-most c, (one c).unit2.ensures), (one c).before.room.ensures.1)
+raised-requires c = (omega (arith, extra-most (goal.at.raised-requires c).After-raised-arg-1, (one (goal.at.raised-requires c).After-raised-arg-1).unit2.ensures), (one (goal.at.raised-requires c).After-raised-arg-1).before.room.ensures.1)
 
-next-first : (c : goal.After-next-k) →
+next-first : (c : After-next-k) →
     let r = c.before in
     let a = (start r).args in
     FirstFrom a.nodes (helps (h (start r)) a.n) (k r + 1) c.next-k.result
@@ -90,19 +91,18 @@ next-first c =
 
 pub loop-k-preserved : goal.loop-k-preserved
 loop-k-preserved c =
-    let r = c.before in
-    let level = (start r).args.level in
-    let e = (smaller r).min.result in
-    so_far_more (loop r).loop.invariant (start r).requires.0.few (k_lt r)
+    let level = (start (goal.at.loop-k-preserved c).After-raised-arg-1).args.level in
+    let e = (smaller (goal.at.loop-k-preserved c).After-raised-arg-1).min.result in
+    so_far_more (loop (goal.at.loop-k-preserved c).After-raised-arg-1).loop.invariant (start (goal.at.loop-k-preserved c).After-raised-arg-1).requires.0.few (k_lt (goal.at.loop-k-preserved c).After-raised-arg-1)
     (c.raised.ensures
-    ∙ ap₂ (λ (x y : ℕ). x + (y - level + e)) (amount-is r) (room-is r)
-    ∙ ap (λ (x : ℕ). at (start r).args.shares.now (k r) + x)
-    (gets-turn (rooms (start r)) level (start r).args.left (k r) (left_is r) (one-is r) (smaller r).min.ensures))
-    (c.saturating_sub-some.ensures ∙ ap (λ (x : ℕ). (loop r).loop.some - x) (one-is r))
-    (next-first c)
+    ∙ ap₂ (λ (x y : ℕ). x + (y - level + e)) (amount-is (goal.at.loop-k-preserved c).After-raised-arg-1) (room-is (goal.at.loop-k-preserved c).After-raised-arg-1)
+    ∙ ap (λ (x : ℕ). at (start (goal.at.loop-k-preserved c).After-raised-arg-1).args.shares.now (k (goal.at.loop-k-preserved c).After-raised-arg-1) + x)
+    (gets-turn (rooms (start (goal.at.loop-k-preserved c).After-raised-arg-1)) level (start (goal.at.loop-k-preserved c).After-raised-arg-1).args.left (k (goal.at.loop-k-preserved c).After-raised-arg-1) (left_is (goal.at.loop-k-preserved c).After-raised-arg-1) (one-is (goal.at.loop-k-preserved c).After-raised-arg-1) (smaller (goal.at.loop-k-preserved c).After-raised-arg-1).min.ensures))
+    (c.saturating_sub-some.ensures ∙ ap (λ (x : ℕ). (loop (goal.at.loop-k-preserved c).After-raised-arg-1).loop.some - x) (one-is (goal.at.loop-k-preserved c).After-raised-arg-1))
+    (next-first (goal.at.loop-k-preserved c).After-next-k)
 
 pub returns : goal.returns
 returns c = so_far-all c.loop-k.invariant c.loop-k-test.false
 
 pub loop-k-smaller : goal.loop-k-smaller
-loop-k-smaller c = omega (arith, (next-first c).from_le, k_lt c.before)
+loop-k-smaller c = omega (arith, (next-first (goal.at.loop-k-smaller c).After-next-k).from_le, k_lt (goal.at.loop-k-smaller c).After-raised-arg-1)

@@ -6,28 +6,28 @@ use native.Mathlib.Nat.{mul-le-mul}
 use native.Mathlib.Omega.{arith}
 use lib.Dec.{leb}
 use Rattle.shares.specs.Hold.{affords}
+use Rattle.shares.proofs.hold.affords.Goals.{After-family_of-family, After-wide, After-wide-2, After-wide-3}
 use Rattle.shares.proofs.hold.affords.Goals as goal
 
 -- the family is known
-module _ (c : goal.After-wide-3) where
-  abbrev second : goal.After-wide-2
+module _ (c : After-wide-3) where
+  abbrev second : After-wide-2
   second = c.before
-  abbrev first : goal.After-wide
+  abbrev first : After-wide
   first = second.before
-  abbrev known : goal.After-family_of-family
+  abbrev known : After-family_of-family
   known = first.before
 
 -- no product of a limit and a size wraps
 pub overflow_mul-result : goal.overflow_mul-result
-overflow_mul-result c = omega (arith, mul-le-mul c.wide-3.ensures.1 (known c.before).family-of.ensures.3)
+overflow_mul-result c = omega (arith, mul-le-mul c.wide-3.ensures.1 (known (goal.at.overflow_mul-result c).After-wide-3).family-of.ensures.3)
 
 -- both sides of the test are the definition's
 pub returns : goal.returns
 unfolding affords
 returns c =
-    let w = c.before in
-    let f = (known w).family-of.ensures in
-    ap₂ leb (ap₂ ◌+◌ (ap₂ ◌+◌ (first w).wide.ensures.0 (second w).wide2.ensures.0) f.0) (ap₂ ◌*◌ w.wide-3.ensures.0 f.1)
+    let f = (known (goal.at.returns c).After-wide-3).family-of.ensures in
+    ap₂ leb (ap₂ ◌+◌ (ap₂ ◌+◌ (first (goal.at.returns c).After-wide-3).wide.ensures.0 (second (goal.at.returns c).After-wide-3).wide2.ensures.0) f.0) (ap₂ ◌*◌ c.wide-3.ensures.0 f.1)
 
 pub overflow_add-result : goal.overflow_add-result
 overflow_add-result c = omega (arith, c.wide.ensures.1, c.wide-2.ensures.1)

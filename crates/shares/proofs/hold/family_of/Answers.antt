@@ -7,13 +7,14 @@ use Rattle.arrays.specs.Arrays.{at}
 use Rattle.tree.specs.Family.{helps}
 use Rattle.tree.proofs.Linking.{link_first, link_next}
 use Rattle.shares.proofs.Summing.{Summed, summed_first, summed_next, summed_end}
+use Rattle.shares.proofs.hold.family_of.Goals.{At-loop-k, In-loop-k, Start}
 use Rattle.shares.proofs.hold.family_of.Goals as goal
 
 -- ---- a turn, whose helper is k
-module _ (c : goal.In-loop-k) where
-  abbrev loop : goal.At-loop-k
+module _ (c : In-loop-k) where
+  abbrev loop : At-loop-k
   loop = c.before
-  abbrev start : goal.Start
+  abbrev start : Start
   start = loop.before
   abbrev k : ℕ
   k = loop.loop-k.k
@@ -33,11 +34,10 @@ loop-k-init c =
 
 pub loop-k-preserved : goal.loop-k-preserved
 loop-k-preserved c =
-    let i = c.before in
-    let v = (loop i).loop.invariant in
-    let x = onward i c.next-k.ensures in (
-      summed_next v.0 (k_lt i) c.wide-sum.ensures.0 x,
-      summed_next v.1 (k_lt i) refl x,
+    let v = (loop (goal.at.loop-k-preserved c).In-loop-k).loop.invariant in
+    let x = onward (goal.at.loop-k-preserved c).In-loop-k c.next-k.ensures in (
+      summed_next v.0 (k_lt (goal.at.loop-k-preserved c).In-loop-k) c.wide-sum.ensures.0 x,
+      summed_next v.1 (k_lt (goal.at.loop-k-preserved c).In-loop-k) refl x,
       omega (arith, v.2, x.from_le, c.wide-sum.ensures.1),
       omega (arith, v.3, x.from_le),
     )
@@ -53,10 +53,10 @@ returns c =
     )
 
 pub overflow_add-sum : goal.overflow_add-sum
-overflow_add-sum c = omega (arith, (loop c.before).loop.inv.2, k-few c.before, c.wide-sum.ensures.1)
+overflow_add-sum c = omega (arith, (loop (goal.at.overflow_add-sum c).In-loop-k).loop.inv.2, k-few (goal.at.overflow_add-sum c).In-loop-k, c.wide-sum.ensures.1)
 
 pub overflow_add-size : goal.overflow_add-size
-overflow_add-size c = omega (arith, (loop c.before).loop.inv.3, k-few c.before)
+overflow_add-size c = omega (arith, (loop (goal.at.overflow_add-size c).In-loop-k).loop.inv.3, k-few (goal.at.overflow_add-size c).In-loop-k)
 
 pub loop-k-smaller : goal.loop-k-smaller
-loop-k-smaller c = let i = c.before in omega (arith, (onward i c.next-k.ensures).from_le, k_lt i)
+loop-k-smaller c = omega (arith, (onward (goal.at.loop-k-smaller c).In-loop-k c.next-k.ensures).from_le, k_lt (goal.at.loop-k-smaller c).In-loop-k)

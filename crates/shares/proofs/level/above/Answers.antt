@@ -15,10 +15,11 @@ use Rattle.tree.proofs.Linking.{link_first, link_next}
 use Rattle.shares.specs.Inner.{rooms_now}
 use Rattle.shares.proofs.Spaces.{family_own, family_helper, family_other, rooms-most}
 use Rattle.shares.proofs.Summing.{Summed, summed_first, summed_next, summed_all, summed_most}
+use Rattle.shares.proofs.level.above.Goals.{After-room-room, At-loop-k, Start}
 use Rattle.shares.proofs.level.above.Invariants.{excess, one}
 use Rattle.shares.proofs.level.above.Goals as goal
 
-module _ (c : goal.Start) where
+module _ (c : Start) where
   abbrev rooms : ℕ → ℕ
   rooms =
       let a = c.args in
@@ -32,17 +33,16 @@ module _ (c : goal.Start) where
 
 pub loop-k-init : goal.loop-k-init
 loop-k-init c =
-    let b = c.before in
-    let x = link_first b.requires.0.linked b.args.n b.requires.1 c.first-k.ensures in (
-      summed_first (c.over-particles.ensures.0 ∙ ap (λ (r : ℕ). r - b.args.level) (own_is b)) x,
-      summed_first (c.one_above-members.ensures.0 ∙ ap (λ (r : ℕ). only (ltb b.args.level r) 1) (own_is b)) x,
+    let x = link_first c.requires.0.linked c.args.n c.requires.1 c.first-k.ensures in (
+      summed_first (c.over-particles.ensures.0 ∙ ap (λ (r : ℕ). r - c.args.level) (own_is (goal.at.loop-k-init c).Start)) x,
+      summed_first (c.one_above-members.ensures.0 ∙ ap (λ (r : ℕ). only (ltb c.args.level r) 1) (own_is (goal.at.loop-k-init c).Start)) x,
     )
 
 -- ---- a turn, whose helper is k
-module _ (c : goal.After-room-room) where
-  abbrev loop : goal.At-loop-k
+module _ (c : After-room-room) where
+  abbrev loop : At-loop-k
   loop = c.before
-  abbrev start : goal.Start
+  abbrev start : Start
   start = loop.before
   abbrev k : ℕ
   k = loop.loop-k.k
@@ -62,41 +62,37 @@ module _ (c : goal.After-room-room) where
 -- no more than 64 rooms of 32 bits are added up
 pub overflow_add-particles : goal.overflow_add-particles
 overflow_add-particles c =
-    let r = c.before in
-    let a = (start r).args in
-    let few = (start r).requires.0.few in
+    let a = (start (goal.at.overflow_add-particles c).After-room-room).args in
+    let few = (start (goal.at.overflow_add-particles c).After-room-room).requires.0.few in
     let most =
     rooms-most a.limit a.helpands.now a.reserves.now a.n a.own a.noted.now 4294967295 (search rules) (search rules)
     in
-    let all = summed_most 4294967295 (loop r).loop.invariant.0 (λ j. omega (arith, most j)) in
-    omega (arith, all, most a.n, k_lt r, few, c.over-particles-in-loop-k.ensures.1)
+    let all = summed_most 4294967295 (loop (goal.at.overflow_add-particles c).After-room-room).loop.invariant.0 (λ j. omega (arith, most j)) in
+    omega (arith, all, most a.n, k_lt (goal.at.overflow_add-particles c).After-room-room, few, c.over-particles-in-loop-k.ensures.1)
 
 pub overflow_add-members : goal.overflow_add-members
 overflow_add-members c =
-    let r = c.before in
-    let few = (start r).requires.0.few in
-    let most : (j : ℕ) → one (rooms (start r)) (start r).args.level j ≤ 1 = λ j.
-    only-max (ltb (start r).args.level (rooms (start r) j)) 1 in
-    let all = summed_most 1 (loop r).loop.invariant.1 most in
-    omega (arith, all, most (start r).args.n, k_lt r, few, c.one_above-members-in-loop-k.ensures.1)
+    let few = (start (goal.at.overflow_add-members c).After-room-room).requires.0.few in
+    let most : (j : ℕ) → one (rooms (start (goal.at.overflow_add-members c).After-room-room)) (start (goal.at.overflow_add-members c).After-room-room).args.level j ≤ 1 = λ j.
+    only-max (ltb (start (goal.at.overflow_add-members c).After-room-room).args.level (rooms (start (goal.at.overflow_add-members c).After-room-room) j)) 1 in
+    let all = summed_most 1 (loop (goal.at.overflow_add-members c).After-room-room).loop.invariant.1 most in
+    omega (arith, all, most (start (goal.at.overflow_add-members c).After-room-room).args.n, k_lt (goal.at.overflow_add-members c).After-room-room, few, c.one_above-members-in-loop-k.ensures.1)
 
 pub loop-k-preserved : goal.loop-k-preserved
 loop-k-preserved c =
-    let r = c.before in
-    let level = (start r).args.level in
-    let x = next-first r c.next-k.ensures in (
-      summed_next (loop r).loop.invariant.0 (k_lt r) (c.over-particles-in-loop-k.ensures.0 ∙ ap (λ (y : ℕ). y - level) (room-is r)) x,
-      summed_next (loop r).loop.invariant.1 (k_lt r) (c.one_above-members-in-loop-k.ensures.0 ∙ ap (λ (y : ℕ). only (ltb level y) 1) (room-is r)) x,
+    let level = (start (goal.at.loop-k-preserved c).After-room-room).args.level in
+    let x = next-first (goal.at.loop-k-preserved c).After-room-room c.next-k.ensures in (
+      summed_next (loop (goal.at.loop-k-preserved c).After-room-room).loop.invariant.0 (k_lt (goal.at.loop-k-preserved c).After-room-room) (c.over-particles-in-loop-k.ensures.0 ∙ ap (λ (y : ℕ). y - level) (room-is (goal.at.loop-k-preserved c).After-room-room)) x,
+      summed_next (loop (goal.at.loop-k-preserved c).After-room-room).loop.invariant.1 (k_lt (goal.at.loop-k-preserved c).After-room-room) (c.one_above-members-in-loop-k.ensures.0 ∙ ap (λ (y : ℕ). only (ltb level y) 1) (room-is (goal.at.loop-k-preserved c).After-room-room)) x,
     )
 
 pub returns : goal.returns
 returns c =
-    let b = c.before in
-    let level = b.args.level in (
-      summed_all c.loop-k.invariant.0 c.loop-k-test.false b.requires.1 (λ j d y. omega (arith, none_other b j d y)),
-      summed_all c.loop-k.invariant.1 c.loop-k-test.false b.requires.1
-          (λ j d y. only-not (ltb level (rooms b j)) 1 (le-ltb level (rooms b j) (omega (arith, none_other b j d y)))),
+    let level = c.args.level in (
+      summed_all c.loop-k.invariant.0 c.loop-k-test.false c.requires.1 (λ j d y. omega (arith, none_other (goal.at.returns c).Start j d y)),
+      summed_all c.loop-k.invariant.1 c.loop-k-test.false c.requires.1
+          (λ j d y. only-not (ltb level (rooms (goal.at.returns c).Start j)) 1 (le-ltb level (rooms (goal.at.returns c).Start j) (omega (arith, none_other (goal.at.returns c).Start j d y)))),
     )
 
 pub loop-k-smaller : goal.loop-k-smaller
-loop-k-smaller c = omega (arith, (next-first c.before c.next-k.ensures).from_le)
+loop-k-smaller c = omega (arith, (next-first (goal.at.loop-k-smaller c).After-room-room c.next-k.ensures).from_le)

@@ -6,9 +6,10 @@ use native.Mathlib.Omega.{arith}
 use Rattle.shares.specs.Inner.{rooms_now, over}
 use Rattle.shares.proofs.Spaces.{rooms-most}
 use Rattle.shares.proofs.Raising.{start-lowest, turns_left, Counted, turn-some, turn-lowest, turn-most, turn_fewer}
+use Rattle.shares.proofs.level.lowest.Goals.{After-above-high, After-rise, After-struct_known-in-loop-high-1, Start}
 use Rattle.shares.proofs.level.lowest.Goals as goal
 
-module _ (c : goal.Start) where
+module _ (c : Start) where
   abbrev rooms : ℕ → ℕ
   rooms =
       let a = c.args in
@@ -22,7 +23,7 @@ module _ (c : goal.Start) where
 pub loop-high-init : goal.loop-high-init
 loop-high-init c = rw c.saturating_sub-level.ensures (start-lowest c.args.rest c.requires.2)
 
-counted : (c : goal.After-above-high) →
+counted : (c : After-above-high) →
     let s = c.before in
     Counted s.args.nodes (rooms s) c.loop-high.level c.above-high.result.particles c.above-high.result.members
 counted c = record { particles_are = c.above-high.ensures.0; members_are = c.above-high.ensures.1 }
@@ -36,15 +37,15 @@ returns-then-high-rest c =
     )
 
 -- ---- it does not
-module _ (c : goal.After-struct_known-in-loop-high-1) where
-  abbrev up : goal.After-above-high
+module _ (c : After-struct_known-in-loop-high-1) where
+  abbrev up : After-above-high
   up = c.before
-  abbrev start : goal.Start
+  abbrev start : Start
   start = up.before
   short : start.args.rest < up.above-high.result.particles
   short = c.if-high-rest.false
 
-level-most : (c : goal.After-rise) → (up c.before).before.loop.level + c.rise.result ≤ 4294967295
+level-most : (c : After-rise) → (up c.before).before.loop.level + c.rise.result ≤ 4294967295
 level-most c = turn-most (bound (start c.before)) (counted (up c.before)) (short c.before) c.rise.ensures
 
 pub overflow_cast-left : goal.overflow_cast-left
@@ -54,19 +55,19 @@ pub overflow_sub-left : goal.overflow_sub-left
 overflow_sub-left c = c.if-high-rest.true
 
 pub overflow_sub-high : goal.overflow_sub-high
-overflow_sub-high c = omega (arith, short c)
+overflow_sub-high c = omega (arith, short (goal.at.overflow_sub-high c).After-struct_known-in-loop-high-1)
 
 pub rise-requires : goal.rise-requires
-rise-requires c = (omega (arith, short c), turn-some (bound (start c)) (counted (up c)) (short c))
+rise-requires c = (omega (arith, short (goal.at.rise-requires c).After-struct_known-in-loop-high-1), turn-some (bound (start (goal.at.rise-requires c).After-struct_known-in-loop-high-1)) (counted (up (goal.at.rise-requires c).After-struct_known-in-loop-high-1)) (short (goal.at.rise-requires c).After-struct_known-in-loop-high-1))
 
 pub overflow_cast-level : goal.overflow_cast-level
-overflow_cast-level c = omega (arith, level-most c)
+overflow_cast-level c = omega (arith, level-most (goal.at.overflow_cast-level c).After-rise)
 
 pub overflow_add-level : goal.overflow_add-level
-overflow_add-level c = omega (arith, level-most c)
+overflow_add-level c = omega (arith, level-most (goal.at.overflow_add-level c).After-rise)
 
 pub loop-high-smaller : goal.loop-high-smaller
-loop-high-smaller c = turn_fewer (bound (start c.before)) (counted (up c.before)) (short c.before) c.rise.ensures
+loop-high-smaller c = turn_fewer (bound (start (goal.at.loop-high-smaller c).After-struct_known-in-loop-high-1)) (counted (up (goal.at.loop-high-smaller c).After-struct_known-in-loop-high-1)) (short (goal.at.loop-high-smaller c).After-struct_known-in-loop-high-1) c.rise.ensures
 
 pub loop-high-preserved : goal.loop-high-preserved
-loop-high-preserved c = inr (turn-lowest (bound (start c.before)) (counted (up c.before)) (short c.before) c.rise.ensures)
+loop-high-preserved c = inr (turn-lowest (bound (start (goal.at.loop-high-preserved c).After-struct_known-in-loop-high-1)) (counted (up (goal.at.loop-high-preserved c).After-struct_known-in-loop-high-1)) (short (goal.at.loop-high-preserved c).After-struct_known-in-loop-high-1) c.rise.ensures)

@@ -8,6 +8,7 @@ use Rattle.sheet.specs.Sheet.{cells_of, counts_of}
 use Rattle.limit.specs.Limit.{table_size}
 use Rattle.sheet.specs.Table.{table_of}
 use Rattle.sheet.proofs.Tables.{stored, zeros, table-stored, index_below}
+use Rattle.sheet.proofs.table.unpack.Goals.{After-word_number, After-word_number-c, At-loop-i}
 use Rattle.sheet.proofs.table.unpack.Goals as goal
 
 pub loop-i-init : goal.loop-i-init
@@ -17,7 +18,7 @@ loop-i-init c =
     (omega arith, refl, table-stored c.args.s.now p.0 c.args.e p.1)
 
 -- a cell is an index of the table
-below : (c : goal.After-word_number-c) → c.word_number-c.result < table_size
+below : (c : After-word_number-c) → c.word_number-c.result < table_size
 below c =
     let p = c.requires in
     omega (
@@ -27,11 +28,11 @@ below c =
     )
 
 -- all entries are there
-long : (l : goal.At-loop-i) → let a = l.args in 4 * (3 + 2 * a.e) ≤ length a.s.now
+long : (l : At-loop-i) → let a = l.args in 4 * (3 + 2 * a.e) ≤ length a.s.now
 long l = l.requires.1.long
 
 -- after both words are read: what is left begins with them
-here : (c : goal.After-word_number) →
+here : (c : After-word_number) →
     let a = c.args in
     let i = c.loop-i.i in
     table_of a.s.now a.e
@@ -57,16 +58,16 @@ returns c =
     sym (c.loop-i.invariant.2 ∙ simp (part_end a.s.now 3 a.e c.loop-i.i c.loop-i-test.false))
 
 pub word_number-c-requires : goal.word_number-c-requires
-word_number-c-requires c = omega (arith, long c.before)
+word_number-c-requires c = omega (arith, long (goal.at.word_number-c-requires c).At-loop-i)
 
 pub word_number-requires : goal.word_number-requires
-word_number-requires c = omega (arith, long c.before)
+word_number-requires c = omega (arith, long (goal.at.word_number-requires c).At-loop-i)
 
 pub offset_bounds-table-c : goal.offset_bounds-table-c
-offset_bounds-table-c c = omega (arith, below c.before)
+offset_bounds-table-c c = omega (arith, below (goal.at.offset_bounds-table-c c).After-word_number-c)
 
 pub bounds-table-c : goal.bounds-table-c
-bounds-table-c c = omega (arith, below c.before)
+bounds-table-c c = omega (arith, below (goal.at.bounds-table-c c).After-word_number-c)
 
 pub loop-i-preserved : goal.loop-i-preserved
-loop-i-preserved c = (omega arith, simp length-set c.loop-i.invariant.1, here c)
+loop-i-preserved c = (omega arith, simp length-set c.loop-i.invariant.1, here (goal.at.loop-i-preserved c).After-word_number)

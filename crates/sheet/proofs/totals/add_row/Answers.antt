@@ -10,10 +10,11 @@ use Rattle.sheet.specs.Table.{held}
 use Rattle.sheet.specs.Totals.{total_of}
 use Rattle.sheet.proofs.Totalled.{total-le}
 use Rattle.arrays.proofs.Tabulate.{tabulate-at, tabulate-behind, tabulate-is, stored-below, stored-behind, length-tabulate}
+use Rattle.sheet.proofs.totals.add_row.Goals.{After-totals-in-loop-n-1}
 use Rattle.sheet.proofs.totals.add_row.Goals as goal
 
 -- the holder's count goes to what is there
-more : (c : goal.After-totals-in-loop-n-1) →
+more : (c : After-totals-in-loop-n-1) →
     let a = c.args in
     let n = c.loop-n.n in
     at c.loop-n.totals-1 n + held a.table.now a.holder n ≡ total_of (a.holder + 1) a.table.now n
@@ -32,7 +33,7 @@ more c =
 pub overflow_add-totals-in-loop-n : goal.overflow_add-totals-in-loop-n
 overflow_add-totals-in-loop-n c =
     let a = c.args in
-    omega (arith, more c, total-le a.table.now (a.holder + 1) c.loop-n.n (omega arith) (omega arith))
+    omega (arith, more (goal.at.overflow_add-totals-in-loop-n c).After-totals-in-loop-n-1, total-le a.table.now (a.holder + 1) c.loop-n.n (omega arith) (omega arith))
 
 pub loop-n-init : goal.loop-n-init
 loop-n-init c = (
@@ -50,7 +51,7 @@ loop-n-preserved c =
     let v = at out n + held a.table.now a.holder n in (
       omega arith,
       simp length-set c.loop-n.invariant.1,
-      stored-below out n v (total_of (a.holder + 1) a.table.now) (omega arith) (more c) c.loop-n.invariant.2,
+      stored-below out n v (total_of (a.holder + 1) a.table.now) (omega arith) (more (goal.at.loop-n-preserved c).After-totals-in-loop-n-1) c.loop-n.invariant.2,
       stored-behind out n v (at a.totals.now) c.loop-n.invariant.3,
     )
 

@@ -11,19 +11,19 @@ use Rattle.words.specs.Words.{encode, put_word}
 use Rattle.words.proofs.Buffer.{record_placed}
 use Rattle.sheet.specs.Write.{filled, sheet_bytes}
 use Rattle.sheet.proofs.Filled.{counts, cell_more, cells_skip, cells-one, store_one}
-use Rattle.sheet.proofs.write.put_sheet.Goals.{else-count-ne0, then-count-ne0}
+use Rattle.sheet.proofs.write.put_sheet.Goals.{At-loop-c, Start, Then-count-ne0, else-count-ne0, then-count-ne0}
 use Rattle.sheet.proofs.write.put_sheet.Goals as goal
 
 pub loop-c-init : goal.loop-c-init
 unfolding collect encode
 loop-c-init c = (omega arith, omega arith, refl, refl, refl)
 
-abbrev begun : goal.At-loop-c → goal.Start
+abbrev begun : At-loop-c → Start
 begun l =
     l.before
 
 -- there is room for one more entry
-room : (c : goal.Then-count-ne0) →
+room : (c : Then-count-ne0) →
     let l = c.before in
     l.loop-c.i < (begun l).args.e
 room c =
@@ -77,4 +77,4 @@ returns c =
     (omega (arith, c.requires.1, c.requires.2)))
 
 pub put_entry-requires : goal.put_entry-requires
-put_entry-requires c = omega (arith, room c.before)
+put_entry-requires c = omega (arith, room (goal.at.put_entry-requires c).Then-count-ne0)

@@ -6,10 +6,11 @@ use lib.ListN.{length}
 use Rattle.words.proofs.Buffer.{short_writes, long_writes}
 use Rattle.sheet.specs.Write.{sheet_bytes}
 use Rattle.sheet.proofs.Filled.{length-sheet}
+use Rattle.sheet.proofs.write.write_sheet.Goals.{After-count_cells-e}
 use Rattle.sheet.proofs.write.write_sheet.Goals as goal
 
 -- what is tested is the record's length
-size : (c : goal.After-count_cells-e) →
+size : (c : After-count_cells-e) →
     let a = c.args in
     length (sheet_bytes a.n a.t a.table.now) ≡ 4 * (3 + 2 * c.count_cells-e.result)
 size c =
@@ -18,13 +19,11 @@ size c =
 
 pub returns-then-out-size : goal.returns-then-out-size
 returns-then-out-size c =
-    let k = c.before in
-    let a = k.args in
-    short_writes (sheet_bytes a.n a.t a.table.now) a.out.now _ (size k) c.if-out-size.true
+    let a = c.args in
+    short_writes (sheet_bytes a.n a.t a.table.now) a.out.now _ (size (goal.at.returns-then-out-size c).After-count_cells-e) c.if-out-size.true
 
-pub returns-then-out-size : goal.returns
+pub returns : goal.returns
 returns c =
-    let k = c.before in
-    let a = k.args in
-    let w = long_writes (sheet_bytes a.n a.t a.table.now) a.out.now _ (size k) c.if-out-size.false in
+    let a = c.args in
+    let w = long_writes (sheet_bytes a.n a.t a.table.now) a.out.now _ (size (goal.at.returns c).After-count_cells-e) c.if-out-size.false in
     (w.0, c.put_sheet.ensures ∙ w.1)

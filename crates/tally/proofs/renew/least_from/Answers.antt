@@ -7,11 +7,12 @@ use Rattle.arrays.specs.Arrays.{at}
 use Rattle.tree.specs.Family.{helps}
 use Rattle.tree.proofs.Linking.{link_first, link_next, Left, left-first, left-next, left-all}
 use Rattle.tally.specs.Layout.{total_at, least_at}
+use Rattle.tally.proofs.renew.least_from.Goals.{In-loop-k, Start}
 use Rattle.tally.proofs.renew.least_from.Goals as goal
 
 -- a turn begins
-module _ (c : goal.In-loop-k) where
-  abbrev start : goal.Start
+module _ (c : In-loop-k) where
+  abbrev start : Start
   start = c.before
   abbrev k : ℕ
   k = c.loop-k.k
@@ -24,15 +25,14 @@ module _ (c : goal.In-loop-k) where
 -- what helper k spares is taken
 pub loop-k-preserved : goal.loop-k-preserved
 loop-k-preserved c =
-    let i = c.before in
-    left-next i.loop-k.invariant i.loop-k-test.true
-    (c.saturating_sub-left.ensures ∙ ap (λ (x : ℕ). i.loop-k.left-1 - x) c.saturating_sub.ensures) (onward i c.next-k.ensures)
+    left-next c.loop-k.invariant c.loop-k-test.true
+    (c.saturating_sub-left.ensures ∙ ap (λ (x : ℕ). c.loop-k.left-1 - x) c.saturating_sub.ensures) (onward (goal.at.loop-k-preserved c).In-loop-k c.next-k.ensures)
 
 pub loop-k-init : goal.loop-k-init
 loop-k-init c = left-first refl (link_first c.requires.0.linked _ c.requires.1 c.first-k.ensures)
 
 pub loop-k-smaller : goal.loop-k-smaller
-loop-k-smaller c = omega (arith, (onward c.before c.next-k.ensures).from_le)
+loop-k-smaller c = omega (arith, (onward (goal.at.loop-k-smaller c).In-loop-k c.next-k.ensures).from_le)
 
 pub returns : goal.returns
 returns c = (left-all c.loop-k.invariant c.loop-k-test.false).1

@@ -7,11 +7,12 @@ use native.Mathlib.Omega.{arith}
 use Rattle.arrays.specs.Arrays.{at}
 use Rattle.tally.specs.Renew.{renewed}
 use Rattle.tally.proofs.Renewing.{renewed-none, renewed-same, renewed-root, renewed_up}
+use Rattle.tally.proofs.renew.renew.Goals.{After-helpand-1, After-least_from-least, Else-least-cells, In-loop-more, Start}
 use Rattle.tally.proofs.renew.renew.Goals as goal
 
 -- a turn begins
-module _ (c : goal.In-loop-more) where
-  abbrev start : goal.Start
+module _ (c : In-loop-more) where
+  abbrev start : Start
   start = c.before
   abbrev n : ℕ
   n = c.loop-more.n
@@ -25,7 +26,7 @@ module _ (c : goal.In-loop-more) where
   some_left z = omega (arith, c.loop-more-test.true)
 
 -- the least of n is worked out
-abbrev turn : goal.After-least_from-least → goal.In-loop-more
+abbrev turn : After-least_from-least → In-loop-more
 turn c = c.before
 
 pub returns-then-least-cells : goal.returns-then-least-cells
@@ -35,31 +36,29 @@ returns-then-least-cells c =
     sym (renewed-same _ _ _ _ _ f.least_from-least.ensures l.more (some_left (turn f)) c.if-least-cells.true) ∙ l.inv.1
 
 -- it is noted, and the helpand is read
-module _ (c : goal.After-helpand-1) where
-  abbrev renewing : goal.Else-least-cells
+module _ (c : After-helpand-1) where
+  abbrev renewing : Else-least-cells
   renewing = c.before
-  abbrev found : goal.After-least_from-least
+  abbrev found : After-least_from-least
   found = renewing.before
 
 pub returns-then-helpand-n : goal.returns-then-helpand-n
 returns-then-helpand-n c =
-    let h = c.before in
-    let f = found h in
+    let f = found (goal.at.returns-then-helpand-n c).After-helpand-1 in
     let l = (turn f).before.loop in
-    sym (renewed-root _ _ _ _ _ f.least_from-least.ensures l.more (some_left (turn f)) (renewing h).if1.false c.if-helpand-n.true)
+    sym (renewed-root _ _ _ _ _ f.least_from-least.ensures l.more (some_left (turn f)) (renewing (goal.at.returns-then-helpand-n c).After-helpand-1).if1.false c.if-helpand-n.true)
     ∙ l.inv.1
 
 pub loop-more-preserved : goal.loop-more-preserved
 loop-more-preserved c =
-    let h = c.before in
-    let f = found h in
+    let f = found (goal.at.loop-more-preserved c).After-helpand-1 in
     let l = (turn f).before.loop in (
       helpand-below (turn f),
-      sym (renewed_up _ _ _ _ _ f.least_from-least.ensures l.more (some_left (turn f)) (renewing h).if1.false c.if-helpand-n.false)
+      sym (renewed_up _ _ _ _ _ f.least_from-least.ensures l.more (some_left (turn f)) (renewing (goal.at.loop-more-preserved c).After-helpand-1).if1.false c.if-helpand-n.false)
           ∙ l.inv.1,
     )
 
-pub returns-then-least-cells : goal.returns
+pub returns : goal.returns
 returns c =
     let l = c.loop-more in
     let a = c.args in
@@ -70,7 +69,7 @@ pub loop-more-init : goal.loop-more-init
 loop-more-init c = (c.requires.1, rw (add-one c.args.nodes))
 
 pub least_from-least-requires : goal.least_from-least-requires
-least_from-least-requires c = ((start c.before).pre.0, below c.before)
+least_from-least-requires c = ((start (goal.at.least_from-least-requires c).In-loop-more).pre.0, below (goal.at.least_from-least-requires c).In-loop-more)
 
 pub overflow_add-n : goal.overflow_add-n
 overflow_add-n c = omega (arith, inside (turn c))
@@ -89,8 +88,8 @@ bounds-helpands-n c = inside (turn c.before)
 
 pub overflow_cast-helpand : goal.overflow_cast-helpand
 overflow_cast-helpand c =
-    let i = turn (found c) in
+    let i = turn (found (goal.at.overflow_cast-helpand c).After-helpand-1) in
     omega (arith, helpand-below i, (start i).pre.0.few)
 
 pub loop-more-smaller : goal.loop-more-smaller
-loop-more-smaller c = omega (arith, (turn (found c.before)).loop-test.taken)
+loop-more-smaller c = omega (arith, (turn (found (goal.at.loop-more-smaller c).After-helpand-1)).loop-test.taken)

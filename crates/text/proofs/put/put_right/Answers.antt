@@ -5,10 +5,11 @@ use native.Mathlib.Omega.{arith}
 use lib.ListN.{length}
 use Rattle.text.proofs.Columns.{Filling, decimal-some, aligned_right, filling_none, filling_length, filling_more, filling_all}
 use Rattle.text.proofs.Writing.{put_then}
+use Rattle.text.proofs.put.put_right.Goals.{After-slice_known-1, At-loop-i}
 use Rattle.text.proofs.put.put_right.Goals as goal
 
 -- there is a last column
-some : (c : goal.After-slice_known-1) → 1 ≤ c.args.width
+some : (c : After-slice_known-1) → 1 ≤ c.args.width
 some c = omega (arith, c.requires.0, decimal-some c.args.x c.ranges.x.fits)
 
 pub loop-i-init : goal.loop-i-init
@@ -23,21 +24,20 @@ loop-i-preserved c =
     (filling_more a.out.now a.at (a.width - 1) a.x c.loop-i.invariant c.loop-i-test.true)
 
 -- the buffer stays as long as it was
-size : (l : goal.At-loop-i) → length l.loop-i.out-1 ≡ length l.args.out.now
+size : (l : At-loop-i) → length l.loop-i.out-1 ≡ length l.args.out.now
 size l =
     let a = l.args in
     filling_length a.out.now a.at (a.width - 1) a.x l.loop-i.invariant
 
 -- the columns up to the last lie in the buffer
-inside : (l : goal.At-loop-i) →
+inside : (l : At-loop-i) →
     let a = l.args in
     (1 ≤ a.width) × (a.at + a.width ≤ length l.loop-i.out-1) × (l.loop-i.i ≤ a.width - 1)
 inside l = (some l.before, omega (arith, size l, l.requires.1), l.loop-i.invariant.i_le)
 
 pub shape_of-out : goal.shape_of-out
 shape_of-out c =
-    let l = c.before in
-    let e : length l.loop-i.out-1 ≡ length l.args.out.now = size l in
+    let e : length c.loop-i.out-1 ≡ length c.args.out.now = size (goal.at.shape_of-out c).At-loop-i in
     search rules
 
 pub returns : goal.returns
@@ -47,16 +47,16 @@ returns c =
     rw (aligned_right a.width a.x c.ranges.x.fits c.requires.0) (put_then before c.put_byte.ensures)
 
 pub overflow_sub-last : goal.overflow_sub-last
-overflow_sub-last c = omega (arith, some c)
+overflow_sub-last c = omega (arith, some (goal.at.overflow_sub-last c).After-slice_known-1)
 
 pub overflow_add-out : goal.overflow_add-out
-overflow_add-out c = omega (arith, (inside c.before).0, (inside c.before).1, (inside c.before).2)
+overflow_add-out c = omega (arith, (inside (goal.at.overflow_add-out c).At-loop-i).0, (inside (goal.at.overflow_add-out c).At-loop-i).1, (inside (goal.at.overflow_add-out c).At-loop-i).2)
 
 pub bounds-out-at : goal.bounds-out-at
-bounds-out-at c = omega (arith, (inside c.before).0, (inside c.before).1, (inside c.before).2)
+bounds-out-at c = omega (arith, (inside (goal.at.bounds-out-at c).At-loop-i).0, (inside (goal.at.bounds-out-at c).At-loop-i).1, (inside (goal.at.bounds-out-at c).At-loop-i).2)
 
 pub overflow_add-at : goal.overflow_add-at
-overflow_add-at c = omega (arith, (inside c.before).0, (inside c.before).1)
+overflow_add-at c = omega (arith, (inside (goal.at.overflow_add-at c).At-loop-i).0, (inside (goal.at.overflow_add-at c).At-loop-i).1)
 
 pub put_byte-requires : goal.put_byte-requires
-put_byte-requires c = omega (arith, (inside c.before).0, (inside c.before).1)
+put_byte-requires c = omega (arith, (inside (goal.at.put_byte-requires c).At-loop-i).0, (inside (goal.at.put_byte-requires c).At-loop-i).1)

@@ -8,26 +8,27 @@ use Rattle.sheet.specs.Sheet.{HeaderAnswer, header_of}
 use Rattle.sheet.proofs.Answers.{number_more}
 use Rattle.text.specs.Split.{split_at}
 use Rattle.text.proofs.Splitting.{split-whole, split-size}
+use Rattle.text.proofs.split.split.Goals.{In-Accepted-2}
 use Rattle.text.proofs.split.split.Goals as goal
 
 -- the header was refused
 pub returns-in_default : goal.returns-in_default
 returns-in_default c =
-    let e = ap (λ (a : HeaderAnswer). a.refusal) (sym (ap header_of c.enum_told-1.given.1) ∙ c.read_header.ensures) in
-    sym (split-whole c.args.input.now (λ z. omega (arith, e, number_more c.enum_told-1.given.0.0)))
+    let e = ap (λ (a : HeaderAnswer). a.refusal) (sym (ap header_of c.in_default.is) ∙ c.read_header.ensures) in
+    sym (split-whole c.args.input.now (λ z. omega (arith, e, number_more c.in_default.field-0)))
 
 -- the size that the header says, and what there is
-sized : (c : goal.In-Accepted-2) →
+sized : (c : In-Accepted-2) →
     let s = c.args.input.now in
-    split_at s ≡ min (4 * (3 + 2 * c.h-1.given.0.0.e)) (length s)
+    split_at s ≡ min (4 * (3 + 2 * c.in-Accepted.h.e)) (length s)
 sized c =
     let s = c.args.input.now in
-    let read = sym (ap header_of c.h-1.given.1) ∙ c.read_header.ensures in
+    let read = sym (ap header_of c.in-Accepted.is) ∙ c.read_header.ensures in
     split-size s (ap (λ (a : HeaderAnswer). a.refusal) (sym read))
     ∙ ap (λ (a : HeaderAnswer). min (4 * (3 + 2 * a.e)) (length s)) (sym read)
 
 pub returns-then-all-size : goal.returns-then-all-size
-returns-then-all-size c = omega (arith, sized c.before)
+returns-then-all-size c = omega (arith, sized (goal.at.returns-then-all-size c).In-Accepted-2)
 
 pub returns-else-all-size : goal.returns-else-all-size
-returns-else-all-size c = omega (arith, sized c.before)
+returns-else-all-size c = omega (arith, sized (goal.at.returns-else-all-size c).In-Accepted-2)

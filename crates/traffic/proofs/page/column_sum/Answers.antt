@@ -6,10 +6,11 @@ use Rattle.fold.specs.Sum.{sum}
 use Rattle.fold.proofs.Sums.{sum-none, sum_more, sum_fewer}
 use Rattle.limit.specs.Limit.{max_total}
 use Rattle.arrays.specs.Arrays.{at}
+use Rattle.traffic.proofs.page.column_sum.Goals.{In-loop-k}
 use Rattle.traffic.proofs.page.column_sum.Goals as goal
 
 -- the entry of node k, added to those before it, is no more than all
-within : (c : goal.In-loop-k) →
+within : (c : In-loop-k) →
     c.loop-k.s + at c.args.column c.loop-k.k ≤ max_total
 within c =
     let a = c.args in
@@ -31,4 +32,4 @@ pub loop-k-init : goal.loop-k-init
 loop-k-init c = (omega arith, sym (sum-none (at c.args.column)))
 
 pub overflow_add-s : goal.overflow_add-s
-overflow_add-s c = omega (arith, within c)
+overflow_add-s c = omega (arith, within (goal.at.overflow_add-s c).In-loop-k)

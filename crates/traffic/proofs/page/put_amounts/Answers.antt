@@ -8,31 +8,32 @@ use Rattle.text.proofs.Lengths.{decimal-le}
 use Rattle.text.proofs.Columns.{length_aligned}
 use Rattle.text.proofs.Writing.{put_then}
 use Rattle.traffic.specs.Inner.{amounts}
+use Rattle.traffic.proofs.page.put_amounts.Goals.{After-put_byte-a, After-put_byte-c, After-put_right-b, After-put_right-d, Start}
 use Rattle.traffic.proofs.page.put_amounts.Goals as goal
 
 -- after each part: the index behind it, as far from where the line's numbers begin
-module _ (c : goal.After-put_byte-a) where
-  abbrev start : goal.Start
+module _ (c : After-put_byte-a) where
+  abbrev start : Start
   start = c.before
   at_1 : c.put_byte-a.result ≡ start.args.at + 1
   at_1 = c.put_byte-a.ensures.index
 
-module _ (c : goal.After-put_right-b) where
-  abbrev one : goal.After-put_byte-a
+module _ (c : After-put_right-b) where
+  abbrev one : After-put_byte-a
   one = c.before
   at_11 : c.put_right-b.result ≡ (start one).args.at + 11
   at_11 =
       let x = (start one).args.sent in
       omega (arith, c.put_right-b.ensures.index, at_1 one, length_aligned 10 (decimal x) (decimal-le x))
 
-module _ (c : goal.After-put_byte-c) where
-  abbrev two : goal.After-put_right-b
+module _ (c : After-put_byte-c) where
+  abbrev two : After-put_right-b
   two = c.before
   at_12 : c.put_byte-c.result ≡ (start (one two)).args.at + 12
   at_12 = omega (arith, c.put_byte-c.ensures.index, at_11 two)
 
-module _ (c : goal.After-put_right-d) where
-  abbrev three : goal.After-put_byte-c
+module _ (c : After-put_right-d) where
+  abbrev three : After-put_byte-c
   three = c.before
   at_22 : c.put_right-d.result ≡ (start (one (two three))).args.at + 22
   at_22 =
@@ -41,28 +42,23 @@ module _ (c : goal.After-put_right-d) where
 
 pub put_right-b-requires : goal.put_right-b-requires
 put_right-b-requires c =
-    let b = c.before in
-    (decimal-le (start b).args.sent, omega (arith, at_1 b, (start b).requires))
+    (decimal-le (start (goal.at.put_right-b-requires c).After-put_byte-a).args.sent, omega (arith, at_1 (goal.at.put_right-b-requires c).After-put_byte-a, (start (goal.at.put_right-b-requires c).After-put_byte-a).requires))
 
 pub put_byte-c-requires : goal.put_byte-c-requires
 put_byte-c-requires c =
-    let b = c.before in
-    omega (arith, at_11 b, (start (one b)).pre)
+    omega (arith, at_11 (goal.at.put_byte-c-requires c).After-put_right-b, (start (one (goal.at.put_byte-c-requires c).After-put_right-b)).pre)
 
 pub put_right-d-requires : goal.put_right-d-requires
 put_right-d-requires c =
-    let b = c.before in
-    (decimal-le (start (one (two b))).args.received, omega (arith, at_12 b, (start (one (two b))).pre))
+    (decimal-le (start (one (two (goal.at.put_right-d-requires c).After-put_byte-c))).args.received, omega (arith, at_12 (goal.at.put_right-d-requires c).After-put_byte-c, (start (one (two (goal.at.put_right-d-requires c).After-put_byte-c))).pre))
 
 pub put_byte-requires : goal.put_byte-requires
 put_byte-requires c =
-    let b = c.before in
-    omega (arith, at_22 b, (start (one (two (three b)))).pre)
+    omega (arith, at_22 (goal.at.put_byte-requires c).After-put_right-d, (start (one (two (three (goal.at.put_byte-requires c).After-put_right-d)))).pre)
 
 pub returns : goal.returns
 unfolding amounts
 returns c =
-    let d = c.before in
-    put_then (one (two (three d))).put_byte.ensures
-    (put_then (two (three d)).put_right.ensures
-    (put_then (three d).put-byte2.ensures (put_then d.put_right-d.ensures c.put_byte.ensures)))
+    put_then (one (two (three (goal.at.returns c).After-put_right-d))).put_byte.ensures
+    (put_then (two (three (goal.at.returns c).After-put_right-d)).put_right.ensures
+    (put_then (three (goal.at.returns c).After-put_right-d).put-byte2.ensures (put_then c.put_right-d.ensures c.put_byte.ensures)))

@@ -3,10 +3,11 @@ use borrow.Author.Rules.{rules}
 use native.Mathlib.Omega.{arith}
 use Rattle.arrays.specs.Arrays.{at}
 use Rattle.traffic.proofs.Lines.{length-nodes, page_put}
+use Rattle.traffic.proofs.page.put_page.Goals.{After-put_nodes-last, Start}
 use Rattle.traffic.proofs.page.put_page.Goals as goal
 
 -- the lines of the nodes were written
-abbrev start : goal.After-put_nodes-last → goal.Start
+abbrev start : After-put_nodes-last → Start
 start c = c.before
 
 pub put_last-requires : goal.put_last-requires

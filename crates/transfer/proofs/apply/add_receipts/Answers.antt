@@ -10,6 +10,7 @@ use Rattle.moves.specs.Moves.{routes_of, counts_of}
 use Rattle.transfer.specs.Apply.{into_cell, receives}
 use Rattle.transfer.specs.Inner.{Room}
 use Rattle.transfer.proofs.Applied.{into-below, Entry, entry_read, moved_from, moved-from-none, moved-from_more, moved-from-here, each-is, plus-at}
+use Rattle.transfer.proofs.apply.add_receipts.Goals.{After-word_number, After-word_number-received, In-loop-i, Start}
 use Rattle.transfer.proofs.apply.add_receipts.Invariants.{Adding}
 use Rattle.transfer.proofs.apply.add_receipts.Goals as goal
 
@@ -34,12 +35,12 @@ module _ (old moves : List ℕ) (e : ℕ) (table : List ℕ) (i : ℕ) (s : Addi
       }
 
 -- ---- at the cell that was computed
-module _ (c : goal.After-word_number-received) where
-  abbrev route-read : goal.After-word_number
+module _ (c : After-word_number-received) where
+  abbrev route-read : After-word_number
   route-read = c.before
-  abbrev turn : goal.In-loop-i
+  abbrev turn : In-loop-i
   turn = route-read.before
-  abbrev start : goal.Start
+  abbrev start : Start
   start = turn.before
   read : let a = start.args in
       Entry a.moves.now a.e turn.loop-i.i route-read.word_number.result c.word_number-received.result
@@ -59,11 +60,10 @@ loop-i-init c = record { i_le = omega arith; size = c.requires.0.size; added = �
 
 pub loop-i-preserved : goal.loop-i-preserved
 loop-i-preserved c =
-    let k = c.before in
-    let a = (start k).args in
-    let l = (turn k).before.loop in
-    rw k.into_cell-into.ensures
-    (after a.table.now a.moves.now a.e l.table l.i l.inv (turn k).loop-test.true _ _ (read k))
+    let a = (start (goal.at.loop-i-preserved c).After-word_number-received).args in
+    let l = (turn (goal.at.loop-i-preserved c).After-word_number-received).before.loop in
+    rw c.into_cell-into.ensures
+    (after a.table.now a.moves.now a.e l.table l.i l.inv (turn (goal.at.loop-i-preserved c).After-word_number-received).loop-test.true _ _ (read (goal.at.loop-i-preserved c).After-word_number-received))
 
 pub returns : goal.returns
 returns c =
@@ -74,13 +74,13 @@ returns c =
     (λ j b. omega (arith, l.invariant.added j, moved-from-none into_cell m e l.i c.loop-i-test.false j))
 
 pub offset_bounds-table-into : goal.offset_bounds-table-into
-offset_bounds-table-into c = omega (arith, into-lt c)
+offset_bounds-table-into c = omega (arith, into-lt (goal.at.offset_bounds-table-into c).After-word_number-received)
 
 pub bounds-table-into : goal.bounds-table-into
-bounds-table-into c = into-lt c
+bounds-table-into c = into-lt (goal.at.bounds-table-into c).After-word_number-received
 
 pub overflow_add-table : goal.overflow_add-table
-overflow_add-table c = omega (arith, fits-here c.before)
+overflow_add-table c = omega (arith, fits-here (goal.at.overflow_add-table c).After-word_number-received)
 
 pub bounds-table-into-in-loop-i : goal.bounds-table-into-in-loop-i
-bounds-table-into-in-loop-i c = into-lt c.before
+bounds-table-into-in-loop-i c = into-lt (goal.at.bounds-table-into-in-loop-i c).After-word_number-received

@@ -18,6 +18,7 @@ use Rattle.transfer.specs.Apply.{sends_within, less_sends, carried}
 use Rattle.transfer.specs.Inner.{Ready, Room}
 use Rattle.transfer.proofs.Applied.{length-less, carried_from}
 use Rattle.transfer.proofs.Kept.{sum_kept}
+use Rattle.transfer.proofs.apply.apply_moves.Goals.{Else-not-subtract_sends, Start}
 use Rattle.transfer.proofs.apply.apply_moves.Goals as goal
 
 -- once no cell is short, what arrives fits what is left
@@ -44,14 +45,14 @@ module _ (table moves : List ℕ) (e : ℕ) (ready : Ready table moves e) where
   )
 
 pub returns-then-not-subtract_sends : goal.returns-then-not-subtract_sends
-returns-then-not-subtract_sends c = (sym (not-true _ c.if-not-subtract_sends.true) ∙ c.subtract_sends.ensures.0, λ z. absurd (true≢false (sym z)))
+returns-then-not-subtract_sends c = (sym (c.if-not-subtract_sends.true) ∙ c.subtract_sends.ensures.0, λ z. absurd (true≢false (sym z)))
 
 -- no cell was short
-module _ (c : goal.Else-not-subtract_sends) where
-  abbrev start : goal.Start
+module _ (c : Else-not-subtract_sends) where
+  abbrev start : Start
   start = c.before
   all_had : c.subtract_sends.result ≡ true
-  all_had = not-false _ c.if-not-subtract_sends.false
+  all_had = c.if-not-subtract_sends.false
   within-here : let a = start.args in
       sends_within a.table.now (routes_of a.moves.now a.e) (counts_of a.moves.now a.e) ≡ true
   within-here = sym c.subtract_sends.ensures.0 ∙ all_had
@@ -61,14 +62,12 @@ module _ (c : goal.Else-not-subtract_sends) where
 
 pub add_receipts-requires : goal.add_receipts-requires
 add_receipts-requires c =
-    let p = c.before in
-    let a = (start p).args in
-    rw (left_is p) (left-fits a.table.now a.moves.now a.e (start p).requires.0 (start p).requires.1 (within-here p))
+    let a = (start (goal.at.add_receipts-requires c).Else-not-subtract_sends).args in
+    rw (left_is (goal.at.add_receipts-requires c).Else-not-subtract_sends) (left-fits a.table.now a.moves.now a.e (start (goal.at.add_receipts-requires c).Else-not-subtract_sends).requires.0 (start (goal.at.add_receipts-requires c).Else-not-subtract_sends).requires.1 (within-here (goal.at.add_receipts-requires c).Else-not-subtract_sends))
 
-pub returns-then-not-subtract_sends : goal.returns
+pub returns : goal.returns
 returns c =
-    let p = c.before in
-    (sym (within-here p), λ z. c.add_receipts.ensures ∙ rw (left_is p))
+    (sym (within-here (goal.at.returns c).Else-not-subtract_sends), λ z. c.add_receipts.ensures ∙ rw (left_is (goal.at.returns c).Else-not-subtract_sends))
 
 pub subtract_sends-requires : goal.subtract_sends-requires
 subtract_sends-requires c = c.requires.0

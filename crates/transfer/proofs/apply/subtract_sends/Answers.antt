@@ -10,6 +10,7 @@ use Rattle.arrays.specs.Arrays.{at}
 use Rattle.moves.specs.Moves.{routes_of, counts_of}
 use Rattle.transfer.specs.Apply.{from_cell, sends, sends_within, less_sends}
 use Rattle.transfer.proofs.Applied.{from-below, Entry, entry_read, moved_from, moved-from-none, moved-from_more, moved-from-here, each-is, within_of, within-false, less-at}
+use Rattle.transfer.proofs.apply.subtract_sends.Goals.{After-word_number, After-word_number-sent, In-loop-i, Start}
 use Rattle.transfer.proofs.apply.subtract_sends.Invariants.{Subtracting}
 use Rattle.transfer.proofs.apply.subtract_sends.Goals as goal
 
@@ -45,12 +46,12 @@ module _ (old moves : List ℕ) (e : ℕ) (table : List ℕ) (i : ℕ) (s : Subt
       each-is (λ c x. x - sends (routes_of moves e) (counts_of moves e) c) old table (s.size ∙ sym same) (λ c l. omega (arith, left-all c))
 
 -- ---- at the cell that was computed
-module _ (c : goal.After-word_number-sent) where
-  abbrev route-read : goal.After-word_number
+module _ (c : After-word_number-sent) where
+  abbrev route-read : After-word_number
   route-read = c.before
-  abbrev turn : goal.In-loop-i
+  abbrev turn : In-loop-i
   turn = route-read.before
-  abbrev start : goal.Start
+  abbrev start : Start
   start = turn.before
   abbrev from : ℕ
   from = c.from_cell-from.result
@@ -65,24 +66,22 @@ loop-i-init c = record { i_le = omega arith; size = c.requires.size; left = λ j
 
 pub returns-then-table-from : goal.returns-then-table-from
 returns-then-table-from c =
-    let k = c.before in
-    let a = (start k).args in
-    let l = (turn k).before.loop in (
-      sym (fails a.table.now a.moves.now a.e l.table l.i l.inv (turn k).loop-test.true _ _ (read k)
-          (start k).requires.size (rw (← k.from_cell-from.ensures) c.if-table-from.true)),
+    let a = (start (goal.at.returns-then-table-from c).After-word_number-sent).args in
+    let l = (turn (goal.at.returns-then-table-from c).After-word_number-sent).before.loop in (
+      sym (fails a.table.now a.moves.now a.e l.table l.i l.inv (turn (goal.at.returns-then-table-from c).After-word_number-sent).loop-test.true _ _ (read (goal.at.returns-then-table-from c).After-word_number-sent)
+          (start (goal.at.returns-then-table-from c).After-word_number-sent).requires.size (rw (← c.from_cell-from.ensures) c.if-table-from.true)),
       λ z. absurd (true≢false (sym z)),
     )
 
 pub loop-i-preserved : goal.loop-i-preserved
 loop-i-preserved c =
-    let k = c.before in
-    let a = (start k).args in
-    let l = (turn k).before.loop in
-    rw k.from_cell-from.ensures
-    (after a.table.now a.moves.now a.e l.table l.i l.inv (turn k).loop-test.true _ _ (read k)
-    (rw (← k.from_cell-from.ensures) c.if-table-from.false))
+    let a = (start (goal.at.loop-i-preserved c).After-word_number-sent).args in
+    let l = (turn (goal.at.loop-i-preserved c).After-word_number-sent).before.loop in
+    rw c.from_cell-from.ensures
+    (after a.table.now a.moves.now a.e l.table l.i l.inv (turn (goal.at.loop-i-preserved c).After-word_number-sent).loop-test.true _ _ (read (goal.at.loop-i-preserved c).After-word_number-sent)
+    (rw (← c.from_cell-from.ensures) c.if-table-from.false))
 
-pub returns-then-table-from : goal.returns
+pub returns : goal.returns
 returns c =
     let l = c.loop-i in
     let a = c.args in
@@ -92,16 +91,16 @@ returns c =
     )
 
 pub offset_bounds-table-from : goal.offset_bounds-table-from
-offset_bounds-table-from c = omega (arith, from-lt c)
+offset_bounds-table-from c = omega (arith, from-lt (goal.at.offset_bounds-table-from c).After-word_number-sent)
 
 pub bounds-table-from : goal.bounds-table-from
-bounds-table-from c = from-lt c
+bounds-table-from c = from-lt (goal.at.bounds-table-from c).After-word_number-sent
 
 pub offset_bounds-table-from-in-loop-i : goal.offset_bounds-table-from-in-loop-i
-offset_bounds-table-from-in-loop-i c = omega (arith, from-lt c.before)
+offset_bounds-table-from-in-loop-i c = omega (arith, from-lt (goal.at.offset_bounds-table-from-in-loop-i c).After-word_number-sent)
 
 pub bounds-table-from-in-loop-i : goal.bounds-table-from-in-loop-i
-bounds-table-from-in-loop-i c = from-lt c.before
+bounds-table-from-in-loop-i c = from-lt (goal.at.bounds-table-from-in-loop-i c).After-word_number-sent
 
 pub bounds-table-from-in-loop-i-2 : goal.bounds-table-from-in-loop-i-2
-bounds-table-from-in-loop-i-2 c = from-lt c.before
+bounds-table-from-in-loop-i-2 c = from-lt (goal.at.bounds-table-from-in-loop-i-2 c).After-word_number-sent

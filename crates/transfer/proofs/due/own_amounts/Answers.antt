@@ -11,7 +11,7 @@ use Rattle.tree.specs.Family.{helps, over_helpers}
 use Rattle.tree.specs.Division.{own_of}
 use Rattle.transfer.proofs.Dues.{helpers_root, helpers_up, off}
 use Rattle.arrays.proofs.Tabulate.{tabulate-is}
-use Rattle.transfer.proofs.due.own_amounts.Goals.{else-owner-k, then-owner-k}
+use Rattle.transfer.proofs.due.own_amounts.Goals.{In-loop-k, Then-owner-k, else-owner-k, then-owner-k}
 use Rattle.transfer.proofs.due.own_amounts.Goals as goal
 
 pub loop-k-init : goal.loop-k-init
@@ -22,13 +22,13 @@ loop-k-init c = (
 )
 
 -- a helpand is a node
-inside : (c : goal.In-loop-k) → get_or c.args.helpands c.loop-k.k 0 < 64
+inside : (c : In-loop-k) → get_or c.args.helpands c.loop-k.k 0 < 64
 inside c =
     let a = c.args in
     omega (arith, c.requires.1.inside c.loop-k.k c.loop-k-test.true, c.requires.0)
 
 -- what is left for the owner is not less than one more share
-room : (c : goal.Then-owner-k) →
+room : (c : Then-owner-k) →
     let a = c.args in
     get_or a.shares c.loop-k.k 0 ≤ get_or c.loop-k.own (get_or a.helpands c.loop-k.k 0) 0
 room c =
@@ -51,8 +51,8 @@ loop-k-preserved c =
     let own = c.loop-k.own in
     let test = c.loop-k-test.true in
     elim c.if-owner-k.branch [
-      | then-owner-k w ↦ let then : goal.Then-owner-k = record { before = c.before; if1 = w.if-owner-k } in
-    let long : h k < length own = omega (arith, inside c.before, c.loop-k.invariant.1) in
+      | then-owner-k w ↦ let then : Then-owner-k = record { before = c.before; if1 = w.if-owner-k } in
+    let long : h k < length own = omega (arith, inside (goal.at.loop-k-preserved c).In-loop-k, c.loop-k.invariant.1) in
     rw w.1 (
       omega (arith, test),
       simp length-set c.loop-k.invariant.1,
@@ -79,19 +79,19 @@ returns c =
     (λ n b. omega (arith, all n, c.requires.2 n b))
 
 pub overflow_cast-owner : goal.overflow_cast-owner
-overflow_cast-owner c = omega (arith, inside c)
+overflow_cast-owner c = omega (arith, inside (goal.at.overflow_cast-owner c).In-loop-k)
 
 pub offset_bounds-own-owner : goal.offset_bounds-own-owner
-offset_bounds-own-owner c = omega (arith, inside c.before)
+offset_bounds-own-owner c = omega (arith, inside (goal.at.offset_bounds-own-owner c).In-loop-k)
 
 pub bounds-own-owner : goal.bounds-own-owner
-bounds-own-owner c = inside c.before
+bounds-own-owner c = inside (goal.at.bounds-own-owner c).In-loop-k
 
 pub overflow_sub-own : goal.overflow_sub-own
-overflow_sub-own c = room c
+overflow_sub-own c = room (goal.at.overflow_sub-own c).Then-owner-k
 
 pub offset_bounds-own-owner-then-owner-k : goal.offset_bounds-own-owner-then-owner-k
-offset_bounds-own-owner-then-owner-k c = omega (arith, inside c.before)
+offset_bounds-own-owner-then-owner-k c = omega (arith, inside (goal.at.offset_bounds-own-owner-then-owner-k c).In-loop-k)
 
 pub bounds-own-owner-then-owner-k : goal.bounds-own-owner-then-owner-k
-bounds-own-owner-then-owner-k c = inside c.before
+bounds-own-owner-then-owner-k c = inside (goal.at.bounds-own-owner-then-owner-k c).In-loop-k

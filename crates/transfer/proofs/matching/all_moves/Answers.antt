@@ -13,6 +13,7 @@ use Rattle.transfer.specs.Matching.{moves_between, subdomain_moves}
 use Rattle.transfer.proofs.Subdomains.{moves-eq, few-all, WrittenBelow, written_none, routes_long, counts_long, written_more, written_all, all-routes-eq, all-counts-eq}
 use Rattle.arrays.proofs.Tabulate.{tabulate-at, tabulate-behind}
 use Rattle.sheet.specs.Totals.{total_of}
+use Rattle.transfer.proofs.matching.all_moves.Goals.{After-loop-n}
 use Rattle.transfer.proofs.matching.all_moves.Invariants.{dues}
 use Rattle.transfer.proofs.matching.all_moves.Goals as goal
 
@@ -81,7 +82,7 @@ own_amounts-own-requires c =
     let p = c.requires in
     (p.0, p.2, λ k b. ap (λ (xs : List ℕ). at xs k) p.1 ∙ tabulate-behind a.nodes (total_of a.nodes a.table.now) k b)
 
-same_length : (c : goal.After-loop-n) →
+same_length : (c : After-loop-n) →
     let l = c.loop-n in
     let a = c.args in
     (length l.routes ≡ length a.routes.now) × (length l.counts ≡ length a.counts.now)
@@ -97,7 +98,7 @@ pub loop-n-init : goal.loop-n-init
 loop-n-init c = (omega arith, written_none _ _ _ _ _)
 
 pub shape_of-routes : goal.shape_of-routes
-shape_of-routes c = (same_length c).0
+shape_of-routes c = (same_length (goal.at.shape_of-routes c).After-loop-n).0
 
 pub shape_of-counts : goal.shape_of-counts
-shape_of-counts c = (same_length c).1
+shape_of-counts c = (same_length (goal.at.shape_of-counts c).After-loop-n).1

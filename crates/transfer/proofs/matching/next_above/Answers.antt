@@ -21,7 +21,7 @@ loop-j-preserved c =
     passing_more a.nodes (above a.amounts.now a.bounds.now) a.k l.j l.invariant
     c.loop-j-test.true (sym c.saturating_sub-count.ensures ∙ c.if-count-ne0.false)
 
-pub returns-then-count-ne0 : goal.returns
+pub returns : goal.returns
 returns c =
     let l = c.loop-j in
     let a = c.args in

@@ -7,13 +7,14 @@ use native.Mathlib.Omega.{arith}
 use borrow.Author.Tests.{eq-eqb, ne_eqb}
 use lib.ListN.{length, set}
 use Rattle.transfer.specs.Matching.{move_of}
+use Rattle.transfer.proofs.matching.put_move.Goals.{Else-count-eq0}
 use Rattle.transfer.proofs.matching.put_move.Goals as goal
 
 one : (s r count : ℕ) → count ≢ 0 → length (move_of s r count) ≡ 1
 one s r count d = rw (ne_eqb count 0 d)
 
 -- there is room for one more entry
-room : (c : goal.Else-count-eq0) →
+room : (c : Else-count-eq0) →
     let a = c.args in
     (a.e < length a.routes.now) × (a.e < length a.counts.now)
 room c =
@@ -32,7 +33,7 @@ pub returns-then-count-eq0 : goal.returns-then-count-eq0
 returns-then-count-eq0 c = rw (eq-eqb c.args.count 0 c.if-count-eq0.true) (omega arith, (refl, refl))
 
 pub bounds-routes-e : goal.bounds-routes-e
-bounds-routes-e c = omega (arith, room c.before)
+bounds-routes-e c = omega (arith, room (goal.at.bounds-routes-e c).Else-count-eq0)
 
 pub bounds-counts-e : goal.bounds-counts-e
-bounds-counts-e c = omega (arith, room c.before)
+bounds-counts-e c = omega (arith, room (goal.at.bounds-counts-e c).Else-count-eq0)

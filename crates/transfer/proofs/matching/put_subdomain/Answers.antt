@@ -12,7 +12,8 @@ use Rattle.transfer.specs.Inner.{NextFrom}
 use Rattle.transfer.proofs.Entries.{Pending, begin, finish, room, sender-next, receiver-next}
 use Rattle.transfer.proofs.Next.{next-eq}
 use Rattle.transfer.proofs.Matched.{moves-few}
-use Rattle.transfer.proofs.matching.put_subdomain.Invariants.{whole, lacks, above}
+use Rattle.transfer.proofs.matching.put_subdomain.Goals.{After-min-count, After-put_move-entries, After-slice_known-in-loop-s-2-1, At-loop-s, Start}
+use Rattle.transfer.proofs.matching.put_subdomain.Invariants.{above, whole, lacks}
 use Rattle.transfer.proofs.matching.put_subdomain.Goals as goal
 
 -- both are what the one amount is above the other
@@ -28,10 +29,10 @@ receiver holding due x = next-eq (lacks holding due) (λ k. omega arith) x
 within : (p e w few long long₀ : ℕ) → p ≤ e + w → w ≤ few → e + few ≤ long₀ → long ≡ long₀ → p ≤ long
 within p e w few long long₀ a b c d = omega arith
 
-module _ (c : goal.After-min-count) where
-  abbrev head : goal.At-loop-s
+module _ (c : After-min-count) where
+  abbrev head : At-loop-s
   head = c.before
-  abbrev start : goal.Start
+  abbrev start : Start
   start = head.before
   abbrev surplus : ℕ → ℕ
   surplus = let a = start.args in above a.holding.now a.due.now
@@ -61,13 +62,12 @@ module _ (c : goal.After-min-count) where
       )
 
 -- from after the turn's move, with its two arrays, back to the move
-abbrev put_before : goal.After-slice_known-in-loop-s-2-1 → goal.After-put_move-entries
+abbrev put_before : After-slice_known-in-loop-s-2-1 → After-put_move-entries
 put_before c = c.before
 
 pub put_move-entries-requires : goal.put_move-entries-requires
 put_move-entries-requires c =
-    let q = c.before in
-    (omega arith, omega (arith, sender-lt q), omega (arith, receiver-lt q), (has_room q).0, (has_room q).1)
+    (omega arith, omega (arith, sender-lt (goal.at.put_move-entries-requires c).After-min-count), omega (arith, receiver-lt (goal.at.put_move-entries-requires c).After-min-count), (has_room (goal.at.put_move-entries-requires c).After-min-count).0, (has_room (goal.at.put_move-entries-requires c).After-min-count).1)
 
 pub next_above-s-requires-then-s-r : goal.next_above-s-requires-then-s-r
 next_above-s-requires-then-s-r c =

@@ -13,11 +13,12 @@ use Rattle.plan.specs.declared.PlanReading.TheVariants as plan-way
 use Rattle.plan.specs.Plan.{read_plan, answer_of as planAnswer, refusal_number as planNumber}
 use Rattle.plan.proofs.Answers.{number_more as plan-more}
 use Rattle.weigh.proofs.Checks.{stops_sheet, stops_plan, stops_differ, stops_primary, stops_nowhere}
+use Rattle.weigh.proofs.check.read_pair.Goals.{After-read_plan, After-read_sheet, Else-s-p, In-Accepted-2, In-Accepted-read_plan-2, Start}
 use Rattle.weigh.proofs.check.read_pair.Goals as goal
 
 -- the sheet was read
-module _ (c : goal.After-read_sheet) where
-  abbrev start : goal.Start
+module _ (c : After-read_sheet) where
+  abbrev start : Start
   start = c.before
   abbrev sheet : List ℕ
   sheet = start.args.sheet.now
@@ -29,46 +30,42 @@ returns-in-Refused c =
     (ap (λ (x : SheetAnswer). x.refusal) (ap sheetAnswer (sym r.1) ∙ c.read_sheet.ensures)) (λ z. omega (arith, sheet-more r.0.0))
 
 -- it was accepted, and the plan was read
-module _ (c : goal.After-read_plan) where
-  abbrev accepted : goal.In-Accepted-2
+module _ (c : After-read_plan) where
+  abbrev accepted : In-Accepted-2
   accepted = c.before
-  abbrev first : goal.After-read_sheet
+  abbrev first : After-read_sheet
   first = accepted.before
   abbrev plan : List ℕ
   plan = (start first).args.plan.now
-  sheet-read : sheetAnswer (sheet-way.Accepted accepted.s-1.given.0.0) ≡ read_sheet (sheet first)
-  sheet-read = ap sheetAnswer (sym accepted.s-1.given.1) ∙ first.read_sheet.ensures
+  sheet-read : sheetAnswer (sheet-way.Accepted accepted.in-Accepted.s) ≡ read_sheet (sheet first)
+  sheet-read = ap sheetAnswer (sym accepted.in-Accepted.is) ∙ first.read_sheet.ensures
 
 pub returns-in-Refused-read_plan : goal.returns-in-Refused-read_plan
 returns-in-Refused-read_plan c =
-    let f = c.before in
     let r = c.r-in-Refused-read_plan-1.given in
-    stops_plan _ _ (ap (λ (x : SheetAnswer). x.refusal) (sheet-read f)) (planNumber r.0.0)
-    (ap (λ (x : PlanAnswer). x.refusal) (ap planAnswer (sym r.1) ∙ f.read_plan.ensures)) (λ z. omega (arith, plan-more r.0.0))
+    stops_plan _ _ (ap (λ (x : SheetAnswer). x.refusal) (sheet-read (goal.at.returns-in-Refused-read_plan c).After-read_plan)) (planNumber r.0.0)
+    (ap (λ (x : PlanAnswer). x.refusal) (ap planAnswer (sym r.1) ∙ c.read_plan.ensures)) (λ z. omega (arith, plan-more r.0.0))
 
 -- both were accepted
-module _ (c : goal.In-Accepted-read_plan-2) where
-  abbrev second : goal.After-read_plan
+module _ (c : In-Accepted-read_plan-2) where
+  abbrev second : After-read_plan
   second = c.before
-  plan_read : planAnswer (plan-way.Accepted c.p-1.given.0.0) ≡ read_plan (plan second)
-  plan_read = ap planAnswer (sym c.p-1.given.1) ∙ second.read_plan.ensures
+  plan_read : planAnswer (plan-way.Accepted c.in-Accepted-read_plan.p) ≡ read_plan (plan second)
+  plan_read = ap planAnswer (sym c.in-Accepted-read_plan.is) ∙ second.read_plan.ensures
 
 pub returns-then-s-p : goal.returns-then-s-p
 returns-then-s-p c =
-    let b = c.before in
-    stops_differ _ _ (sheet-read (second b)) (plan_read b) (λ same. omega (arith, c.if-s-p.true, same))
+    stops_differ _ _ (sheet-read (second (goal.at.returns-then-s-p c).In-Accepted-read_plan-2)) (plan_read (goal.at.returns-then-s-p c).In-Accepted-read_plan-2) (λ same. omega (arith, c.if-s-p.true, same))
 
 -- past 21
-module _ (c : goal.Else-s-p) where
-  abbrev both : goal.In-Accepted-read_plan-2
+module _ (c : Else-s-p) where
+  abbrev both : In-Accepted-read_plan-2
   both = c.before
 
 pub returns-then-p-eq0 : goal.returns-then-p-eq0
 returns-then-p-eq0 c =
-    let e = c.before in
-    stops_primary _ _ (sheet-read (second (both e))) (plan_read (both e)) (omega (arith, e.if-s-p.false)) c.if-p-eq0.true
+    stops_primary _ _ (sheet-read (second (both (goal.at.returns-then-p-eq0 c).Else-s-p))) (plan_read (both (goal.at.returns-then-p-eq0 c).Else-s-p)) (omega (arith, c.if-s-p.false)) c.if-p-eq0.true
 
 pub returns-else-p-eq0 : goal.returns-else-p-eq0
 returns-else-p-eq0 c =
-    let e = c.before in
-    stops_nowhere _ _ (sheet-read (second (both e))) (plan_read (both e)) (omega (arith, e.if-s-p.false)) c.if-p-eq0.false
+    stops_nowhere _ _ (sheet-read (second (both (goal.at.returns-else-p-eq0 c).Else-s-p))) (plan_read (both (goal.at.returns-else-p-eq0 c).Else-s-p)) (omega (arith, c.if-s-p.false)) c.if-p-eq0.false
