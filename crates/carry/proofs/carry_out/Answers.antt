@@ -6,12 +6,17 @@ use Rattle.carry.proofs.carry_out.Goals as goal
 
 pub returns-in-Refused : goal.returns-in-Refused
 returns-in-Refused c =
-    let r = c.r-1.given in
-    ends_refused _ _ _ r.0.0 (pair-refused _ _ c.read_pair.ensures r.1)
+    let whole =
+        let r = c.r-1.given in
+    ends_refused _ _ _ r.0.0 (pair-refused _ _ c.read_pair.ensures r.1) in
+    record { answer = whole.0; bytes = whole.1 }
 
 pub carry_read-requires : goal.carry_read-requires
 carry_read-requires c =
     pair-accepted _ _ c.read_pair.ensures c.in-Accepted.is
 
 pub returns-in-Accepted : goal.returns-in-Accepted
-returns-in-Accepted c = c.carry_read.ensures
+returns-in-Accepted c =
+    let whole =
+        c.carry_read.ensures in
+    record { answer = whole.0; bytes = whole.1 }

@@ -48,7 +48,9 @@ module _ (c : After-apply_moves) where
 
 pub returns-then-not-apply_moves : goal.returns-then-not-apply_moves
 returns-then-not-apply_moves c =
-    ends_sends (start (read (goal.at.returns-then-not-apply_moves c).After-apply_moves)).pre _ (sym (within-is-here (goal.at.returns-then-not-apply_moves c).After-apply_moves) ∙ c.if-not-apply_moves.true)
+    let whole =
+        ends_sends (start (read (goal.at.returns-then-not-apply_moves c).After-apply_moves)).pre _ (sym (within-is-here (goal.at.returns-then-not-apply_moves c).After-apply_moves) ∙ c.if-not-apply_moves.true) in
+    record { answer = whole.0; bytes = whole.1 }
 
 -- past 42: the table that follows
 module _ (c : Else-not-apply_moves) where
@@ -80,7 +82,7 @@ returns-in-Bytes c =
     let p = passed w in
     let x = ends_carried (start (u₀ p)).pre (next (u₀ p)) (within p) (table_is p) size.0.0
     (sym size.1 ∙ w.write_sheet.ensures.0) in
-    (x.0, w.write_sheet.ensures.1 ∙ x.1)
+    record { answer = x.0; bytes = w.write_sheet.ensures.1 ∙ x.1 }
 
 pub returns-in-Short : goal.returns-in-Short
 returns-in-Short c =
@@ -88,7 +90,7 @@ returns-in-Short c =
     let p = passed w in
     let x = ends_unwritten (start (u₀ p)).pre (next (u₀ p)) (within p) (table_is p)
     (sym c.in-Short.is ∙ w.write_sheet.ensures.0) in
-    (x.0, w.write_sheet.ensures.1 ∙ x.1)
+    record { answer = x.0; bytes = w.write_sheet.ensures.1 ∙ x.1 }
 
 -- the length that the writer gives fits
 pub overflow_cast-result : goal.overflow_cast-result

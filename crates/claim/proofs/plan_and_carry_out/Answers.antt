@@ -41,10 +41,12 @@ stepped c = c.before
 
 pub returns : goal.returns
 returns c =
-    let w = stepped c.before in
+    let whole =
+        let w = stepped c.before in
     let e = w.firrozka_plan_step-step.ensures in
     let f = c.firrozka_carry_out-carry.ensures in
-    (e.0, (e.1.0, (e.1.1, (f.0, (f.1, handed-on _ _ _ _ _ _ _ _ _ _ e.0 e.1.0 e.1.1 f.0 f.1)))))
+    (e.0, (e.1.0, (e.1.1, (f.0, (f.1, handed-on _ _ _ _ _ _ _ _ _ _ e.0 e.1.0 e.1.1 f.0 f.1))))) in
+    record { step = whole.0; plan = whole.1; moves = whole.2; carry = whole.3; next = whole.4; demand = whole.5 }
 
 pub slice_bounds-firrozka_carry_out-end : goal.slice_bounds-firrozka_carry_out-end
 slice_bounds-firrozka_carry_out-end c = omega (arith, size-inside (stepped c))

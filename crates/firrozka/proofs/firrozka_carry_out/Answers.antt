@@ -4,4 +4,5 @@ use mathlib.Core.Path.{◌∙◌}
 use Rattle.firrozka.proofs.firrozka_carry_out.Goals as goal
 
 pub returns : goal.returns
-returns c = let w = c.carry_out.ensures in (c.answer.ensures ∙ w.0, w.1)
+returns c =
+    let w = c.carry_out.ensures in record { answer = c.answer.ensures ∙ w.0; bytes = w.1 }

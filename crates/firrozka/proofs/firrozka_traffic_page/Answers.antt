@@ -4,4 +4,5 @@ use mathlib.Core.Path.{◌∙◌}
 use Rattle.firrozka.proofs.firrozka_traffic_page.Goals as goal
 
 pub returns : goal.returns
-returns c = let w = c.traffic_page.ensures in (c.answer.ensures ∙ w.0, w.1)
+returns c =
+    let w = c.traffic_page.ensures in record { answer = c.answer.ensures ∙ w.0; bytes = w.1 }

@@ -10,14 +10,19 @@ use Rattle.groups.proofs.groups.Goals as goal
 
 pub returns-in-Refused : goal.returns-in-Refused
 returns-in-Refused c =
-    let r = c.r-1.given in
+    let whole =
+        let r = c.r-1.given in
     ends_plan _ _ (refusal_number r.0.0)
     (ap (λ (x : PlanAnswer). x.refusal) (ap answer_of (sym r.1) ∙ c.read_plan.ensures))
-    (λ z. omega (arith, number_more r.0.0))
+    (λ z. omega (arith, number_more r.0.0)) in
+    record { answer = whole.0; bytes = whole.1 }
 
 pub groups_read-requires : goal.groups_read-requires
 groups_read-requires c =
     ap answer_of (sym c.in-Accepted.is) ∙ c.read_plan.ensures
 
 pub returns-in-Accepted : goal.returns-in-Accepted
-returns-in-Accepted c = c.groups_read.ensures
+returns-in-Accepted c =
+    let whole =
+        c.groups_read.ensures in
+    record { answer = whole.0; bytes = whole.1 }

@@ -29,7 +29,10 @@ module _ (c : After-struct_known-1) where
   facts = reading_accepted plan start.args.p start.pre
 
 pub returns-then-groups-nodes : goal.returns-then-groups-nodes
-returns-then-groups-nodes c = ends_buffer _ _ (start (goal.at.returns-then-groups-nodes c).After-struct_known-1).pre (omega (arith, c.if-groups-nodes.true))
+returns-then-groups-nodes c =
+    let whole =
+        ends_buffer _ _ (start (goal.at.returns-then-groups-nodes c).After-struct_known-1).pre (omega (arith, c.if-groups-nodes.true)) in
+    record { answer = whole.0; bytes = whole.1 }
 
 -- past the test of the buffer
 abbrev long : After-struct_known-2-1 → Else-groups-nodes
@@ -71,8 +74,10 @@ module _ (c : Joined-p-eq0) where
 
 pub returns : goal.returns
 returns c =
-    let e = long c.before in
-    ends_grouped _ _ (start e.before).pre (omega (arith, e.if-groups-nodes.left)) (written (goal.at.returns c).Joined-p-eq0)
+    let whole =
+        let e = long c.before in
+    ends_grouped _ _ (start e.before).pre (omega (arith, e.if-groups-nodes.left)) (written (goal.at.returns c).Joined-p-eq0) in
+    record { answer = whole.0; bytes = whole.1 }
 
 pub shape_of-groups : goal.shape_of-groups
 shape_of-groups c =

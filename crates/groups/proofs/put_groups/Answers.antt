@@ -15,7 +15,9 @@ groupable : (c : After-own_groups-own) →
     let a = c.args in
     Groupable a.n (at a.helpands) c.distances-distances.result c.own_groups-own.result
 groupable c =
-    record { rooted = rooted c.before; each_distance = c.distances-distances.ensures; each_own = c.own_groups-own.ensures }
+    let rooted' : Rooted c.args.n (at c.args.helpands) =
+        c.requires.0 in
+    record { rooted = rooted'; each_distance = c.distances-distances.ensures; each_own = c.own_groups-own.ensures }
 
 pub put_entries-requires : goal.put_entries-requires
 put_entries-requires c =

@@ -37,7 +37,9 @@ module _ (c : After-struct_known-2-1) where
 
 pub returns-then-a-b : goal.returns-then-a-b
 returns-then-a-b c =
-    ends_nodes (start (goal.at.returns-then-a-b c).After-struct_known-2-1).requires _ c.if-a-b.true
+    let whole =
+        ends_nodes (start (goal.at.returns-then-a-b c).After-struct_known-2-1).requires _ c.if-a-b.true in
+    record { answer = whole.0; bytes = whole.1 }
 
 -- past the test of N
 module _ (c : After-struct_known-4-1) where
@@ -46,8 +48,10 @@ module _ (c : After-struct_known-4-1) where
 
 pub returns-then-a-b-2 : goal.returns-then-a-b-2
 returns-then-a-b-2 c =
-    let n = nodes-same (goal.at.returns-then-a-b-2 c).After-struct_known-4-1 in
-    ends_tolerance (start n.before).pre _ c.if-a-b-2.true
+    let whole =
+        let n = nodes-same (goal.at.returns-then-a-b-2 c).After-struct_known-4-1 in
+    ends_tolerance (start n.before).pre _ c.if-a-b-2.true in
+    record { answer = whole.0; bytes = whole.1 }
 
 -- past the test of t
 module _ (c : After-struct_known-6-1) where
@@ -58,7 +62,9 @@ module _ (c : After-struct_known-6-1) where
 
 pub returns-then-a-b-gt-MAX_TOTAL : goal.returns-then-a-b-gt-MAX_TOTAL
 returns-then-a-b-gt-MAX_TOTAL c =
-    ends_total (start (begun (goal.at.returns-then-a-b-gt-MAX_TOTAL c).After-struct_known-6-1)).pre _ (nodes-same (both-same (goal.at.returns-then-a-b-gt-MAX_TOTAL c).After-struct_known-6-1).before).if1.left (both-same (goal.at.returns-then-a-b-gt-MAX_TOTAL c).After-struct_known-6-1).if2.false c.if-a-b-gt-MAX_TOTAL.true
+    let whole =
+        ends_total (start (begun (goal.at.returns-then-a-b-gt-MAX_TOTAL c).After-struct_known-6-1)).pre _ (nodes-same (both-same (goal.at.returns-then-a-b-gt-MAX_TOTAL c).After-struct_known-6-1).before).if1.left (both-same (goal.at.returns-then-a-b-gt-MAX_TOTAL c).After-struct_known-6-1).if2.false c.if-a-b-gt-MAX_TOTAL.true in
+    record { answer = whole.0; bytes = whole.1 }
 
 -- past the test of the joint total: the first sheet's table, and the second's counts added to it
 module _ (c : After-add_counts) where
@@ -91,7 +97,7 @@ returns-in-Bytes c =
     let e = within p in
     let x = ends_joined (start (b₁ p)).pre (out (b₁ p)) (nodes-same (both-same e.before).before).if1.left
     (both-same e.before).if2.left e.if-a-b-gt-MAX_TOTAL.left (table_is p) size.0.0 (sym size.1 ∙ w.write_sheet.ensures.0) in
-    (x.0, w.write_sheet.ensures.1 ∙ x.1)
+    record { answer = x.0; bytes = w.write_sheet.ensures.1 ∙ x.1 }
 
 pub returns-in-Short : goal.returns-in-Short
 returns-in-Short c =
@@ -100,7 +106,7 @@ returns-in-Short c =
     let e = within p in
     let x = ends_unwritten (start (b₁ p)).pre (out (b₁ p)) (nodes-same (both-same e.before).before).if1.left
     (both-same e.before).if2.left e.if-a-b-gt-MAX_TOTAL.left (table_is p) (sym c.in-Short.is ∙ w.write_sheet.ensures.0) in
-    (x.0, w.write_sheet.ensures.1 ∙ x.1)
+    record { answer = x.0; bytes = w.write_sheet.ensures.1 ∙ x.1 }
 
 -- the length that the writer gives fits
 pub overflow_cast-result : goal.overflow_cast-result

@@ -9,7 +9,7 @@ use Rattle.sheet.specs.declared.SheetReading.TheVariants as sheet-way
 use Rattle.sheet.specs.Sheet.{read_sheet, answer_of as sheetAnswer, refusal_number}
 use Rattle.sheet.proofs.Answers.{number_more}
 use Rattle.inlet.proofs.Checks.{ends_first, ends_second}
-use Rattle.inlet.proofs.join_sheets.Goals.{After-read_sheet, After-read_sheet-in-Accepted, In-Accepted-2, Start}
+use Rattle.inlet.proofs.join_sheets.Goals.{After-read_sheet, After-read_sheet-in-Accepted, In-Accepted, Start}
 use Rattle.inlet.proofs.join_sheets.Goals as goal
 
 -- the first sheet was read
@@ -21,14 +21,16 @@ module _ (c : After-read_sheet) where
 
 pub returns-in-Refused : goal.returns-in-Refused
 returns-in-Refused c =
-    let r = c.r-1.given in
+    let whole =
+        let r = c.r-1.given in
     ends_first _ _ _ (refusal_number r.0.0)
     (ap (λ (x : SheetAnswer). x.refusal) (ap sheetAnswer (sym r.1) ∙ c.read_sheet.ensures))
-    (λ z. omega (arith, number_more r.0.0))
+    (λ z. omega (arith, number_more r.0.0)) in
+    record { answer = whole.0; bytes = whole.1 }
 
 -- it was accepted, and the second was read
 module _ (c : After-read_sheet-in-Accepted) where
-  abbrev accepted : In-Accepted-2
+  abbrev accepted : In-Accepted
   accepted = c.before
   abbrev one : After-read_sheet
   one = accepted.before
@@ -37,14 +39,19 @@ module _ (c : After-read_sheet-in-Accepted) where
 
 pub returns-in-Refused-read_sheet : goal.returns-in-Refused-read_sheet
 returns-in-Refused-read_sheet c =
-    let r = c.r-in-Refused-read_sheet-2-1.given in
+    let whole =
+        let r = c.r-in-Refused-read_sheet-2-1.given in
     ends_second _ _ _ (ap (λ (x : SheetAnswer). x.refusal) (first_read (goal.at.returns-in-Refused-read_sheet c).After-read_sheet-in-Accepted)) (refusal_number r.0.0)
     (ap (λ (x : SheetAnswer). x.refusal) (ap sheetAnswer (sym r.1) ∙ c.read_sheet-in-Accepted.ensures))
-    (λ z. omega (arith, number_more r.0.0))
+    (λ z. omega (arith, number_more r.0.0)) in
+    record { answer = whole.0; bytes = whole.1 }
 
 pub join_read-requires : goal.join_read-requires
 join_read-requires c =
     record { first = first_read (goal.at.join_read-requires c).After-read_sheet-in-Accepted; second = ap sheetAnswer (sym c.in-Accepted-read_sheet.is) ∙ c.read_sheet-in-Accepted.ensures }
 
 pub returns-in-Accepted-read_sheet : goal.returns-in-Accepted-read_sheet
-returns-in-Accepted-read_sheet c = c.join_read.ensures
+returns-in-Accepted-read_sheet c =
+    let whole =
+        c.join_read.ensures in
+    record { answer = whole.0; bytes = whole.1 }

@@ -27,31 +27,50 @@ below : (c : After-helpands_below) →
     let a = c.args in
     c.helpands_below.result ≡ helpands_below a.n (at (helpands_of a.s.now a.n))
 below c =
+    let same' : let a = c.args in
+    at c.words_64-helpands.result ≡ at (helpands_of a.s.now a.n) =
+        let a = c.args in
+    ap at c.words_64-helpands.ensures ∙ padded-same (helpands_of a.s.now a.n) in
     let a = c.args in
-    c.helpands_below.ensures ∙ ap (λ (h : ℕ → ℕ). helpands_below a.n h) (same c.before)
+    c.helpands_below.ensures ∙ ap (λ (h : ℕ → ℕ). helpands_below a.n h) same'
 
 shape : (c : After-check_shape-shape) →
     let a = c.args in
     c.check_shape-shape.result ≡ checked_of (shape_fine a.n a.kind (at (helpands_of a.s.now a.n)))
 shape c =
-    let w = c.before in
-    let a = w.args in
-    c.check_shape-shape.ensures ∙ ap (λ (h : ℕ → ℕ). checked_of (shape_fine a.n a.kind h)) (same w)
+    let same' : let a = c.args in
+    at c.words_64-helpands.result ≡ at (helpands_of a.s.now a.n) =
+        let a = c.args in
+    ap at c.words_64-helpands.ensures ∙ padded-same (helpands_of a.s.now a.n) in
+    let a = c.args in
+    c.check_shape-shape.ensures ∙ ap (λ (h : ℕ → ℕ). checked_of (shape_fine a.n a.kind h)) same'
 
 fine : (c : After-shares_fine) →
     let a = c.args in
     c.shares_fine.result ≡ shares_fine a.n a.limit (at (helpands_of a.s.now a.n)) (at (shares_of a.s.now a.n))
 fine c =
-    let w = c.before in
-    let a = w.args in
+    let same' : let a = c.args in
+    at c.words_64-helpands.result ≡ at (helpands_of a.s.now a.n) =
+        let a = c.args in
+    ap at c.words_64-helpands.ensures ∙ padded-same (helpands_of a.s.now a.n) in
+    let a = c.args in
     let x = ap at c.words_64-shares.ensures ∙ padded-same (shares_of a.s.now a.n) in
-    c.shares_fine.ensures ∙ ap₂ (λ (h x : ℕ → ℕ). shares_fine a.n a.limit h x) (same w) x
+    c.shares_fine.ensures ∙ ap₂ (λ (h x : ℕ → ℕ). shares_fine a.n a.limit h x) same' x
 
 -- past the first check
 passed : (c : Else-not-helpands_below) →
     let a = c.args in
     helpands_below a.n (at (helpands_of a.s.now a.n)) ≡ true
-passed c = sym (below c.before) ∙ c.if-not-helpands_below.false
+passed c =
+    let below' : let a = c.args in
+    c.helpands_below.result ≡ helpands_below a.n (at (helpands_of a.s.now a.n)) =
+        let same' : let a = c.args in
+    at c.words_64-helpands.result ≡ at (helpands_of a.s.now a.n) =
+        let a = c.args in
+    ap at c.words_64-helpands.ensures ∙ padded-same (helpands_of a.s.now a.n) in
+    let a = c.args in
+    c.helpands_below.ensures ∙ ap (λ (h : ℕ → ℕ). helpands_below a.n h) same' in
+    sym below' ∙ c.if-not-helpands_below.false
 
 pub returns-then-not-helpands_below : goal.returns-then-not-helpands_below
 returns-then-not-helpands_below c = sym (arrays_helpand _ _ _ _ (sym (below (goal.at.returns-then-not-helpands_below c).After-helpands_below) ∙ c.if-not-helpands_below.true))

@@ -103,12 +103,14 @@ write_records-requires c =
 
 pub returns : goal.returns
 returns c =
-    let m = moved c.before in
+    let whole =
+        let m = moved c.before in
     let d = decided m.before in
     let b = begun d in
     let e = m.all_moves-e.ensures in
     here_ends (start b).pre (worked d) _ _ _ _ _ e.0 e.1.0 e.1.1
-    (answer_of c.write_records.result) (start b).args.plan.now (start b).args.moves.now _ _ c.write_records.ensures
+    (answer_of c.write_records.result) (start b).args.plan.now (start b).args.moves.now _ _ c.write_records.ensures in
+    record { answer = whole.0; plan = whole.1; moves = whole.2 }
 
 pub unpack-table-requires : goal.unpack-table-requires
 unpack-table-requires c = (_, sheet_unpackable _ _ (known (goal.at.unpack-table-requires c).After-struct_known-2-1))

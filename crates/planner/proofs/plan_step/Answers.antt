@@ -13,7 +13,7 @@ use Rattle.planner.specs.declared.OldPlan.{OldPlan}
 use Rattle.planner.specs.Step.{number_of, old_of, old_read}
 use Rattle.planner.specs.Inner.{StepRead}
 use Rattle.planner.proofs.Ways.{ends_sheet, ends_old, number_more, refusal_more}
-use Rattle.planner.proofs.plan_step.Goals.{After-read_old, After-read_sheet-reading, In-Accepted-2, In_default, Start}
+use Rattle.planner.proofs.plan_step.Goals.{After-read_old, After-read_sheet-reading, In-Accepted, In_default, Start}
 use Rattle.planner.proofs.plan_step.Goals as goal
 
 -- the sheet was read
@@ -31,14 +31,16 @@ not-zero c = refusal_more _ _ c.in_default.is
 
 pub returns-in_default : goal.returns-in_default
 returns-in_default c =
-    let k = (sheetAnswer c.read_sheet-reading.result).refusal in
+    let whole =
+        let k = (sheetAnswer c.read_sheet-reading.result).refusal in
     let e = ap (λ (x : SheetAnswer). x.refusal) c.read_sheet-reading.ensures in
     let ends = ends_sheet _ _ _ _ k e (not-zero (goal.at.returns-in_default c).In_default) in
-    (c.not_read.ensures ∙ ends.0, ends.1)
+    (c.not_read.ensures ∙ ends.0, ends.1) in
+    record { answer = whole.0; plan = whole.1; moves = whole.2 }
 
 -- it was accepted, and the old plan read
 module _ (c : After-read_old) where
-  abbrev reading : In-Accepted-2
+  abbrev reading : In-Accepted
   reading = c.before
   abbrev first : After-read_sheet-reading
   first = reading.before
@@ -52,11 +54,13 @@ module _ (c : After-read_old) where
 
 pub returns-in-Refused : goal.returns-in-Refused
 returns-in-Refused c =
-    let r = c.r-1.given in
+    let whole =
+        let r = c.r-1.given in
     let f = first (goal.at.returns-in-Refused c).After-read_old in
     let refused = ap old_of (sym r.1) ∙ c.read_old.ensures in
     ends_old _ _ _ _ (head (goal.at.returns-in-Refused c).After-read_old).n (ap (λ (x : SheetAnswer). x.refusal) (sheet-read (goal.at.returns-in-Refused c).After-read_old))
-    (ap (λ (x : SheetAnswer). x.n) (sheet-read (goal.at.returns-in-Refused c).After-read_old)) (number_of r.0.0) refused (number_more r.0.0)
+    (ap (λ (x : SheetAnswer). x.n) (sheet-read (goal.at.returns-in-Refused c).After-read_old)) (number_of r.0.0) refused (number_more r.0.0) in
+    record { answer = whole.0; plan = whole.1; moves = whole.2 }
 
 pub not_read-requires : goal.not_read-requires
 not_read-requires c = not-zero (goal.at.not_read-requires c).In_default
@@ -68,7 +72,13 @@ pub plan_read-requires-in-NoTree : goal.plan_read-requires-in-NoTree
 plan_read-requires-in-NoTree c = both_read (goal.at.plan_read-requires-in-NoTree c).After-read_old _ false c.in-NoTree.is refl
 
 pub returns-in-Tree : goal.returns-in-Tree
-returns-in-Tree c = c.plan_read.ensures
+returns-in-Tree c =
+    let whole =
+        c.plan_read.ensures in
+    record { answer = whole.0; plan = whole.1; moves = whole.2 }
 
 pub returns-in-NoTree : goal.returns-in-NoTree
-returns-in-NoTree c = c.plan_read-in-NoTree.ensures
+returns-in-NoTree c =
+    let whole =
+        c.plan_read-in-NoTree.ensures in
+    record { answer = whole.0; plan = whole.1; moves = whole.2 }

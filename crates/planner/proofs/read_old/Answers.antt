@@ -7,7 +7,7 @@ use Rattle.plan.specs.declared.PlanReading.TheVariants.{Accepted}
 use Rattle.plan.specs.Plan.{read_plan, answer_of, refusal_number}
 use Rattle.plan.proofs.Answers.{number_more}
 use Rattle.planner.proofs.Ways.{old_empty, old-refused, old_differs, old-primary, old-tree}
-use Rattle.planner.proofs.read_old.Goals.{Else-old-eq0, In-Accepted-2, Start}
+use Rattle.planner.proofs.read_old.Goals.{Else-old-eq0, In-Accepted, Start}
 use Rattle.planner.proofs.read_old.Goals as goal
 
 pub returns-then-old-eq0 : goal.returns-then-old-eq0
@@ -16,7 +16,7 @@ returns-then-old-eq0 c =
     old_empty a.old.now a.n c.if-old-eq0.true
 
 -- the plan was accepted
-module _ (c : In-Accepted-2) where
+module _ (c : In-Accepted) where
   abbrev full : Else-old-eq0
   full = c.before
   abbrev start : Start
@@ -26,7 +26,7 @@ module _ (c : In-Accepted-2) where
 
 pub returns-then-p-n : goal.returns-then-p-n
 returns-then-p-n c =
-    old_differs (start (goal.at.returns-then-p-n c).In-Accepted-2).args.old.now (start (goal.at.returns-then-p-n c).In-Accepted-2).args.n (full (goal.at.returns-then-p-n c).In-Accepted-2).if1.false c.in-Accepted.p (plan_read (goal.at.returns-then-p-n c).In-Accepted-2) c.if-p-n.true
+    old_differs (start (goal.at.returns-then-p-n c).In-Accepted).args.old.now (start (goal.at.returns-then-p-n c).In-Accepted).args.n (full (goal.at.returns-then-p-n c).In-Accepted).if1.false c.in-Accepted.p (plan_read (goal.at.returns-then-p-n c).In-Accepted) c.if-p-n.true
 
 pub returns-in-Refused : goal.returns-in-Refused
 returns-in-Refused c =
@@ -38,8 +38,8 @@ returns-in-Refused c =
 
 pub returns-then-p-eq0 : goal.returns-then-p-eq0
 returns-then-p-eq0 c =
-    old-primary (start (goal.at.returns-then-p-eq0 c).In-Accepted-2).args.old.now (start (goal.at.returns-then-p-eq0 c).In-Accepted-2).args.n (full (goal.at.returns-then-p-eq0 c).In-Accepted-2).if1.false _ (plan_read (goal.at.returns-then-p-eq0 c).In-Accepted-2) c.if-p-n.false c.if-p-eq0.true
+    old-primary (start (goal.at.returns-then-p-eq0 c).In-Accepted).args.old.now (start (goal.at.returns-then-p-eq0 c).In-Accepted).args.n (full (goal.at.returns-then-p-eq0 c).In-Accepted).if1.false _ (plan_read (goal.at.returns-then-p-eq0 c).In-Accepted) c.if-p-n.false c.if-p-eq0.true
 
 pub returns-else-p-eq0 : goal.returns-else-p-eq0
 returns-else-p-eq0 c =
-    old-tree (start (goal.at.returns-else-p-eq0 c).In-Accepted-2).args.old.now (start (goal.at.returns-else-p-eq0 c).In-Accepted-2).args.n (full (goal.at.returns-else-p-eq0 c).In-Accepted-2).if1.false _ (plan_read (goal.at.returns-else-p-eq0 c).In-Accepted-2) c.if-p-n.false c.if-p-eq0.false
+    old-tree (start (goal.at.returns-else-p-eq0 c).In-Accepted).args.old.now (start (goal.at.returns-else-p-eq0 c).In-Accepted).args.n (full (goal.at.returns-else-p-eq0 c).In-Accepted).if1.false _ (plan_read (goal.at.returns-else-p-eq0 c).In-Accepted) c.if-p-n.false c.if-p-eq0.false

@@ -15,7 +15,7 @@ use Rattle.rebuild.specs.declared.Balance.{Balance}
 use Rattle.rebuild.specs.Target.{targets_of}
 use Rattle.rebuild.specs.Rebuild.{is, start_of, run_of, finish_of, rebuilt_of, next_l, next_g}
 use Rattle.rebuild.proofs.Loops.{Reached, Served, unfinished, next_l_lem, reached-end, reached-some, reached_served, reached-turn, reached-less, start-sound}
-use Rattle.rebuild.proofs.rebuild.Goals.{After-choose-arg-in-At-2-1, At-loop-l, In-At-2, In-At-choose-2, Start}
+use Rattle.rebuild.proofs.rebuild.Goals.{After-choose-arg-in-At-2-1, At-loop-l, In-At, In-At-choose, Start}
 use Rattle.rebuild.proofs.rebuild.Goals as goal
 
 -- the old helpands are nodes
@@ -43,7 +43,7 @@ loop-l-init c =
     }
 
 -- where l is found
-module _ (c : In-At-2) where
+module _ (c : In-At) where
   abbrev head : At-loop-l
   head =
       c.before
@@ -58,13 +58,13 @@ module _ (c : In-At-2) where
   old-fits : at start.args.old c.in-At.l < start.args.nodes
   old-fits = old_below start c.in-At.l l_fits.0
 
-abbrev found-l : After-choose-arg-in-At-2-1 → In-At-2
+abbrev found-l : After-choose-arg-in-At-2-1 → In-At
 found-l c =
     c.before
 
 -- where g is found too
-module _ (c : In-At-choose-2) where
-  abbrev l-found : In-At-2
+module _ (c : In-At-choose) where
+  abbrev l-found : In-At
   l-found = found-l c.before
   g_is : next_g (start l-found).args.nodes (start l-found).args.t2 (head l-found).loop.s l-found.in-At.l
       ≡ At c.in-At-choose.g
@@ -77,17 +77,17 @@ module _ (c : In-At-choose-2) where
 
 pub loop-l-smaller : goal.loop-l-smaller
 loop-l-smaller c =
-    let b = start (l-found (goal.at.loop-l-smaller c).In-At-choose-2) in
+    let b = start (l-found (goal.at.loop-l-smaller c).In-At-choose) in
     rw c.turn-s.ensures
     (reached-less b.args.nodes b.args.p b.pre.1 (at b.args.totals) b.args.old (old_below b) _ _
-    (head (l-found (goal.at.loop-l-smaller c).In-At-choose-2)).loop.inv _ _ (l_is (l-found (goal.at.loop-l-smaller c).In-At-choose-2)) (g_is (goal.at.loop-l-smaller c).In-At-choose-2))
+    (head (l-found (goal.at.loop-l-smaller c).In-At-choose)).loop.inv _ _ (l_is (l-found (goal.at.loop-l-smaller c).In-At-choose)) (g_is (goal.at.loop-l-smaller c).In-At-choose))
 
 pub loop-l-preserved : goal.loop-l-preserved
 loop-l-preserved c =
-    let b = start (l-found (goal.at.loop-l-preserved c).In-At-choose-2) in
+    let b = start (l-found (goal.at.loop-l-preserved c).In-At-choose) in
     rw c.turn-s.ensures
     (reached-turn b.args.nodes b.args.p b.pre.1 (at b.args.totals) b.args.old (old_below b) _ _
-    (head (l-found (goal.at.loop-l-preserved c).In-At-choose-2)).loop.inv _ _ (l_is (l-found (goal.at.loop-l-preserved c).In-At-choose-2)) (g_is (goal.at.loop-l-preserved c).In-At-choose-2))
+    (head (l-found (goal.at.loop-l-preserved c).In-At-choose)).loop.inv _ _ (l_is (l-found (goal.at.loop-l-preserved c).In-At-choose)) (g_is (goal.at.loop-l-preserved c).In-At-choose))
 
 pub returns : goal.returns
 unfolding rebuilt_of
@@ -102,19 +102,19 @@ returns c =
     c.match.branch))
 
 pub offset_bounds-s-l : goal.offset_bounds-s-l
-offset_bounds-s-l c = omega (arith, (l_fits (goal.at.offset_bounds-s-l c).In-At-2).0)
+offset_bounds-s-l c = omega (arith, (l_fits (goal.at.offset_bounds-s-l c).In-At).0)
 
 pub bounds-s-l : goal.bounds-s-l
-bounds-s-l c = omega (arith, (l_fits (goal.at.bounds-s-l c).In-At-2).0)
+bounds-s-l c = omega (arith, (l_fits (goal.at.bounds-s-l c).In-At).0)
 
 pub offset_bounds-s-l-in-At : goal.offset_bounds-s-l-in-At
-offset_bounds-s-l-in-At c = omega (arith, (l_fits (goal.at.offset_bounds-s-l-in-At c).In-At-2).0)
+offset_bounds-s-l-in-At c = omega (arith, (l_fits (goal.at.offset_bounds-s-l-in-At c).In-At).0)
 
 pub bounds-s-l-in-At : goal.bounds-s-l-in-At
-bounds-s-l-in-At c = omega (arith, (l_fits (goal.at.bounds-s-l-in-At c).In-At-2).0)
+bounds-s-l-in-At c = omega (arith, (l_fits (goal.at.bounds-s-l-in-At c).In-At).0)
 
 pub overflow_sub-need : goal.overflow_sub-need
-overflow_sub-need c = omega (arith, (l_fits (goal.at.overflow_sub-need c).In-At-2).2)
+overflow_sub-need c = omega (arith, (l_fits (goal.at.overflow_sub-need c).In-At).2)
 
 pub offset_bounds-old-l : goal.offset_bounds-old-l
 offset_bounds-old-l c = omega (arith, (l_fits (found-l c)).0)
@@ -129,4 +129,4 @@ pub choose-requires : goal.choose-requires
 choose-requires c = omega (arith, old-fits (found-l c))
 
 pub turn-s-requires : goal.turn-s-requires
-turn-s-requires c = omega (arith, (l_fits (l-found (goal.at.turn-s-requires c).In-At-choose-2)).0, (g_fits (goal.at.turn-s-requires c).In-At-choose-2).node, (g_fits (goal.at.turn-s-requires c).In-At-choose-2).enough)
+turn-s-requires c = omega (arith, (l_fits (l-found (goal.at.turn-s-requires c).In-At-choose)).0, (g_fits (goal.at.turn-s-requires c).In-At-choose).node, (g_fits (goal.at.turn-s-requires c).In-At-choose).enough)

@@ -33,9 +33,11 @@ table_is c =
 -- and so are the totals
 totals_is : (c : After-totals-totals) → c.totals-totals.result ≡ totals_in (sheet c.before)
 totals_is c =
-    let u = c.before in
-    let b = u.before in
-    c.totals-totals.ensures ∙ ap (totals_of b.args.nodes) (table_is u) ∙ ap (λ (n : ℕ). totals_of n (table_in (sheet b))) b.requires.1
+    let table_is' : c.unpack-table.result ≡ table_in (sheet c.before) =
+        let b = c.before in
+    c.unpack-table.ensures ∙ ap (table_of (sheet b)) (c.word_number-e.ensures ∙ sym (facts b).e_is) in
+    let b = c.before in
+    c.totals-totals.ensures ∙ ap (totals_of b.args.nodes) table_is' ∙ ap (λ (n : ℕ). totals_of n (table_in (sheet b))) b.requires.1
 
 pub unpack-table-requires : goal.unpack-table-requires
 unpack-table-requires c =

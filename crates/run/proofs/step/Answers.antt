@@ -42,7 +42,7 @@ module _ (c : After-answer-answer) where
 pub returns-then-answer-ne0 : goal.returns-then-answer-ne0
 returns-then-answer-ne0 c =
     let same = number_text (answered (goal.at.returns-then-answer-ne0 c).After-answer-answer) c.if-answer-ne0.true in
-    (c.write_refused.ensures.0 ∙ ap length same, c.write_refused.ensures.1 ∙ ap (λ (x : List ℕ). placed x (out (goal.at.returns-then-answer-ne0 c).After-answer-answer)) same)
+    record { size = c.write_refused.ensures.0 ∙ ap length same; bytes = c.write_refused.ensures.1 ∙ ap (λ (x : List ℕ). placed x (out (goal.at.returns-then-answer-ne0 c).After-answer-answer)) same }
 
 -- it was planned
 abbrev planned : Else-answer-ne0 → After-answer-answer
@@ -66,7 +66,7 @@ pub returns : goal.returns
 returns c =
     let e = accepted c.before in
     let same = fronts_text (answered (planned e)) e.if-answer-ne0.left in
-    (c.write_records.ensures.0 ∙ ap length same, c.write_records.ensures.1 ∙ ap (λ (x : List ℕ). placed x (out (planned e))) same)
+    record { size = c.write_records.ensures.0 ∙ ap length same; bytes = c.write_records.ensures.1 ∙ ap (λ (x : List ℕ). placed x (out (planned e))) same }
 
 pub slice_bounds-plan-end : goal.slice_bounds-plan-end
 slice_bounds-plan-end c = plan-within (goal.at.slice_bounds-plan-end c).Else-answer-ne0

@@ -108,7 +108,7 @@ returns c =
     c.get_words-2.ensures
     ((limit-read x).before.word-number2.ensures ∙ sym (accepted b).kind_is)
     ((limit-read x).word-number3.ensures ∙ sym (accepted b).limit_is) in
-    (c.write_step.ensures.0 ∙ ap length same, c.write_step.ensures.1 ∙ ap (λ (x : List ℕ). placed x b.args.out.now) same)
+    record { size = c.write_step.ensures.0 ∙ ap length same; bytes = c.write_step.ensures.1 ∙ ap (λ (x : List ℕ). placed x b.args.out.now) same }
 
 -- N words of the plan, and E of the moves, can be read
 words_requires : (w : After-word_number-nodes)

@@ -5,7 +5,7 @@ use mathlib.Core.Path.{sym, ◌∙◌}
 use native.Mathlib.Omega.{arith}
 use Rattle.sheet.specs.Sheet.{counts_of}
 use Rattle.sheet.proofs.Laws.{Summed, summed}
-use Rattle.sheet.proofs.read_entries.Goals.{After-cells_fine, In-Sum-2, Start}
+use Rattle.sheet.proofs.read_entries.Goals.{After-cells_fine, In-Sum, Start}
 use Rattle.sheet.proofs.read_entries.Goals as goal
 
 -- the entry of the function, from behind the test of the cells
@@ -13,7 +13,7 @@ abbrev start : After-cells_fine → Start
 start c = c.before
 
 -- the sum that was found is within the bound
-found : (c : In-Sum-2) →
+found : (c : In-Sum) →
     let a = (start c.before).args in
     Summed 0 (counts_of a.s.now a.e) c.in-Sum.p
 found c = summed 0 _ c.in-Sum.p (omega arith) (sym c.sum_counts.ensures ∙ c.in-Sum.is)
@@ -42,4 +42,4 @@ pub returns-then-s-k : goal.returns-then-s-k
 returns-then-s-k c = simp (ne_eqb _ _ c.if-s-k.true)
 
 pub limit-requires : goal.limit-requires
-limit-requires c = omega (arith, (found (goal.at.limit-requires c).In-Sum-2).within)
+limit-requires c = omega (arith, (found (goal.at.limit-requires c).In-Sum).within)

@@ -56,11 +56,12 @@ ranges : (c : Else-not-one_to-2) →
     let e = w.word_number-e.result in
     read_header s ≡ refuse_if (ltb (n * n) e) (header_refused 4) (header_accepted n t e)
 ranges c =
-    let nodes = c.before in
-    let w = nodes.before in
+    let nodes_fine' : one_to max_nodes c.word_number-n.result ≡ true =
+        sym c.one_to.ensures ∙ c.if-not-one_to.false in
+    let w = c.before in
     let fine : one_to max_tolerance w.word_number-t.result ≡ true =
     sym c.one_to-2.ensures ∙ c.if-not-one_to-2.false in
-    head w ∙ rw (nodes_fine nodes, fine)
+    head w ∙ rw (nodes_fine', fine)
 
 pub returns-then-n-e : goal.returns-then-n-e
 returns-then-n-e c = sym (ranges (goal.at.returns-then-n-e c).Else-not-one_to-2 ∙ simp (lt-ltb _ _ c.if-n-e.true))

@@ -7,5 +7,7 @@ use Rattle.text.proofs.write_refused.Goals as goal
 
 pub returns : goal.returns
 returns c =
-    let a = c.args in
-    put_front c.put_refused.ensures (omega (arith, refused-le a.number))
+    let whole =
+        let a = c.args in
+    put_front c.put_refused.ensures (omega (arith, refused-le a.number)) in
+    record { size = whole.0; bytes = whole.1 }

@@ -10,11 +10,13 @@ use Rattle.text.proofs.write_step.Goals as goal
 pub returns : goal.returns
 unfolding step_text
 returns c =
-    let a = c.args in
+    let whole =
+        let a = c.args in
     let l =
     step-le a.kind a.limit a.nodes a.helpands a.shares a.own a.e a.routes.now a.counts.now c.requires.0 in
     put_front (put_then (put_then c.put_head-first.ensures c.put_nodes-second.ensures) c.put_moves.ensures)
-    (omega (arith, c.requires, l))
+    (omega (arith, c.requires, l)) in
+    record { size = whole.0; bytes = whole.1 }
 
 pub put_nodes-second-requires : goal.put_nodes-second-requires
 put_nodes-second-requires c =

@@ -41,7 +41,9 @@ module _ (c : After-subtract_sends) where
 
 pub returns-then-not-subtract_sends : goal.returns-then-not-subtract_sends
 returns-then-not-subtract_sends c =
-    ends_sends (start (read (goal.at.returns-then-not-subtract_sends c).After-subtract_sends)).pre _ (sym (within-here (goal.at.returns-then-not-subtract_sends c).After-subtract_sends) ∙ c.if-not-subtract_sends.true)
+    let whole =
+        ends_sends (start (read (goal.at.returns-then-not-subtract_sends c).After-subtract_sends)).pre _ (sym (within-here (goal.at.returns-then-not-subtract_sends c).After-subtract_sends) ∙ c.if-not-subtract_sends.true) in
+    record { answer = whole.0; bytes = whole.1 }
 
 -- past 42
 module _ (c : Else-not-subtract_sends) where
@@ -52,7 +54,9 @@ module _ (c : Else-not-subtract_sends) where
 
 pub returns-then-page-size : goal.returns-then-page-size
 returns-then-page-size c =
-    ends_short (start (u₀ (goal.at.returns-then-page-size c).Else-not-subtract_sends)).pre (page (u₀ (goal.at.returns-then-page-size c).Else-not-subtract_sends)) (within (goal.at.returns-then-page-size c).Else-not-subtract_sends) (omega (arith, c.if-page-size.true))
+    let whole =
+        ends_short (start (u₀ (goal.at.returns-then-page-size c).Else-not-subtract_sends)).pre (page (u₀ (goal.at.returns-then-page-size c).Else-not-subtract_sends)) (within (goal.at.returns-then-page-size c).Else-not-subtract_sends) (omega (arith, c.if-page-size.true)) in
+    record { answer = whole.0; bytes = whole.1 }
 
 pub count_traffic-t-requires : goal.count_traffic-t-requires
 count_traffic-t-requires c =
@@ -77,7 +81,7 @@ returns c =
     let p = passed (goal.at.returns c).After-count_traffic-t in
     let x = ends_printed (start (u₀ p)).pre (page (u₀ p)) (within p) c.count_traffic-t.ensures
     (omega (arith, (long (goal.at.returns c).After-count_traffic-t).if2.false)) in
-    (x.0, c.put_page.ensures ∙ x.1)
+    record { answer = x.0; bytes = c.put_page.ensures ∙ x.1 }
 
 -- N is at most 64, so that the page's length fits
 size_fits : (c : After-struct_known-3-1) → (start (u₀ c.before)).args.s.n ≤ max_nodes

@@ -34,13 +34,17 @@ same_nodes c = c.before
 
 pub returns-then-s-p : goal.returns-then-s-p
 returns-then-s-p c =
-    let r = (start (goal.at.returns-then-s-p c).After-struct_known-2-1).pre in
-    ends_refused _ _ _ NodesDiffer (stops_differ _ _ r.sheet r.plan c.if-s-p.true)
+    let whole =
+        let r = (start (goal.at.returns-then-s-p c).After-struct_known-2-1).pre in
+    ends_refused _ _ _ NodesDiffer (stops_differ _ _ r.sheet r.plan c.if-s-p.true) in
+    record { answer = whole.0; bytes = whole.1 }
 
 pub returns-then-p-eq0 : goal.returns-then-p-eq0
 returns-then-p-eq0 c =
-    let r = (start (goal.at.returns-then-p-eq0 c).After-struct_known-2-1).pre in
-    ends_refused _ _ _ Primary (stops_primary _ _ r.sheet r.plan c.if-s-p.false c.if-p-eq0.true)
+    let whole =
+        let r = (start (goal.at.returns-then-p-eq0 c).After-struct_known-2-1).pre in
+    ends_refused _ _ _ Primary (stops_primary _ _ r.sheet r.plan c.if-s-p.false c.if-p-eq0.true) in
+    record { answer = whole.0; bytes = whole.1 }
 
 -- past 24
 module _ (c : Else-p-eq0) where
@@ -57,7 +61,10 @@ abbrev tree : Else-least-nodes → Else-p-eq0
 tree c = c.before
 
 pub returns-then-least-nodes : goal.returns-then-least-nodes
-returns-then-least-nodes c = ends_short (can_weigh (goal.at.returns-then-least-nodes c).Else-p-eq0) _ c.if-least-nodes.true
+returns-then-least-nodes c =
+    let whole =
+        ends_short (can_weigh (goal.at.returns-then-least-nodes c).Else-p-eq0) _ c.if-least-nodes.true in
+    record { answer = whole.0; bytes = whole.1 }
 
 -- the leasts were worked out
 long : (c : After-leasts_of-leasts) → length c.leasts_of-leasts.result ≡ 64
@@ -74,7 +81,7 @@ returns c =
     let w = c.before in
     let l = written w in
     let x = ends_weighed (can_weigh (tree l.before)) _ l.if-least-nodes.left l.leasts_of-leasts.ensures in
-    (ap weighed c.holds.ensures ∙ x.0, w.put_words.ensures ∙ x.1)
+    record { answer = ap weighed c.holds.ensures ∙ x.0; bytes = w.put_words.ensures ∙ x.1 }
 
 pub leasts_of-leasts-requires : goal.leasts_of-leasts-requires
 leasts_of-leasts-requires c = can_weigh (tree c)

@@ -18,7 +18,10 @@ use Rattle.archive.proofs.read.read_archive.Goals.{After-word_number-t, Else-arc
 use Rattle.archive.proofs.read.read_archive.Goals as goal
 
 pub returns-then-archive-ne-ARCHIVE_SIZE : goal.returns-then-archive-ne-ARCHIVE_SIZE
-returns-then-archive-ne-ARCHIVE_SIZE c = ends_length _ _ c.if-archive-ne-ARCHIVE_SIZE.true
+returns-then-archive-ne-ARCHIVE_SIZE c =
+    let whole =
+        ends_length _ _ c.if-archive-ne-ARCHIVE_SIZE.true in
+    record { answer = whole.0; bytes = whole.1 }
 
 -- N and t were read
 module _ (c : After-word_number-t) where
@@ -37,8 +40,10 @@ module _ (c : After-word_number-t) where
 
 pub returns-then-not-one_to : goal.returns-then-not-one_to
 returns-then-not-one_to c =
-    ends_nodes (a₀ (goal.at.returns-then-not-one_to c).After-word_number-t) (out₀ (goal.at.returns-then-not-one_to c).After-word_number-t) (long (goal.at.returns-then-not-one_to c).After-word_number-t).if1.false
-    (ap (one_to max_nodes) (sym (nodes_are (goal.at.returns-then-not-one_to c).After-word_number-t)) ∙ sym c.one_to.ensures ∙ c.if-not-one_to.true)
+    let whole =
+        ends_nodes (a₀ (goal.at.returns-then-not-one_to c).After-word_number-t) (out₀ (goal.at.returns-then-not-one_to c).After-word_number-t) (long (goal.at.returns-then-not-one_to c).After-word_number-t).if1.false
+    (ap (one_to max_nodes) (sym (nodes_are (goal.at.returns-then-not-one_to c).After-word_number-t)) ∙ sym c.one_to.ensures ∙ c.if-not-one_to.true) in
+    record { answer = whole.0; bytes = whole.1 }
 
 -- N is in its range
 module _ (c : Else-not-one_to) where
@@ -49,9 +54,11 @@ module _ (c : Else-not-one_to) where
 
 pub returns-then-not-one_to-2 : goal.returns-then-not-one_to-2
 returns-then-not-one_to-2 c =
-    let w = read (goal.at.returns-then-not-one_to-2 c).Else-not-one_to in
+    let whole =
+        let w = read (goal.at.returns-then-not-one_to-2 c).Else-not-one_to in
     ends_tolerance (a₀ w) (out₀ w) (long w).if1.left (ap (one_to max_nodes) (sym (nodes_are w)) ∙ nodes_fine (goal.at.returns-then-not-one_to-2 c).Else-not-one_to)
-    (ap (one_to max_tolerance) (sym (tolerance-is w)) ∙ sym c.one_to-2.ensures ∙ c.if-not-one_to-2.true)
+    (ap (one_to max_tolerance) (sym (tolerance-is w)) ∙ sym c.one_to-2.ensures ∙ c.if-not-one_to-2.true) in
+    record { answer = whole.0; bytes = whole.1 }
 
 -- and t too
 head_read : (c : Else-not-one_to-2) →
@@ -77,7 +84,7 @@ returns c =
     let w = read (goal.at.returns c).Else-not-one_to in
     let e = sym (head-passes (a₀ w) (length (out₀ w)) (head_read (goal.at.returns c).Else-not-one_to-2)) in
     let x = c.read_counts.ensures in
-    (x.0 ∙ e, x.1 ∙ ap (λ (k : WrittenAnswer). after_call k.refusal (sheet_from (a₀ w)) (out₀ w)) e)
+    record { answer = x.0 ∙ e; bytes = x.1 ∙ ap (λ (k : WrittenAnswer). after_call k.refusal (sheet_from (a₀ w)) (out₀ w)) e }
 
 pub read_counts-requires : goal.read_counts-requires
 read_counts-requires c = head_read (goal.at.read_counts-requires c).Else-not-one_to-2

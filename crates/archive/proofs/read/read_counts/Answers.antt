@@ -35,7 +35,9 @@ module _ (c : After-counts_fine) where
 
 pub returns-then-not-counts_fine : goal.returns-then-not-counts_fine
 returns-then-not-counts_fine c =
-    ends_other-nodes (a₀ (goal.at.returns-then-not-counts_fine c).After-counts_fine) (out₀ (goal.at.returns-then-not-counts_fine c).After-counts_fine) (start (goal.at.returns-then-not-counts_fine c).After-counts_fine).requires (table_is (goal.at.returns-then-not-counts_fine c).After-counts_fine) (sym c.counts_fine_lem.ensures ∙ c.if-not-counts_fine.true)
+    let whole =
+        ends_other-nodes (a₀ (goal.at.returns-then-not-counts_fine c).After-counts_fine) (out₀ (goal.at.returns-then-not-counts_fine c).After-counts_fine) (start (goal.at.returns-then-not-counts_fine c).After-counts_fine).requires (table_is (goal.at.returns-then-not-counts_fine c).After-counts_fine) (sym c.counts_fine_lem.ensures ∙ c.if-not-counts_fine.true) in
+    record { answer = whole.0; bytes = whole.1 }
 
 -- and the sum was taken
 module _ (c : After-sum_counts) where
@@ -52,8 +54,10 @@ module _ (c : After-sum_counts) where
 
 pub returns-then-wide-sum_counts : goal.returns-then-wide-sum_counts
 returns-then-wide-sum_counts c =
-    let f = tested (goal.at.returns-then-wide-sum_counts c).After-sum_counts in
-    ends_total (a₀ f) (out₀ f) (start f).pre (table_is f) (fine (goal.at.returns-then-wide-sum_counts c).After-sum_counts) (sum_is (goal.at.returns-then-wide-sum_counts c).After-sum_counts) (omega (arith, bound_is (goal.at.returns-then-wide-sum_counts c).After-sum_counts, c.if-wide-sum_counts.true))
+    let whole =
+        let f = tested (goal.at.returns-then-wide-sum_counts c).After-sum_counts in
+    ends_total (a₀ f) (out₀ f) (start f).pre (table_is f) (fine (goal.at.returns-then-wide-sum_counts c).After-sum_counts) (sum_is (goal.at.returns-then-wide-sum_counts c).After-sum_counts) (omega (arith, bound_is (goal.at.returns-then-wide-sum_counts c).After-sum_counts, c.if-wide-sum_counts.true)) in
+    record { answer = whole.0; bytes = whole.1 }
 
 -- and the sheet was handed to the writer
 module _ (c : After-write_sheet) where
@@ -75,7 +79,7 @@ returns-in-Bytes c =
     let f = tested s in
     let x = ends_restored (a₀ f) (out₀ f) (start f).pre (table_is f) (fine s) (sum_is s) (sum_fits (goal.at.returns-in-Bytes c).After-write_sheet) size.0.0
     (sym size.1 ∙ c.write_sheet.ensures.0) in
-    (x.0, c.write_sheet.ensures.1 ∙ x.1)
+    record { answer = x.0; bytes = c.write_sheet.ensures.1 ∙ x.1 }
 
 pub returns-in-Short : goal.returns-in-Short
 returns-in-Short c =
@@ -83,7 +87,7 @@ returns-in-Short c =
     let f = tested s in
     let x = ends_unwritten (a₀ f) (out₀ f) (start f).pre (table_is f) (fine s) (sum_is s) (sum_fits (goal.at.returns-in-Short c).After-write_sheet)
     (sym c.in-Short.is ∙ c.write_sheet.ensures.0) in
-    (x.0, c.write_sheet.ensures.1 ∙ x.1)
+    record { answer = x.0; bytes = c.write_sheet.ensures.1 ∙ x.1 }
 
 -- the length that the writer gives fits
 pub overflow_cast-result : goal.overflow_cast-result

@@ -10,14 +10,19 @@ use Rattle.archive.proofs.write.write_archive.Goals as goal
 
 pub returns-in-Refused : goal.returns-in-Refused
 returns-in-Refused c =
-    let r = c.r-1.given in
+    let whole =
+        let r = c.r-1.given in
     ends_sheet _ _ (refusal_number r.0.0)
     (ap (λ (x : SheetAnswer). x.refusal) (ap answer_of (sym r.1) ∙ c.read_sheet.ensures))
-    (λ z. omega (arith, number_more r.0.0))
+    (λ z. omega (arith, number_more r.0.0)) in
+    record { answer = whole.0; bytes = whole.1 }
 
 pub write_read-requires : goal.write_read-requires
 write_read-requires c =
     ap answer_of (sym c.in-Accepted.is) ∙ c.read_sheet.ensures
 
 pub returns-in-Accepted : goal.returns-in-Accepted
-returns-in-Accepted c = c.write_read.ensures
+returns-in-Accepted c =
+    let whole =
+        c.write_read.ensures in
+    record { answer = whole.0; bytes = whole.1 }

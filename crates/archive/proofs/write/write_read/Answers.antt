@@ -6,7 +6,10 @@ use Rattle.archive.proofs.Checks.{ends_buffer, ends_archived}
 use Rattle.archive.proofs.write.write_read.Goals as goal
 
 pub returns-then-out-lt-ARCHIVE_SIZE : goal.returns-then-out-lt-ARCHIVE_SIZE
-returns-then-out-lt-ARCHIVE_SIZE c = ends_buffer _ _ c.requires (omega (arith, c.if-out-lt-ARCHIVE_SIZE.true))
+returns-then-out-lt-ARCHIVE_SIZE c =
+    let whole =
+        ends_buffer _ _ c.requires (omega (arith, c.if-out-lt-ARCHIVE_SIZE.true)) in
+    record { answer = whole.0; bytes = whole.1 }
 
 pub put_archive-requires : goal.put_archive-requires
 put_archive-requires c =
@@ -14,4 +17,6 @@ put_archive-requires c =
 
 pub returns : goal.returns
 returns c =
-    ends_archived _ _ c.requires (omega (arith, c.if-out-lt-ARCHIVE_SIZE.false)) c.put_archive.ensures
+    let whole =
+        ends_archived _ _ c.requires (omega (arith, c.if-out-lt-ARCHIVE_SIZE.false)) c.put_archive.ensures in
+    record { answer = whole.0; bytes = whole.1 }

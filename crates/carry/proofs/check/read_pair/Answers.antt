@@ -13,7 +13,7 @@ use Rattle.moves.specs.declared.MovesReading.TheVariants as moves-way
 use Rattle.moves.specs.Moves.{read_moves, answer_of as movesAnswer, refusal_number as movesNumber}
 use Rattle.moves.proofs.Answers.{numbered as moves-numbered}
 use Rattle.carry.proofs.Checks.{stops_sheet, stops_moves, stops_differ}
-use Rattle.carry.proofs.check.read_pair.Goals.{After-read_moves, After-read_sheet, In-Accepted-2, In-Accepted-read_moves-2, Start}
+use Rattle.carry.proofs.check.read_pair.Goals.{After-read_moves, After-read_sheet, In-Accepted, In-Accepted-read_moves, Start}
 use Rattle.carry.proofs.check.read_pair.Goals as goal
 
 -- the sheet was read
@@ -34,7 +34,7 @@ returns-in-Refused c =
 
 -- it was accepted, and the moves were read
 module _ (c : After-read_moves) where
-  abbrev accepted : In-Accepted-2
+  abbrev accepted : In-Accepted
   accepted = c.before
   abbrev first : After-read_sheet
   first = accepted.before
@@ -53,7 +53,7 @@ returns-in-Refused-read_moves c =
     )
 
 -- both were accepted
-module _ (c : In-Accepted-read_moves-2) where
+module _ (c : In-Accepted-read_moves) where
   abbrev second : After-read_moves
   second = c.before
   moves_read : movesAnswer (moves-way.Accepted c.in-Accepted-read_moves.m) ≡ read_moves (moves second)
@@ -61,8 +61,8 @@ module _ (c : In-Accepted-read_moves-2) where
 
 pub returns-then-s-m : goal.returns-then-s-m
 returns-then-s-m c =
-    (stops_differ _ _ (sheet-read (second (goal.at.returns-then-s-m c).In-Accepted-read_moves-2)) (moves_read (goal.at.returns-then-s-m c).In-Accepted-read_moves-2) (λ same. omega (arith, c.if-s-m.true, same)), omega arith)
+    (stops_differ _ _ (sheet-read (second (goal.at.returns-then-s-m c).In-Accepted-read_moves)) (moves_read (goal.at.returns-then-s-m c).In-Accepted-read_moves) (λ same. omega (arith, c.if-s-m.true, same)), omega arith)
 
 pub returns-else-s-m : goal.returns-else-s-m
 returns-else-s-m c =
-    record { sheet = sheet-read (second (goal.at.returns-else-s-m c).In-Accepted-read_moves-2); moves = moves_read (goal.at.returns-else-s-m c).In-Accepted-read_moves-2; nodes = omega (arith, c.if-s-m.false) }
+    record { sheet = sheet-read (second (goal.at.returns-else-s-m c).In-Accepted-read_moves); moves = moves_read (goal.at.returns-else-s-m c).In-Accepted-read_moves; nodes = omega (arith, c.if-s-m.false) }

@@ -7,7 +7,7 @@ use native.Mathlib.Omega.{arith}
 use Rattle.fold.specs.Best.{best}
 use Rattle.fold.proofs.Scans.{best_skips, best_begins, best_takes, best-stays, best-found}
 use Rattle.rebuild.specs.Rebuild.{largest_in_b}
-use Rattle.rebuild.proofs.scan.largest_in_b.Goals.{After-in_b, At-loop-k, In-At-2, else-in_b, then-in_b}
+use Rattle.rebuild.proofs.scan.largest_in_b.Goals.{After-in_b, At-loop-k, In-At, else-in_b, then-in_b}
 use Rattle.rebuild.proofs.scan.largest_in_b.Goals as goal
 
 pub loop-k-init : goal.loop-k-init
@@ -19,7 +19,7 @@ abbrev head : After-in_b → At-loop-k
 head c = c.before
 
 -- the best so far is a node
-at-node : (c : In-At-2) → c.in-At.b < 64
+at-node : (c : In-At) → c.in-At.b < 64
 at-node c =
     let l = head c.before in
     omega (arith, (best-found _ _ l.loop-k.k _ (sym l.loop-k.inv.1 ∙ c.in-At.is)).0)
@@ -45,7 +45,7 @@ returns c =
     rw e at c.loop-k.invariant.1
 
 pub offset_bounds-loads-b : goal.offset_bounds-loads-b
-offset_bounds-loads-b c = omega (arith, at-node (goal.at.offset_bounds-loads-b c).In-At-2)
+offset_bounds-loads-b c = omega (arith, at-node (goal.at.offset_bounds-loads-b c).In-At)
 
 pub bounds-loads-b : goal.bounds-loads-b
-bounds-loads-b c = at-node (goal.at.bounds-loads-b c).In-At-2
+bounds-loads-b c = at-node (goal.at.bounds-loads-b c).In-At

@@ -19,11 +19,13 @@ size c =
 
 pub returns-then-out-size : goal.returns-then-out-size
 returns-then-out-size c =
-    let a = c.args in
-    short_writes (sheet_bytes a.n a.t a.table.now) a.out.now _ (size (goal.at.returns-then-out-size c).After-count_cells-e) c.if-out-size.true
+    let whole =
+        let a = c.args in
+    short_writes (sheet_bytes a.n a.t a.table.now) a.out.now _ (size (goal.at.returns-then-out-size c).After-count_cells-e) c.if-out-size.true in
+    record { answer = whole.0; bytes = whole.1 }
 
 pub returns : goal.returns
 returns c =
     let a = c.args in
     let w = long_writes (sheet_bytes a.n a.t a.table.now) a.out.now _ (size (goal.at.returns c).After-count_cells-e) c.if-out-size.false in
-    (w.0, c.put_sheet.ensures ∙ w.1)
+    record { answer = w.0; bytes = c.put_sheet.ensures ∙ w.1 }

@@ -8,7 +8,7 @@ use Rattle.sheet.specs.Sheet.{HeaderAnswer, header_of}
 use Rattle.sheet.proofs.Answers.{number_more}
 use Rattle.text.specs.Split.{split_at}
 use Rattle.text.proofs.Splitting.{split-whole, split-size}
-use Rattle.text.proofs.split.split.Goals.{In-Accepted-2}
+use Rattle.text.proofs.split.split.Goals.{In-Accepted}
 use Rattle.text.proofs.split.split.Goals as goal
 
 -- the header was refused
@@ -18,7 +18,7 @@ returns-in_default c =
     sym (split-whole c.args.input.now (λ z. omega (arith, e, number_more c.in_default.field-0)))
 
 -- the size that the header says, and what there is
-sized : (c : In-Accepted-2) →
+sized : (c : In-Accepted) →
     let s = c.args.input.now in
     split_at s ≡ min (4 * (3 + 2 * c.in-Accepted.h.e)) (length s)
 sized c =
@@ -28,7 +28,7 @@ sized c =
     ∙ ap (λ (a : HeaderAnswer). min (4 * (3 + 2 * a.e)) (length s)) (sym read)
 
 pub returns-then-all-size : goal.returns-then-all-size
-returns-then-all-size c = omega (arith, sized (goal.at.returns-then-all-size c).In-Accepted-2)
+returns-then-all-size c = omega (arith, sized (goal.at.returns-then-all-size c).In-Accepted)
 
 pub returns-else-all-size : goal.returns-else-all-size
-returns-else-all-size c = omega (arith, sized (goal.at.returns-else-all-size c).In-Accepted-2)
+returns-else-all-size c = omega (arith, sized (goal.at.returns-else-all-size c).In-Accepted)

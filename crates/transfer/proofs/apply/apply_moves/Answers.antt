@@ -45,7 +45,8 @@ module _ (table moves : List ℕ) (e : ℕ) (ready : Ready table moves e) where
   )
 
 pub returns-then-not-subtract_sends : goal.returns-then-not-subtract_sends
-returns-then-not-subtract_sends c = (sym (c.if-not-subtract_sends.true) ∙ c.subtract_sends.ensures.0, λ z. absurd (true≢false (sym z)))
+returns-then-not-subtract_sends c =
+    record { answer = sym (c.if-not-subtract_sends.true) ∙ c.subtract_sends.ensures.0; next = λ z. absurd (true≢false (sym z)) }
 
 -- no cell was short
 module _ (c : Else-not-subtract_sends) where
@@ -67,7 +68,7 @@ add_receipts-requires c =
 
 pub returns : goal.returns
 returns c =
-    (sym (within-here (goal.at.returns c).Else-not-subtract_sends), λ z. c.add_receipts.ensures ∙ rw (left_is (goal.at.returns c).Else-not-subtract_sends))
+    record { answer = sym (within-here (goal.at.returns c).Else-not-subtract_sends); next = λ z. c.add_receipts.ensures ∙ rw (left_is (goal.at.returns c).Else-not-subtract_sends) }
 
 pub subtract_sends-requires : goal.subtract_sends-requires
 subtract_sends-requires c = c.requires.0

@@ -67,11 +67,8 @@ loop-i-init c = record { i_le = omega arith; size = c.requires.size; left = λ j
 pub returns-then-table-from : goal.returns-then-table-from
 returns-then-table-from c =
     let a = (start (goal.at.returns-then-table-from c).After-word_number-sent).args in
-    let l = (turn (goal.at.returns-then-table-from c).After-word_number-sent).before.loop in (
-      sym (fails a.table.now a.moves.now a.e l.table l.i l.inv (turn (goal.at.returns-then-table-from c).After-word_number-sent).loop-test.true _ _ (read (goal.at.returns-then-table-from c).After-word_number-sent)
-          (start (goal.at.returns-then-table-from c).After-word_number-sent).requires.size (rw (← c.from_cell-from.ensures) c.if-table-from.true)),
-      λ z. absurd (true≢false (sym z)),
-    )
+    let l = (turn (goal.at.returns-then-table-from c).After-word_number-sent).before.loop in record { answer = sym (fails a.table.now a.moves.now a.e l.table l.i l.inv (turn (goal.at.returns-then-table-from c).After-word_number-sent).loop-test.true _ _ (read (goal.at.returns-then-table-from c).After-word_number-sent)
+          (start (goal.at.returns-then-table-from c).After-word_number-sent).requires.size (rw (← c.from_cell-from.ensures) c.if-table-from.true)); left = λ z. absurd (true≢false (sym z)) }
 
 pub loop-i-preserved : goal.loop-i-preserved
 loop-i-preserved c =
@@ -85,10 +82,7 @@ pub returns : goal.returns
 returns c =
     let l = c.loop-i in
     let a = c.args in
-    let h = c.loop-i-test.false in (
-      sym (passes a.table.now a.moves.now a.e l.table l.i l.invariant h c.requires.size),
-      λ z. left_is a.table.now a.moves.now a.e l.table l.i l.invariant h c.requires.size,
-    )
+    let h = c.loop-i-test.false in record { answer = sym (passes a.table.now a.moves.now a.e l.table l.i l.invariant h c.requires.size); left = λ z. left_is a.table.now a.moves.now a.e l.table l.i l.invariant h c.requires.size }
 
 pub offset_bounds-table-from : goal.offset_bounds-table-from
 offset_bounds-table-from c = omega (arith, from-lt (goal.at.offset_bounds-table-from c).After-word_number-sent)

@@ -60,7 +60,8 @@ loop-n-preserved c =
 
 pub returns : goal.returns
 returns c =
-    let l = c.loop-n in
+    let whole =
+        let l = c.loop-n in
     let a = c.args in
     let own = c.own_amounts-own in
     let h = at a.helpands in
@@ -73,7 +74,8 @@ returns c =
     let e : l.n ≡ a.nodes = omega arith in
     rw (← all-routes-eq a.nodes a.table.now d d' same, ← all-counts-eq a.nodes a.table.now d d' same)
     (written_all a.nodes a.table.now d a.routes.now a.counts.now l.routes l.counts l.e (rw e at l.invariant.1)
-    c.requires.3 c.requires.4)
+    c.requires.3 c.requires.4) in
+    record { entries = whole.0; routes = whole.1; counts = whole.2 }
 
 -- the totals end where the nodes do
 pub own_amounts-own-requires : goal.own_amounts-own-requires

@@ -25,12 +25,17 @@ room c =
 
 pub returns : goal.returns
 returns c =
-    let a = c.args in
+    let whole =
+        let a = c.args in
     rw (ne_eqb a.count 0 c.if-count-eq0.false)
-    (refl, (ap (λ (v : ℕ). set a.routes.now a.e v) c.route.ensures, refl))
+    (refl, (ap (λ (v : ℕ). set a.routes.now a.e v) c.route.ensures, refl)) in
+    record { entries = whole.0; routes = whole.1; counts = whole.2 }
 
 pub returns-then-count-eq0 : goal.returns-then-count-eq0
-returns-then-count-eq0 c = rw (eq-eqb c.args.count 0 c.if-count-eq0.true) (omega arith, (refl, refl))
+returns-then-count-eq0 c =
+    let whole =
+        rw (eq-eqb c.args.count 0 c.if-count-eq0.true) (omega arith, (refl, refl)) in
+    record { entries = whole.0; routes = whole.1; counts = whole.2 }
 
 pub bounds-routes-e : goal.bounds-routes-e
 bounds-routes-e c = omega (arith, room (goal.at.bounds-routes-e c).Else-count-eq0)

@@ -119,16 +119,20 @@ loop-s-preserved c =
 
 pub returns-else-r-nodes : goal.returns-else-r-nodes
 returns-else-r-nodes c =
-    let a = c.args in
+    let whole =
+        let a = c.args in
     finish a.nodes (above a.holding.now a.due.now) (lacks a.holding.now a.due.now) a.n a.routes.now
     a.counts.now a.e (whole a.nodes a.holding.now a.due.now)
     c.loop-s.routes-1 c.loop-s.counts-1 c.loop-s.entries c.loop-s.s.node c.loop-s.s.count c.loop-s.r.node c.loop-s.r.count
-    c.loop-s.invariant (inr (ltb-false c.loop-s.r.node a.nodes c.if-r-nodes.false))
+    c.loop-s.invariant (inr (ltb-false c.loop-s.r.node a.nodes c.if-r-nodes.false)) in
+    record { entries = whole.0; routes = whole.1; counts = whole.2 }
 
 pub returns-after-loop-s : goal.returns-after-loop-s
 returns-after-loop-s c =
-    let a = c.args in
+    let whole =
+        let a = c.args in
     finish a.nodes (above a.holding.now a.due.now) (lacks a.holding.now a.due.now) a.n a.routes.now
     a.counts.now a.e (whole a.nodes a.holding.now a.due.now)
     c.loop-s.routes-1 c.loop-s.counts-1 c.loop-s.entries c.loop-s.s.node c.loop-s.s.count c.loop-s.r.node c.loop-s.r.count
-    c.loop-s.invariant (inl c.loop-s-test.false)
+    c.loop-s.invariant (inl c.loop-s-test.false) in
+    record { entries = whole.0; routes = whole.1; counts = whole.2 }

@@ -13,7 +13,7 @@ use Rattle.plan.specs.declared.PlanReading.TheVariants as plan-way
 use Rattle.plan.specs.Plan.{read_plan, answer_of as planAnswer, refusal_number as planNumber}
 use Rattle.plan.proofs.Answers.{number_more as plan-more}
 use Rattle.weigh.proofs.Checks.{stops_sheet, stops_plan, stops_differ, stops_primary, stops_nowhere}
-use Rattle.weigh.proofs.check.read_pair.Goals.{After-read_plan, After-read_sheet, Else-s-p, In-Accepted-2, In-Accepted-read_plan-2, Start}
+use Rattle.weigh.proofs.check.read_pair.Goals.{After-read_plan, After-read_sheet, Else-s-p, In-Accepted, In-Accepted-read_plan, Start}
 use Rattle.weigh.proofs.check.read_pair.Goals as goal
 
 -- the sheet was read
@@ -31,7 +31,7 @@ returns-in-Refused c =
 
 -- it was accepted, and the plan was read
 module _ (c : After-read_plan) where
-  abbrev accepted : In-Accepted-2
+  abbrev accepted : In-Accepted
   accepted = c.before
   abbrev first : After-read_sheet
   first = accepted.before
@@ -47,7 +47,7 @@ returns-in-Refused-read_plan c =
     (ap (λ (x : PlanAnswer). x.refusal) (ap planAnswer (sym r.1) ∙ c.read_plan.ensures)) (λ z. omega (arith, plan-more r.0.0))
 
 -- both were accepted
-module _ (c : In-Accepted-read_plan-2) where
+module _ (c : In-Accepted-read_plan) where
   abbrev second : After-read_plan
   second = c.before
   plan_read : planAnswer (plan-way.Accepted c.in-Accepted-read_plan.p) ≡ read_plan (plan second)
@@ -55,11 +55,11 @@ module _ (c : In-Accepted-read_plan-2) where
 
 pub returns-then-s-p : goal.returns-then-s-p
 returns-then-s-p c =
-    stops_differ _ _ (sheet-read (second (goal.at.returns-then-s-p c).In-Accepted-read_plan-2)) (plan_read (goal.at.returns-then-s-p c).In-Accepted-read_plan-2) (λ same. omega (arith, c.if-s-p.true, same))
+    stops_differ _ _ (sheet-read (second (goal.at.returns-then-s-p c).In-Accepted-read_plan)) (plan_read (goal.at.returns-then-s-p c).In-Accepted-read_plan) (λ same. omega (arith, c.if-s-p.true, same))
 
 -- past 21
 module _ (c : Else-s-p) where
-  abbrev both : In-Accepted-read_plan-2
+  abbrev both : In-Accepted-read_plan
   both = c.before
 
 pub returns-then-p-eq0 : goal.returns-then-p-eq0
