@@ -17,7 +17,7 @@ use Rattle.carry.specs.Checks.{within_in}
 use Rattle.carry.specs.Carry.{next_table}
 use Rattle.carry.proofs.Checks.{sheet_facts, within-is}
 use Rattle.carry.proofs.Carried.{appliable, carried-is, ends_sends, ends_carried, ends_unwritten}
-use Rattle.carry.proofs.carry_read.Goals.{After-apply_moves, After-slice_known-2-1, After-unpack-table, After-write_sheet, Else-not-apply_moves, Start}
+use Rattle.carry.proofs.carry_read.Goals.{After-apply_moves, After-unpack-table, After-write_sheet, Else-not-apply_moves, Start}
 use Rattle.carry.proofs.carry_read.Goals as goal
 
 -- the table of the sheet
@@ -37,7 +37,7 @@ module _ (c : After-unpack-table) where
 
 pub apply_moves-requires : goal.apply_moves-requires
 apply_moves-requires c =
-    appliable (start (goal.at.apply_moves-requires c).After-unpack-table).requires c.unpack-table.ensures
+    appliable c.requires c.unpack-table.ensures
 
 -- the moves were applied to it
 module _ (c : After-apply_moves) where
@@ -49,7 +49,7 @@ module _ (c : After-apply_moves) where
 pub returns-then-not-apply_moves : goal.returns-then-not-apply_moves
 returns-then-not-apply_moves c =
     let whole =
-        ends_sends (start (read (goal.at.returns-then-not-apply_moves c).After-apply_moves)).pre _ (sym (within-is-here (goal.at.returns-then-not-apply_moves c).After-apply_moves) ∙ c.if-not-apply_moves.true) in
+        ends_sends (start (goal.at.returns-then-not-apply_moves c).After-unpack-table).pre _ (sym (within-is-here (goal.at.returns-then-not-apply_moves c).After-apply_moves) ∙ c.if-not-apply_moves.true) in
     record { answer = whole.0; bytes = whole.1 }
 
 -- past 42: the table that follows
@@ -72,34 +72,28 @@ module _ (c : After-write_sheet) where
   abbrev rec : List ℕ
   rec = sheet_bytes (head (u₀ passed)).n (head (u₀ passed)).t (table passed)
 
-abbrev answered : After-slice_known-2-1 → After-write_sheet
-answered c = c.before
-
 pub returns-in-Bytes : goal.returns-in-Bytes
 returns-in-Bytes c =
     let size = c.size-1.given in
-    let w = answered c.before in
-    let p = passed w in
+    let p = passed (goal.at.returns-in-Bytes c).After-write_sheet in
     let x = ends_carried (start (u₀ p)).pre (next (u₀ p)) (within p) (table_is p) size.0.0
-    (sym size.1 ∙ w.write_sheet.ensures.0) in
-    record { answer = x.0; bytes = w.write_sheet.ensures.1 ∙ x.1 }
+    (sym size.1 ∙ c.write_sheet.ensures.0) in
+    record { answer = x.0; bytes = c.write_sheet.ensures.1 ∙ x.1 }
 
 pub returns-in-Short : goal.returns-in-Short
 returns-in-Short c =
-    let w = answered c.before in
-    let p = passed w in
+    let p = passed (goal.at.returns-in-Short c).After-write_sheet in
     let x = ends_unwritten (start (u₀ p)).pre (next (u₀ p)) (within p) (table_is p)
-    (sym c.in-Short.is ∙ w.write_sheet.ensures.0) in
-    record { answer = x.0; bytes = w.write_sheet.ensures.1 ∙ x.1 }
+    (sym c.in-Short.is ∙ c.write_sheet.ensures.0) in
+    record { answer = x.0; bytes = c.write_sheet.ensures.1 ∙ x.1 }
 
 -- the length that the writer gives fits
 pub overflow_cast-result : goal.overflow_cast-result
 overflow_cast-result c =
     let size = c.size-1.given in
-    let w = answered c.before in
-    let p = passed w in
+    let p = passed (goal.at.overflow_cast-result c).After-write_sheet in
     let h = head (u₀ p) in
-    let z = writing-bytes (rec w) (next (u₀ p)) size.0.0 (sym size.1 ∙ w.write_sheet.ensures.0) in
+    let z = writing-bytes (rec (goal.at.overflow_cast-result c).After-write_sheet) (next (u₀ p)) size.0.0 (sym size.1 ∙ c.write_sheet.ensures.0) in
     omega (arith, z.0, length_most h.n h.t (table p) (n_high (u₀ p)))
 
 pub unpack-table-requires : goal.unpack-table-requires

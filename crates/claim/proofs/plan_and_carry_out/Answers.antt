@@ -13,7 +13,7 @@ use Rattle.words.specs.declared.WrittenAnswer.{WrittenAnswer}
 use Rattle.carry.specs.Carry.{carry_answer, next_after}
 use Rattle.claim.specs.Claim.{Demand3}
 use Rattle.claim.proofs.Demand.{demand}
-use Rattle.claim.proofs.plan_and_carry_out.Goals.{After-firrozka_plan_step-step, After-slice_known-3-1, After-struct_known-1, Start}
+use Rattle.claim.proofs.plan_and_carry_out.Goals.{After-firrozka_plan_step-step, After-slice_known-3-1, Start}
 use Rattle.claim.proofs.plan_and_carry_out.Goals as goal
 
 -- the demand, of answers and buffers that are what the contracts say
@@ -36,14 +36,10 @@ module _ (c : After-firrozka_plan_step-step) where
       let sizes = moves-inside a.sheet.now a.old.now (length a.plan.now) (length m) in
       omega (arith, ap (λ (x : StepAnswer). x.moves-1) c.firrozka_plan_step-step.ensures.0, sizes)
 
-abbrev stepped : After-struct_known-1 → After-firrozka_plan_step-step
-stepped c = c.before
-
 pub returns : goal.returns
 returns c =
     let whole =
-        let w = stepped c.before in
-    let e = w.firrozka_plan_step-step.ensures in
+        let e = c.firrozka_plan_step-step.ensures in
     let f = c.firrozka_carry_out-carry.ensures in
     (e.0, (e.1.0, (e.1.1, (f.0, (f.1, handed-on _ _ _ _ _ _ _ _ _ _ e.0 e.1.0 e.1.1 f.0 f.1))))) in
     record { step = whole.0; plan = whole.1; moves = whole.2; carry = whole.3; next = whole.4; demand = whole.5 }

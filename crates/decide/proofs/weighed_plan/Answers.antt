@@ -17,15 +17,15 @@ module _ (c : After-holds) where
 
 pub returns-then-holds : goal.returns-then-holds
 returns-then-holds c =
-    let l = (weighed (goal.at.returns-then-holds c).After-holds).leasts in
-    let a = (start (goal.at.returns-then-holds c).After-holds).args in
+    let l = c.leasts-leasts in
+    let a = linked.args in
     way_kept a.nodes a.p a.limit a.table.now a.totals a.old l.result l.ensures c.holds.result
     c.holds.ensures c.if-holds.true c.shares.result c.shares.ensures
 
 pub returns : goal.returns
 returns c =
-    let l = (weighed (goal.at.returns c).After-holds).leasts in
-    let a = (start (goal.at.returns c).After-holds).args in
+    let l = c.leasts-leasts in
+    let a = linked.args in
     way_broken a.nodes a.p a.limit a.table.now a.totals a.old l.result l.ensures c.holds.result
     c.holds.ensures c.if-holds.false c.rebuilt_plan.result c.rebuilt_plan.ensures
 

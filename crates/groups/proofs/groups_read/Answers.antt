@@ -16,7 +16,7 @@ use Rattle.groups.specs.Inner.{no_groups}
 use Rattle.groups.proofs.Planned.{array_rooted, reading_none}
 use Rattle.groups.proofs.Placing.{length-groups, none-groups}
 use Rattle.groups.proofs.Checks.{ends_buffer, ends_grouped}
-use Rattle.groups.proofs.groups_read.Goals.{After-struct_known-1, After-struct_known-2-1, Else-groups-nodes, Joined-p-eq0, Start, else-p-eq0, then-p-eq0}
+use Rattle.groups.proofs.groups_read.Goals.{After-struct_known-1, Joined-p-eq0, Start, else-p-eq0, then-p-eq0}
 use Rattle.groups.proofs.groups_read.Goals as goal
 
 -- what was read
@@ -31,33 +31,27 @@ module _ (c : After-struct_known-1) where
 pub returns-then-groups-nodes : goal.returns-then-groups-nodes
 returns-then-groups-nodes c =
     let whole =
-        ends_buffer _ _ (start (goal.at.returns-then-groups-nodes c).After-struct_known-1).pre (omega (arith, c.if-groups-nodes.true)) in
+        ends_buffer _ _ c.pre (omega (arith, c.if-groups-nodes.true)) in
     record { answer = whole.0; bytes = whole.1 }
-
--- past the test of the buffer
-abbrev long : After-struct_known-2-1 → Else-groups-nodes
-long c = c.before
 
 pub put_none-requires : goal.put_none-requires
 put_none-requires c =
-    let e = long c.before in
-    ((facts e.before).n_high, omega (arith, e.if-groups-nodes.left))
+    ((facts (goal.at.put_none-requires c).After-struct_known-1).n_high, omega (arith, c.if-groups-nodes.left))
 
 pub words_64-requires : goal.words_64-requires
 words_64-requires c =
-    let k = facts (long c.before).before in
+    let k = facts (goal.at.words_64-requires c).After-struct_known-1 in
     omega (arith, k.size, k.n_high)
 
 pub put_groups-requires : goal.put_groups-requires
 put_groups-requires c =
-    let e = long c.before in
-    let s = start e.before in
-    (rw c.words_64.ensures (array_rooted (plan e.before) s.args.p s.pre), omega (arith, e.if-groups-nodes.left))
+    let s = start (goal.at.put_groups-requires c).After-struct_known-1 in
+    (rw c.words_64.ensures (array_rooted (plan (goal.at.put_groups-requires c).After-struct_known-1) s.args.p s.pre), omega (arith, c.if-groups-nodes.left))
 
 -- what was written, whichever way it went
 module _ (c : Joined-p-eq0) where
   abbrev read : After-struct_known-1
-  read = (long c.before).before
+  read = c.before
   abbrev n : ℕ
   n = (start read).args.p.n
   abbrev h : ℕ → ℕ
@@ -75,15 +69,14 @@ module _ (c : Joined-p-eq0) where
 pub returns : goal.returns
 returns c =
     let whole =
-        let e = long c.before in
-    ends_grouped _ _ (start e.before).pre (omega (arith, e.if-groups-nodes.left)) (written (goal.at.returns c).Joined-p-eq0) in
+        ends_grouped _ _ (start (goal.at.returns c).After-struct_known-1).pre (omega (arith, c.if-groups-nodes.left)) (written (goal.at.returns c).Joined-p-eq0) in
     record { answer = whole.0; bytes = whole.1 }
 
 pub shape_of-groups : goal.shape_of-groups
 shape_of-groups c =
-    let out = (start (read (goal.at.shape_of-groups c).Joined-p-eq0)).args.groups.now in
+    let out = (start (goal.at.shape_of-groups c).After-struct_known-1).args.groups.now in
     let rec = groups_bytes (n (goal.at.shape_of-groups c).Joined-p-eq0) (h (goal.at.shape_of-groups c).Joined-p-eq0) in
-    let e : length rec ≤ length out = omega (arith, length-groups (n (goal.at.shape_of-groups c).Joined-p-eq0) (h (goal.at.shape_of-groups c).Joined-p-eq0), (long c.before).if1.false) in
+    let e : length rec ≤ length out = omega (arith, length-groups (n (goal.at.shape_of-groups c).Joined-p-eq0) (h (goal.at.shape_of-groups c).Joined-p-eq0), c.if-groups-nodes.false) in
     ap length (written (goal.at.shape_of-groups c).Joined-p-eq0) ∙ length-append rec (drop (length rec) out) ∙ simp length-drop (omega arith)
 
 pub overflow_mul-result : goal.overflow_mul-result

@@ -9,7 +9,7 @@ use Rattle.groups.specs.Group.{group_in}
 use Rattle.groups.specs.Groups.{groups_size}
 use Rattle.groups.specs.Inner.{with_entries}
 use Rattle.groups.proofs.Placing.{entries_none, entries-stored}
-use Rattle.groups.proofs.put_entries.Goals.{In-loop-k, Start}
+use Rattle.groups.proofs.put_entries.Goals.{In-loop-k}
 use Rattle.groups.proofs.put_entries.Goals as goal
 
 pub loop-k-init : goal.loop-k-init
@@ -17,22 +17,17 @@ loop-k-init c =
     let a = c.args in
     (omega arith, entries_none a.nodes (group_in a.nodes (at a.helpands.now)) a.out.now, refl)
 
--- ---- a turn: the even entry is stored, then the odd one
-abbrev start : In-loop-k → Start
-start c = c.before
-
 pub entries_of-entries-requires : goal.entries_of-entries-requires
-entries_of-entries-requires c = ((start c).requires.0, c.loop-k-test.true)
+entries_of-entries-requires c = (c.requires.0, c.loop-k-test.true)
 
 pub loop-k-preserved : goal.loop-k-preserved
 loop-k-preserved c =
-    let i = c.before in
-    let v = i.loop-k.invariant in
-    let a = (start i).args in
-    let s = entries-stored a.nodes (group_in a.nodes (at a.helpands.now)) i.loop-k.k a.out.now
-    i.loop-k-test.true v.1 v.2
+    let v = c.loop-k.invariant in
+    let a = c.args in
+    let s = entries-stored a.nodes (group_in a.nodes (at a.helpands.now)) c.loop-k.k a.out.now
+    c.loop-k-test.true v.1 v.2
     c.entries_of-entries.ensures.0 c.entries_of-entries.ensures.1 c.put_word.ensures c.put_word-in-loop-k.ensures in
-    (omega (arith, i.loop-k-test.true), s.0, s.1)
+    (omega (arith, c.loop-k-test.true), s.0, s.1)
 
 -- the record fits
 fits : (i : In-loop-k) → groups_size (start i).args.nodes ≤ length i.loop-k.out-1

@@ -44,13 +44,13 @@ module _ (c : After-word_number) where
 
 pub loop-i-preserved : goal.loop-i-preserved
 loop-i-preserved c =
-    let a = (start (goal.at.loop-i-preserved c).After-word_number).args in
-    let l = (head (goal.at.loop-i-preserved c).After-word_number).loop in
+    let a = turn.args in
+    let l = turn.loop-i in
     let v = l.inv in (
       v.0,
       v.1,
-      again a.table.now a.s.now v.0 a.e v.1 l.table l.i v.2 (turn (goal.at.loop-i-preserved c).After-word_number).loop-test.true _ _
-          (cell-read (goal.at.loop-i-preserved c).After-word_number).word_number.ensures c.word_number.ensures,
+      again a.table.now a.s.now v.0 a.e v.1 l.table l.i v.2 cell-read.loop-i-test.true _ _
+          c.word_number-c.ensures c.word_number.ensures,
     )
 
 pub returns : goal.returns

@@ -13,7 +13,7 @@ use Rattle.sheet.proofs.Accepted.{Accepted, sheet_unpackable}
 use Rattle.sheet.proofs.Filled.{length_most}
 use Rattle.inlet.specs.Join.{joined_table}
 use Rattle.inlet.proofs.Checks.{first_facts, second_facts, addable, joined_is, ends_nodes, ends_tolerance, ends_total, ends_joined, ends_unwritten}
-use Rattle.inlet.proofs.join_read.Goals.{After-add_counts, After-slice_known-2-1, After-struct_known-2-1, After-struct_known-4-1, After-struct_known-6-1, After-unpack-table, After-write_sheet, Else-a-b, Else-a-b-2, Else-a-b-gt-MAX_TOTAL, Start}
+use Rattle.inlet.proofs.join_read.Goals.{After-add_counts, After-struct_known-2-1, After-struct_known-4-1, After-struct_known-6-1, After-unpack-table, After-write_sheet, Else-a-b, Else-a-b-2, Else-a-b-gt-MAX_TOTAL, Start}
 use Rattle.inlet.proofs.join_read.Goals as goal
 
 -- before the first check
@@ -38,7 +38,7 @@ module _ (c : After-struct_known-2-1) where
 pub returns-then-a-b : goal.returns-then-a-b
 returns-then-a-b c =
     let whole =
-        ends_nodes (start (goal.at.returns-then-a-b c).After-struct_known-2-1).requires _ c.if-a-b.true in
+        ends_nodes c.requires _ c.if-a-b.true in
     record { answer = whole.0; bytes = whole.1 }
 
 -- past the test of N
@@ -49,8 +49,7 @@ module _ (c : After-struct_known-4-1) where
 pub returns-then-a-b-2 : goal.returns-then-a-b-2
 returns-then-a-b-2 c =
     let whole =
-        let n = nodes-same (goal.at.returns-then-a-b-2 c).After-struct_known-4-1 in
-    ends_tolerance (start n.before).pre _ c.if-a-b-2.true in
+        ends_tolerance (start (goal.at.returns-then-a-b-2 c).After-struct_known-2-1).pre _ c.if-a-b-2.true in
     record { answer = whole.0; bytes = whole.1 }
 
 -- past the test of t
@@ -63,7 +62,7 @@ module _ (c : After-struct_known-6-1) where
 pub returns-then-a-b-gt-MAX_TOTAL : goal.returns-then-a-b-gt-MAX_TOTAL
 returns-then-a-b-gt-MAX_TOTAL c =
     let whole =
-        ends_total (start (begun (goal.at.returns-then-a-b-gt-MAX_TOTAL c).After-struct_known-6-1)).pre _ (nodes-same (both-same (goal.at.returns-then-a-b-gt-MAX_TOTAL c).After-struct_known-6-1).before).if1.left (both-same (goal.at.returns-then-a-b-gt-MAX_TOTAL c).After-struct_known-6-1).if2.false c.if-a-b-gt-MAX_TOTAL.true in
+        ends_total (start (begun (goal.at.returns-then-a-b-gt-MAX_TOTAL c).After-struct_known-6-1)).pre _ (nodes-same (goal.at.returns-then-a-b-gt-MAX_TOTAL c).After-struct_known-4-1).if1.left c.if-a-b-2.false c.if-a-b-gt-MAX_TOTAL.true in
     record { answer = whole.0; bytes = whole.1 }
 
 -- past the test of the joint total: the first sheet's table, and the second's counts added to it
@@ -86,36 +85,30 @@ module _ (c : After-write_sheet) where
   abbrev rec : List ℕ
   rec = sheet_bytes (a₀ (b₁ summed)).n (a₀ (b₁ summed)).t (table summed)
 
-abbrev answered : After-slice_known-2-1 → After-write_sheet
-answered c = c.before
-
 pub returns-in-Bytes : goal.returns-in-Bytes
 returns-in-Bytes c =
     let size = c.size-1.given in
-    let w = answered c.before in
-    let p = summed w in
+    let p = summed (goal.at.returns-in-Bytes c).After-write_sheet in
     let e = within p in
     let x = ends_joined (start (b₁ p)).pre (out (b₁ p)) (nodes-same (both-same e.before).before).if1.left
-    (both-same e.before).if2.left e.if-a-b-gt-MAX_TOTAL.left (table_is p) size.0.0 (sym size.1 ∙ w.write_sheet.ensures.0) in
-    record { answer = x.0; bytes = w.write_sheet.ensures.1 ∙ x.1 }
+    (both-same e.before).if2.left e.if-a-b-gt-MAX_TOTAL.left (table_is p) size.0.0 (sym size.1 ∙ c.write_sheet.ensures.0) in
+    record { answer = x.0; bytes = c.write_sheet.ensures.1 ∙ x.1 }
 
 pub returns-in-Short : goal.returns-in-Short
 returns-in-Short c =
-    let w = answered c.before in
-    let p = summed w in
+    let p = summed (goal.at.returns-in-Short c).After-write_sheet in
     let e = within p in
     let x = ends_unwritten (start (b₁ p)).pre (out (b₁ p)) (nodes-same (both-same e.before).before).if1.left
-    (both-same e.before).if2.left e.if-a-b-gt-MAX_TOTAL.left (table_is p) (sym c.in-Short.is ∙ w.write_sheet.ensures.0) in
-    record { answer = x.0; bytes = w.write_sheet.ensures.1 ∙ x.1 }
+    (both-same e.before).if2.left e.if-a-b-gt-MAX_TOTAL.left (table_is p) (sym c.in-Short.is ∙ c.write_sheet.ensures.0) in
+    record { answer = x.0; bytes = c.write_sheet.ensures.1 ∙ x.1 }
 
 -- the length that the writer gives fits
 pub overflow_cast-result : goal.overflow_cast-result
 overflow_cast-result c =
     let size = c.size-1.given in
-    let w = answered c.before in
-    let p = summed w in
+    let p = summed (goal.at.overflow_cast-result c).After-write_sheet in
     let h = a₀ (b₁ p) in
-    let z = writing-bytes (rec w) (out (b₁ p)) size.0.0 (sym size.1 ∙ w.write_sheet.ensures.0) in
+    let z = writing-bytes (rec (goal.at.overflow_cast-result c).After-write_sheet) (out (b₁ p)) size.0.0 (sym size.1 ∙ c.write_sheet.ensures.0) in
     omega (arith, z.0, length_most h.n h.t (table p) (facts (b₁ p)).n_high)
 
 pub add_counts-requires : goal.add_counts-requires

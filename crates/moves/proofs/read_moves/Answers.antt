@@ -29,15 +29,14 @@ module _ (c : After-word_number-e) where
   head = simp (le-ltb (length s) 8 (omega arith), ← c.word_number-n.ensures, ← c.word_number-e.ensures)
 
 -- N is in its range
-nodes : (c : Else-not-one_to) → one_to max_nodes (n c.before) ≡ true
+nodes : (c : Else-not-one_to) → one_to max_nodes c.word_number-n.result ≡ true
 nodes c = sym c.one_to.ensures ∙ c.if-not-one_to.false
 
 -- past the test of N
 ranges : (c : Else-not-one_to) →
-    let w = c.before in
-    read_moves (s w)
-    ≡ refuse_if (ltb (n w * (n w - 1)) (e w)) (refused 33)
-    (refuse_if (not (eqb (length (s w)) (4 * (2 + 2 * e w)))) (refused 34) (entries_answer (s w) (n w) (e w)))
+    read_moves c.args.s.now
+    ≡ refuse_if (ltb (c.word_number-n.result * (c.word_number-n.result - 1)) c.word_number-e.result) (refused 33)
+    (refuse_if (not (eqb (length c.args.s.now) (4 * (2 + 2 * c.word_number-e.result)))) (refused 34) (entries_answer c.args.s.now c.word_number-n.result c.word_number-e.result))
 ranges c = head c.before ∙ rw (nodes c)
 
 pub returns-then-s-lt8 : goal.returns-then-s-lt8
@@ -46,34 +45,34 @@ returns-then-s-lt8 c = simp (lt-ltb (length c.args.s.now) 8 (omega arith))
 
 pub returns-then-not-one_to : goal.returns-then-not-one_to
 returns-then-not-one_to c =
-    let bad : one_to max_nodes (n (goal.at.returns-then-not-one_to c).After-word_number-e) ≡ false = sym c.one_to.ensures ∙ c.if-not-one_to.true in
+    let bad : one_to max_nodes c.word_number-n.result ≡ false = sym c.one_to.ensures ∙ c.if-not-one_to.true in
     sym (head (goal.at.returns-then-not-one_to c).After-word_number-e ∙ rw bad)
 
 pub overflow_sub-n : goal.overflow_sub-n
-overflow_sub-n c = omega (arith, (one-to-is max_nodes (n (goal.at.overflow_sub-n c).After-word_number-e) (nodes (goal.at.overflow_sub-n c).Else-not-one_to)).0)
+overflow_sub-n c = omega (arith, (one-to-is max_nodes c.word_number-n.result (nodes (goal.at.overflow_sub-n c).Else-not-one_to)).0)
 
 -- of at most 64 nodes the product fits a word
 pub overflow_mul-n : goal.overflow_mul-n
 overflow_mul-n c =
-    let high : n (goal.at.overflow_mul-n c).After-word_number-e ≤ max_nodes = (one-to-is max_nodes (n (goal.at.overflow_mul-n c).After-word_number-e) (nodes (goal.at.overflow_mul-n c).Else-not-one_to)).1 in
-    let less : n (goal.at.overflow_mul-n c).After-word_number-e - 1 ≤ max_nodes = omega arith in
+    let high : c.word_number-n.result ≤ max_nodes = (one-to-is max_nodes c.word_number-n.result (nodes (goal.at.overflow_mul-n c).Else-not-one_to)).1 in
+    let less : c.word_number-n.result - 1 ≤ max_nodes = omega arith in
     omega (arith, mul-le-mul high less)
 
 pub returns-then-n-e : goal.returns-then-n-e
 returns-then-n-e c =
-    sym (ranges (goal.at.returns-then-n-e c).Else-not-one_to ∙ simp (lt-ltb (n (goal.at.returns-then-n-e c).After-word_number-e * (n (goal.at.returns-then-n-e c).After-word_number-e - 1)) (e (goal.at.returns-then-n-e c).After-word_number-e) (omega arith)))
+    sym (ranges (goal.at.returns-then-n-e c).Else-not-one_to ∙ simp (lt-ltb (c.word_number-n.result * (c.word_number-n.result - 1)) c.word_number-e.result (omega arith)))
 
 pub returns-then-s-e : goal.returns-then-s-e
 returns-then-s-e c =
     sym
-    (ranges (goal.at.returns-then-s-e c).Else-not-one_to ∙ simp (le-ltb (n (goal.at.returns-then-s-e c).After-word_number-e * (n (goal.at.returns-then-s-e c).After-word_number-e - 1)) (e (goal.at.returns-then-s-e c).After-word_number-e) (omega arith), ne_eqb (length (s (goal.at.returns-then-s-e c).After-word_number-e)) (4 * (2 + 2 * e (goal.at.returns-then-s-e c).After-word_number-e)) (λ z. omega arith)))
+    (ranges (goal.at.returns-then-s-e c).Else-not-one_to ∙ simp (le-ltb (c.word_number-n.result * (c.word_number-n.result - 1)) c.word_number-e.result (omega arith), ne_eqb (length c.args.s.now) (4 * (2 + 2 * c.word_number-e.result)) (λ z. omega arith)))
 
 pub read_entries-requires : goal.read_entries-requires
 read_entries-requires c =
-    omega (arith, (one-to-is max_nodes (n (goal.at.read_entries-requires c).After-word_number-e) (nodes (goal.at.read_entries-requires c).Else-not-one_to)).1)
+    omega (arith, (one-to-is max_nodes c.word_number-n.result (nodes (goal.at.read_entries-requires c).Else-not-one_to)).1)
 
 pub returns : goal.returns
 returns c =
     c.read_entries.ensures
     ∙ sym
-    (ranges (goal.at.returns c).Else-not-one_to ∙ simp (le-ltb (n (goal.at.returns c).After-word_number-e * (n (goal.at.returns c).After-word_number-e - 1)) (e (goal.at.returns c).After-word_number-e) (omega arith), eq-eqb (length (s (goal.at.returns c).After-word_number-e)) (4 * (2 + 2 * e (goal.at.returns c).After-word_number-e)) (omega arith)))
+    (ranges (goal.at.returns c).Else-not-one_to ∙ simp (le-ltb (c.word_number-n.result * (c.word_number-n.result - 1)) c.word_number-e.result (omega arith), eq-eqb (length c.args.s.now) (4 * (2 + 2 * c.word_number-e.result)) (omega arith)))

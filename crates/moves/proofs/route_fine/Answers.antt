@@ -8,7 +8,7 @@ use Prim.Native.Nat.{ℕ}
 use lib.Dec.{ltb, eqb}
 use borrow.Author.Tests.{lt-ltb, le-ltb}
 use Rattle.moves.specs.Moves.{subdomain, sender, receiver, route_fine}
-use Rattle.moves.proofs.route_fine.Goals.{After-receiver-receiver, Joined-sender-n, Joined-subdomain-n, Start, else-sender-n, else-subdomain-n, then-sender-n, then-subdomain-n}
+use Rattle.moves.proofs.route_fine.Goals.{Joined-sender-n, Joined-subdomain-n, else-sender-n, else-subdomain-n, then-sender-n, then-subdomain-n}
 use Rattle.moves.proofs.route_fine.Goals as goal
 
 -- with the parts as they were computed
@@ -16,14 +16,10 @@ fine_parts : (n r d s t : ℕ) → d ≡ subdomain r → s ≡ sender r → t �
     → route_fine n r ≡ (ltb d n && (ltb s n && (ltb t n && not (eqb s t))))
 fine_parts n r d s t p q u = rw (p, q, u)
 
-abbrev start : After-receiver-receiver → Start
-start c = c.before
-
 -- after two tests
 two : (c : Joined-subdomain-n) (rest : Bool) →
-    let k = c.before in
-    let n = (start k).args.n in
-    (ltb k.subdomain-subdomain.result n && (ltb k.sender-sender.result n && rest)) ≡ (c.if-subdomain-n.if-sender-n && rest)
+    let n = c.args.n in
+    (ltb c.subdomain-subdomain.result n && (ltb c.sender-sender.result n && rest)) ≡ (c.if-subdomain-n.if-sender-n && rest)
 two c rest = elim c.if-subdomain-n.branch [
       | then-subdomain-n w ↦ rw (w.1, lt-ltb _ _ w.if-subdomain-n.true)
       | else-subdomain-n w ↦ rw (w.1, le-ltb _ _ w.if-subdomain-n.false)
@@ -31,12 +27,10 @@ two c rest = elim c.if-subdomain-n.branch [
 
 -- after three
 three : (c : Joined-sender-n) →
-    let k = c.before in
-    route_fine (start k).args.n (start k).args.r ≡ (c.if-sender-n.if-receiver-n && not (eqb k.sender-sender.result k.receiver-receiver.result))
+    route_fine c.args.n c.args.r ≡ (c.if-sender-n.if-receiver-n && not (eqb c.sender-sender.result c.receiver-receiver.result))
 three c =
-    let k = c.before in
-    fine_parts _ _ _ _ _ k.subdomain-subdomain.ensures k.sender-sender.ensures k.receiver-receiver.ensures
-    ∙ two c.before (ltb k.receiver-receiver.result (start k).args.n && not (eqb k.sender-sender.result k.receiver-receiver.result))
+    fine_parts _ _ _ _ _ c.subdomain-subdomain.ensures c.sender-sender.ensures c.receiver-receiver.ensures
+    ∙ two c.before (ltb c.receiver-receiver.result c.args.n && not (eqb c.sender-sender.result c.receiver-receiver.result))
     ∙ elim c.if-sender-n.branch [
       | then-sender-n w ↦ rw (w.1, w.if-sender-n.true)
       | else-sender-n w ↦ rw (w.1, w.if-sender-n.false)

@@ -10,7 +10,7 @@ use Rattle.sheet.proofs.Accepted.{Accepted, sheet_unpackable}
 use Rattle.planner.specs.Step.{answer_of}
 use Rattle.planner.proofs.Facts.{facts, sum-within, old-size}
 use Rattle.planner.proofs.Records.{Here, product_small, before_deciding, here_allotted, here_few, here_long, here_ends}
-use Rattle.planner.proofs.plan_read.Goals.{After-all_moves-e, After-counts-1, After-counts-3-1, After-decide-d, After-old_helpands-helpands, After-slice_known-2-1, After-struct_known-2-1, After-totals-totals, After-unpack-table, After-write_records-arg-2-1, Start}
+use Rattle.planner.proofs.plan_read.Goals.{After-decide-d, After-old_helpands-helpands, After-slice_known-2-1, After-struct_known-2-1, After-totals-totals, After-unpack-table, Start}
 use Rattle.planner.proofs.plan_read.Goals as goal
 
 -- before the table is unpacked
@@ -35,17 +35,16 @@ module _ (c : After-totals-totals) where
 
 pub totals-totals-requires : goal.totals-totals-requires
 totals-totals-requires c =
-    ((known (goal.at.totals-totals-requires c).After-struct_known-2-1).n_high, rw c.unpack-table.ensures (sum-within (start (goal.at.totals-totals-requires c).After-struct_known-2-1).requires))
+    ((known (goal.at.totals-totals-requires c).After-struct_known-2-1).n_high, rw c.unpack-table.ensures (sum-within lent.requires))
 
 pub old_helpands-helpands-requires : goal.old_helpands-helpands-requires
-old_helpands-helpands-requires c = let b = b₀ (goal.at.old_helpands-helpands-requires c).After-totals-totals in ((known b).n_high, old-size (start b).pre)
+old_helpands-helpands-requires c = let b = unpacked.before in ((known b).n_high, old-size (start b).pre)
 
 pub decide-d-requires : goal.decide-d-requires
 decide-d-requires c =
-    let u = unpacked (goal.at.decide-d-requires c).After-totals-totals in
-    let b = b₀ (goal.at.decide-d-requires c).After-totals-totals in
-    let w = before_deciding (start b).pre u.unpack-table.result c.totals-totals.result c.old_helpands-helpands.result
-    u.unpack-table.ensures c.totals-totals.ensures c.old_helpands-helpands.ensures in
+    let b = unpacked.before in
+    let w = before_deciding (start b).pre c.unpack-table.result c.totals-totals.result c.old_helpands-helpands.result
+    c.unpack-table.ensures c.totals-totals.ensures c.old_helpands-helpands.ensures in
     ((known b).n_low, (known b).n_high, c.totals-totals.ensures, w.0, (known b).sum.within, w.1, w.2)
 
 -- the decision was made
@@ -68,35 +67,22 @@ module _ (c : After-decide-d) where
         decision_is = c.decide-d.ensures;
       }
 
--- the two arrays for the moves are there
-abbrev decided : After-counts-1 → After-decide-d
-decided c = c.before
-
 pub all_moves-e-requires : goal.all_moves-e-requires
 all_moves-e-requires c =
-    let d = decided c in
-    let b = begun d in
+    let b = begun (goal.at.all_moves-e-requires c).After-decide-d in
     let small = product_small (start b).pre in (
       (known b).n_high,
-      (worked d).totals_is,
-      here_allotted (start b).pre (worked d),
+      (worked (goal.at.all_moves-e-requires c).After-decide-d).totals_is,
+      here_allotted (start b).pre (worked (goal.at.all_moves-e-requires c).After-decide-d),
       small,
       small,
     )
 
--- the moves were worked out
-abbrev handed : After-counts-3-1 → After-write_records-arg-2-1
-handed c = c.before
-
-abbrev moved : After-counts-3-1 → After-all_moves-e
-moved c = (handed c).before.before.before.before
-
 pub write_records-requires : goal.write_records-requires
 write_records-requires c =
-    let m = moved c in
-    let d = decided m.before in
+    let d = decided c.before in
     let b = begun d in
-    let e = m.all_moves-e.ensures in
+    let e = c.all_moves-e.ensures in
     let few = here_few (start b).pre (worked d) in
     let long = here_long (start b).pre (worked d) _ _ _ _ _ e.0 e.1.0 e.1.1 in
     ((known b).n_high, omega (arith, few, e.0), long.0, long.1)
@@ -104,10 +90,9 @@ write_records-requires c =
 pub returns : goal.returns
 returns c =
     let whole =
-        let m = moved c.before in
-    let d = decided m.before in
+        let d = decided c.before in
     let b = begun d in
-    let e = m.all_moves-e.ensures in
+    let e = c.all_moves-e.ensures in
     here_ends (start b).pre (worked d) _ _ _ _ _ e.0 e.1.0 e.1.1
     (answer_of c.write_records.result) (start b).args.plan.now (start b).args.moves.now _ _ c.write_records.ensures in
     record { answer = whole.0; plan = whole.1; moves = whole.2 }

@@ -56,9 +56,8 @@ pub returns-in-Refused : goal.returns-in-Refused
 returns-in-Refused c =
     let whole =
         let r = c.r-1.given in
-    let f = first (goal.at.returns-in-Refused c).After-read_old in
     let refused = ap old_of (sym r.1) ∙ c.read_old.ensures in
-    ends_old _ _ _ _ (head (goal.at.returns-in-Refused c).After-read_old).n (ap (λ (x : SheetAnswer). x.refusal) (sheet-read (goal.at.returns-in-Refused c).After-read_old))
+    ends_old _ _ _ _ reading.in-Accepted.s.n (ap (λ (x : SheetAnswer). x.refusal) (sheet-read (goal.at.returns-in-Refused c).After-read_old))
     (ap (λ (x : SheetAnswer). x.n) (sheet-read (goal.at.returns-in-Refused c).After-read_old)) (number_of r.0.0) refused (number_more r.0.0) in
     record { answer = whole.0; plan = whole.1; moves = whole.2 }
 

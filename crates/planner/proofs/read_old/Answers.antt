@@ -26,7 +26,7 @@ module _ (c : In-Accepted) where
 
 pub returns-then-p-n : goal.returns-then-p-n
 returns-then-p-n c =
-    old_differs (start (goal.at.returns-then-p-n c).In-Accepted).args.old.now (start (goal.at.returns-then-p-n c).In-Accepted).args.n (full (goal.at.returns-then-p-n c).In-Accepted).if1.false c.in-Accepted.p (plan_read (goal.at.returns-then-p-n c).In-Accepted) c.if-p-n.true
+    old_differs full.args.old.now full.args.n c.if-old-eq0.false c.in-Accepted.p (plan_read (goal.at.returns-then-p-n c).In-Accepted) c.if-p-n.true
 
 pub returns-in-Refused : goal.returns-in-Refused
 returns-in-Refused c =
@@ -38,8 +38,8 @@ returns-in-Refused c =
 
 pub returns-then-p-eq0 : goal.returns-then-p-eq0
 returns-then-p-eq0 c =
-    old-primary (start (goal.at.returns-then-p-eq0 c).In-Accepted).args.old.now (start (goal.at.returns-then-p-eq0 c).In-Accepted).args.n (full (goal.at.returns-then-p-eq0 c).In-Accepted).if1.false _ (plan_read (goal.at.returns-then-p-eq0 c).In-Accepted) c.if-p-n.false c.if-p-eq0.true
+    old-primary full.args.old.now full.args.n c.if-old-eq0.false _ (plan_read (goal.at.returns-then-p-eq0 c).In-Accepted) c.if-p-n.false c.if-p-eq0.true
 
 pub returns-else-p-eq0 : goal.returns-else-p-eq0
 returns-else-p-eq0 c =
-    old-tree (start (goal.at.returns-else-p-eq0 c).In-Accepted).args.old.now (start (goal.at.returns-else-p-eq0 c).In-Accepted).args.n (full (goal.at.returns-else-p-eq0 c).In-Accepted).if1.false _ (plan_read (goal.at.returns-else-p-eq0 c).In-Accepted) c.if-p-n.false c.if-p-eq0.false
+    old-tree full.args.old.now full.args.n c.if-old-eq0.false _ (plan_read (goal.at.returns-else-p-eq0 c).In-Accepted) c.if-p-n.false c.if-p-eq0.false

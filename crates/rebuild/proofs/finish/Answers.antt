@@ -9,16 +9,13 @@ use Rattle.arrays.specs.Arrays.{tabulate}
 use Rattle.rebuild.specs.Rebuild.{lowest_in_b, new_helpand, new_share}
 use Rattle.rebuild.proofs.Choices.{finish-none, finish-at, helpand_in, helpand-out, share_in, share-out}
 use Rattle.arrays.proofs.Tabulate.{tabulate-none, tabulate-next}
-use Rattle.rebuild.proofs.finish.Goals.{After-in_b, At-loop-k, In-loop-k, Start, else-in_b, then-in_b}
+use Rattle.rebuild.proofs.finish.Goals.{At-loop-k, Start, else-in_b, then-in_b}
 use Rattle.rebuild.proofs.finish.Goals as goal
 
 -- the points that the facts below speak of: the start, and the loop's turn
 abbrev begun : At-loop-k → Start
 begun l =
     l.before
-
-abbrev turn-of : After-in_b → In-loop-k
-turn-of c = c.before
 
 -- no node is in B
 pub returns-in_default : goal.returns-in_default
@@ -27,7 +24,7 @@ returns-in_default c =
 
 pub loop-k-preserved : goal.loop-k-preserved
 loop-k-preserved c =
-    let l = (turn-of c.before).before in
+    let l = c.before in
     let s = (begun l).args.t1 in
     let k = l.loop-k.k in
     let v = l.loop-k.inv in

@@ -9,7 +9,7 @@ use lib.Seq.{length-take-le}
 use Rattle.words.specs.Buffer.{placed}
 use Rattle.run.specs.Run.{plan_size, moves_size}
 use Rattle.run.proofs.Planned.{Answered, number_text, plan_in_front, moves_in_front, fronts_printable, fronts_text}
-use Rattle.run.proofs.step.Goals.{After-answer-answer, After-moves-3-1, After-plan-1, After-plan_step, Else-answer-ne0, Start}
+use Rattle.run.proofs.step.Goals.{After-answer-answer, After-plan-1, After-plan_step, Else-answer-ne0, Start}
 use Rattle.run.proofs.step.Goals as goal
 
 -- the step was planned or refused
@@ -42,29 +42,44 @@ module _ (c : After-answer-answer) where
 pub returns-then-answer-ne0 : goal.returns-then-answer-ne0
 returns-then-answer-ne0 c =
     let same = number_text (answered (goal.at.returns-then-answer-ne0 c).After-answer-answer) c.if-answer-ne0.true in
-    record { size = c.write_refused.ensures.0 ∙ ap length same; bytes = c.write_refused.ensures.1 ∙ ap (λ (x : List ℕ). placed x (out (goal.at.returns-then-answer-ne0 c).After-answer-answer)) same }
+    record { size = c.write_refused.ensures.0 ∙ ap length same; bytes = c.write_refused.ensures.1 ∙ ap (λ (x : List ℕ). placed x start.args.out.now) same }
 
--- it was planned
-abbrev planned : Else-answer-ne0 → After-answer-answer
-planned c = c.before
+plan-within : (c : Else-answer-ne0) → c.answer-answer.result.plan-1 ≤ length (plan c)
+plan-within c =
+    let answered' : Answered start.args.sheet.now start.args.old.now c.answer-answer.result (replicate plan_size 0) (replicate moves_size 0)
+      plan moves =
+        let e = step.plan_step.ensures in
+      record {
+        plan_long = length-replicate {A = ℕ} plan_size 0;
+        moves_long = length-replicate {A = ℕ} moves_size 0;
+        answer = c.answer-answer.ensures ∙ e.0;
+        plan_after_lem = e.1.0;
+        moves_after_lem = e.1.1;
+      } in
+    (plan_in_front answered' c.if-answer-ne0.false).within
 
-plan-within : (c : Else-answer-ne0) → (planned c).answer.result.plan ≤ length (plan (planned c))
-plan-within c = (plan_in_front (answered (planned c)) c.if-answer-ne0.false).within
-
-moves-within : (c : Else-answer-ne0) → (planned c).answer.result.moves ≤ length (moves (planned c))
-moves-within c = (moves_in_front (answered (planned c)) c.if-answer-ne0.false).within
-
-abbrev accepted : After-moves-3-1 → Else-answer-ne0
-accepted c = c.before
+moves-within : (c : Else-answer-ne0) → c.answer-answer.result.moves-1 ≤ length (moves c)
+moves-within c =
+    let answered' : Answered start.args.sheet.now start.args.old.now c.answer-answer.result (replicate plan_size 0) (replicate moves_size 0)
+      plan moves =
+        let e = step.plan_step.ensures in
+      record {
+        plan_long = length-replicate {A = ℕ} plan_size 0;
+        moves_long = length-replicate {A = ℕ} moves_size 0;
+        answer = c.answer-answer.ensures ∙ e.0;
+        plan_after_lem = e.1.0;
+        moves_after_lem = e.1.1;
+      } in
+    (moves_in_front answered' c.if-answer-ne0.false).within
 
 pub write_records-requires : goal.write_records-requires
 write_records-requires c =
-    let e = accepted c.before in
+    let e = c.before in
     (fronts_printable (answered (planned e)) e.if-answer-ne0.left, (start (planned e)).pre)
 
 pub returns : goal.returns
 returns c =
-    let e = accepted c.before in
+    let e = c.before in
     let same = fronts_text (answered (planned e)) e.if-answer-ne0.left in
     record { size = c.write_records.ensures.0 ∙ ap length same; bytes = c.write_records.ensures.1 ∙ ap (λ (x : List ℕ). placed x (out (planned e))) same }
 

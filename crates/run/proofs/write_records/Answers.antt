@@ -86,25 +86,25 @@ front_long xs ws a first e l f =
 
 pub write_step-requires : goal.write_step-requires
 write_step-requires c =
-    let w = e-read (goal.at.write_step-requires c).After-get_words-2 in
+    let w = routes-read.before in
     let b = start₄ w in
     let n = nodes-is (first (arrays w)) in
     let e = moves-is w in
     let l = moves.words_are (moves₀ b) (read_moves (moves₀ b)) (moves-accepted b) in (
       omega (arith, n, (accepted b).n_high),
-      front_long _ (words (moves₀ b)) _ 2 _ (omega (arith, e, l)) (routes-read (goal.at.write_step-requires c).After-get_words-2).get-words.ensures,
+      front_long _ (words (moves₀ b)) _ 2 _ (omega (arith, e, l)) c.get_words.ensures,
       front_long _ (words (moves₀ b)) _ (2 + w.word_number-e.result) _ (omega (arith, e, l)) c.get_words-2.ensures,
       omega (arith, n, e, (accepted b).n_high, few b, b.pre.1),
     )
 
 pub returns : goal.returns
 returns c =
-    let w = e-read (goal.at.returns c).After-get_words-2 in
+    let w = routes-read.before in
     let b = start₄ w in
     let x = arrays w in
     let same =
     text_same (sheet₀ b) (plan₀ b) (moves₀ b) b.pre.0 _ _ _ _ _ _ _ _ _ _ _ (nodes-is (first x)) (moves-is w)
-    x.words_64-helpands.ensures x.words_64-shares.ensures w.own_of_lem.ensures (routes-read (goal.at.returns c).After-get_words-2).get-words.ensures
+    x.words_64-helpands.ensures x.words_64-shares.ensures w.own_of_lem.ensures c.get_words.ensures
     c.get_words-2.ensures
     ((limit-read x).before.word-number2.ensures ∙ sym (accepted b).kind_is)
     ((limit-read x).word-number3.ensures ∙ sym (accepted b).limit_is) in

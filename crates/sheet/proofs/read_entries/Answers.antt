@@ -5,16 +5,12 @@ use mathlib.Core.Path.{sym, ◌∙◌}
 use native.Mathlib.Omega.{arith}
 use Rattle.sheet.specs.Sheet.{counts_of}
 use Rattle.sheet.proofs.Laws.{Summed, summed}
-use Rattle.sheet.proofs.read_entries.Goals.{After-cells_fine, In-Sum, Start}
+use Rattle.sheet.proofs.read_entries.Goals.{In-Sum}
 use Rattle.sheet.proofs.read_entries.Goals as goal
-
--- the entry of the function, from behind the test of the cells
-abbrev start : After-cells_fine → Start
-start c = c.before
 
 -- the sum that was found is within the bound
 found : (c : In-Sum) →
-    let a = (start c.before).args in
+    let a = c.args in
     Summed 0 (counts_of a.s.now a.e) c.in-Sum.p
 found c = summed 0 _ c.in-Sum.p (omega arith) (sym c.sum_counts.ensures ∙ c.in-Sum.is)
 

@@ -12,7 +12,7 @@ use Rattle.tally.specs.declared.Head.{Head}
 use Rattle.tally.specs.Layout.{total_at, count_at}
 use Rattle.tally.specs.Inner.{named, amount_number, checked_number}
 use Rattle.tally.proofs.Calling.{ends_unnamed, ends_amounts, ends_changed, few, named-holder, named-subdomain, changeable, total_countable}
-use Rattle.tally.proofs.change.Goals.{After-cell, After-change_cells, After-check_amounts, Else-not-is_named, In-Passed, Start}
+use Rattle.tally.proofs.change.Goals.{After-cell, After-check_amounts, Else-not-is_named, In-Passed, Start}
 use Rattle.tally.proofs.change.Goals as goal
 
 pub returns-then-not-is_named : goal.returns-then-not-is_named
@@ -49,7 +49,12 @@ module _ (c : Else-not-is_named) where
   amounts = amount_number (count_at cells (cell holder subdomain)) (total_at cells subdomain) head.total count adds
 
 cell_below : (c : After-cell) → 128 + c.cell.result < 4224
-cell_below c = omega (arith, c.cell.ensures, holder-below c.before, subdomain_below c.before)
+cell_below c =
+    let holder-below' : start.args.holder < 64 =
+        named-holder start.args.h start.args.cells.now start.args.adds start.args.holder start.args.subdomain start.args.count is-named in
+    let subdomain_below' : start.args.subdomain < 64 =
+        named-subdomain start.args.h start.args.cells.now start.args.adds start.args.holder start.args.subdomain start.args.count is-named in
+    omega (arith, c.cell.ensures, holder-below', subdomain_below')
 
 -- the amounts were checked
 module _ (c : After-check_amounts) where
@@ -67,7 +72,7 @@ module _ (c : After-check_amounts) where
 pub returns-in-Refused : goal.returns-in-Refused
 returns-in-Refused c =
     let r = c.r-1.given in
-    let p = past-named (goal.at.returns-in-Refused c).After-check_amounts in
+    let p = at-cell.before in
     let x = ends_amounts (head p) (cells p) (adds p) (holder p) (subdomain p) (count p) (is-named p) r.0.0
     (ap checked_number (sym r.1) ∙ checked (goal.at.returns-in-Refused c).After-check_amounts) in
     (rw c.answer-in-Refused.ensures x.0, x.1)
@@ -84,27 +89,22 @@ change_cells-requires c =
     let p = named-call (goal.at.change_cells-requires c).In-Passed in
     changeable (head p) (cells p) (adds p) (holder p) (subdomain p) (count p) (is-named p) (passed (goal.at.change_cells-requires c).In-Passed)
 
--- the cells were changed
-abbrev told : After-change_cells → In-Passed
-told c = c.before
-
 pub holds-requires : goal.holds-requires
 holds-requires c =
-    let p = named-call (told c.before) in
+    let p = named-call (goal.at.holds-requires c).In-Passed in
     few (head p) (cells p) (adds p) (holder p) (subdomain p) (count p) (is-named p)
 
 pub count_in-requires : goal.count_in-requires
 count_in-requires c =
-    let e = told c.before in
-    let p = named-call e in
-    total_countable (head p) (cells p) (adds p) (holder p) (subdomain p) (count p) (is-named p) (passed e)
+    let p = named-call (goal.at.count_in-requires c).In-Passed in
+    total_countable (head p) (cells p) (adds p) (holder p) (subdomain p) (count p) (is-named p) (passed (goal.at.count_in-requires c).In-Passed)
 
 pub returns-in-Passed : goal.returns-in-Passed
 returns-in-Passed c =
     let m = c.before in
-    let e = told m in
-    let p = named-call e in
-    let x = ends_changed (head p) (cells p) (adds p) (holder p) (subdomain p) (count p) (is-named p) (passed e)
+    let e = m in
+    let p = named-call (goal.at.returns-in-Passed c).In-Passed in
+    let x = ends_changed (head p) (cells p) (adds p) (holder p) (subdomain p) (count p) (is-named p) (passed (goal.at.returns-in-Passed c).In-Passed)
     m.change_cells.ensures in
     (rw (c.answer-in-Passed.ensures, c.holds.ensures, c.count_in.ensures) x.0, x.1)
 

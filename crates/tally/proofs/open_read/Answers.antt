@@ -24,20 +24,20 @@ module _ (c : After-struct_known-2-1) where
 
 pub totals-totals-requires : goal.totals-totals-requires
 totals-totals-requires c =
-    ((read (goal.at.totals-totals-requires c).After-struct_known-2-1).n_high, rw c.unpack-table.ensures (sum-within (sheet (goal.at.totals-totals-requires c).After-struct_known-2-1) (plan (goal.at.totals-totals-requires c).After-struct_known-2-1) (start (goal.at.totals-totals-requires c).After-struct_known-2-1).args.s (start (goal.at.totals-totals-requires c).After-struct_known-2-1).requires))
+    ((read (goal.at.totals-totals-requires c).After-struct_known-2-1).n_high, rw c.unpack-table.ensures (sum-within start.args.sheet.now start.args.plan.now c.args.s c.requires))
 
 pub words_64-helpands-requires : goal.words_64-helpands-requires
 words_64-helpands-requires c =
-    let w = (start (goal.at.words_64-helpands-requires c).After-struct_known-2-1).requires in
-    (omega (arith, (plan-accepted (plan (goal.at.words_64-helpands-requires c).After-struct_known-2-1) w.plan).size, w.nodes), (read (goal.at.words_64-helpands-requires c).After-struct_known-2-1).n_high)
+    let w = c.requires in
+    (omega (arith, (plan-accepted start.args.plan.now w.plan).size, w.nodes), (read (goal.at.words_64-helpands-requires c).After-struct_known-2-1).n_high)
 
 pub tree_leasts-leasts-requires : goal.tree_leasts-leasts-requires
 tree_leasts-leasts-requires c =
-    ((read (goal.at.tree_leasts-leasts-requires c).After-struct_known-2-1).n_high, rw c.words_64-helpands.ensures (array_tree (sheet (goal.at.tree_leasts-leasts-requires c).After-struct_known-2-1) (plan (goal.at.tree_leasts-leasts-requires c).After-struct_known-2-1) (start (goal.at.tree_leasts-leasts-requires c).After-struct_known-2-1).args.s (start (goal.at.tree_leasts-leasts-requires c).After-struct_known-2-1).requires))
+    ((read (goal.at.tree_leasts-leasts-requires c).After-struct_known-2-1).n_high, rw c.words_64-helpands.ensures (array_tree start.args.sheet.now start.args.plan.now c.args.s c.requires))
 
 pub returns : goal.returns
 returns c =
-    let x = ends_opened (start (goal.at.returns c).After-struct_known-2-1).pre c.unpack-table.ensures c.totals-totals.ensures c.words_64-helpands.ensures
+    let x = ends_opened c.pre c.unpack-table.ensures c.totals-totals.ensures c.words_64-helpands.ensures
     c.tree_leasts-leasts.ensures c.lay_out.ensures in
     (rw (c.answer.ensures, c.holds-holds.ensures) x.0, x.1)
 

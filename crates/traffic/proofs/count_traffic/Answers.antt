@@ -94,13 +94,12 @@ module _ (c : After-receiver) where
 
 pub loop-i-preserved : goal.loop-i-preserved
 loop-i-preserved c =
-    let s = before (goal.at.loop-i-preserved c).After-receiver in
-    let w = entry s in
+    let w = entry (goal.at.loop-i-preserved c).After-sender in
     let l = (head w).loop in
     let a = (start w).args in (
       omega (arith, (turn w).loop-test.taken),
-      after sender a.moves.now a.e l.sent l.i l.inv.1 (route w) (count w) (read w) s.sender.result
-          s.sender.ensures (omega arith),
+      after sender a.moves.now a.e l.sent l.i l.inv.1 (route w) (count w) (read w) c.sender.result
+          c.sender.ensures (omega arith),
       after receiver a.moves.now a.e l.received l.i l.inv.2 (route w) (count w) (read w) c.receiver.result
           c.receiver.ensures (omega arith),
     )

@@ -30,7 +30,7 @@ module _ (c : After-unpack-table) where
 
 pub subtract_sends-requires : goal.subtract_sends-requires
 subtract_sends-requires c =
-    ready (start (goal.at.subtract_sends-requires c).After-unpack-table).requires c.unpack-table.ensures
+    ready c.requires c.unpack-table.ensures
 
 -- the sends were taken from it
 module _ (c : After-subtract_sends) where
@@ -42,7 +42,7 @@ module _ (c : After-subtract_sends) where
 pub returns-then-not-subtract_sends : goal.returns-then-not-subtract_sends
 returns-then-not-subtract_sends c =
     let whole =
-        ends_sends (start (read (goal.at.returns-then-not-subtract_sends c).After-subtract_sends)).pre _ (sym (within-here (goal.at.returns-then-not-subtract_sends c).After-subtract_sends) ∙ c.if-not-subtract_sends.true) in
+        ends_sends (start (goal.at.returns-then-not-subtract_sends c).After-unpack-table).pre _ (sym (within-here (goal.at.returns-then-not-subtract_sends c).After-subtract_sends) ∙ c.if-not-subtract_sends.true) in
     record { answer = whole.0; bytes = whole.1 }
 
 -- past 42
@@ -71,21 +71,24 @@ module _ (c : After-count_traffic-t) where
 
 pub put_page-requires : goal.put_page-requires
 put_page-requires c =
-    let p = passed (goal.at.put_page-requires c).After-count_traffic-t in
+    let p = long.before in
     let r = (start (u₀ p)).pre in
     let fit = sums_fit r (page (u₀ p)) (within p) c.count_traffic-t.ensures in
-    (n_high (u₀ p), fit.0, fit.1, omega (arith, (long (goal.at.put_page-requires c).After-count_traffic-t).if2.false))
+    (n_high (u₀ p), fit.0, fit.1, omega (arith, c.if-page-size.false))
 
 pub returns : goal.returns
 returns c =
-    let p = passed (goal.at.returns c).After-count_traffic-t in
+    let p = long.before in
     let x = ends_printed (start (u₀ p)).pre (page (u₀ p)) (within p) c.count_traffic-t.ensures
-    (omega (arith, (long (goal.at.returns c).After-count_traffic-t).if2.false)) in
+    (omega (arith, c.if-page-size.false)) in
     record { answer = x.0; bytes = c.put_page.ensures ∙ x.1 }
 
 -- N is at most 64, so that the page's length fits
 size_fits : (c : After-struct_known-3-1) → (start (u₀ c.before)).args.s.n ≤ max_nodes
-size_fits c = n_high (u₀ c.before)
+size_fits c =
+    let u₀' : After-unpack-table =
+        read c.before in
+    n_high u₀'
 
 pub unpack-table-requires : goal.unpack-table-requires
 unpack-table-requires c = (_, sheet_unpackable _ _ (sheet_facts c.requires))

@@ -27,18 +27,18 @@ unpack-table-requires c = (_, sheet_unpackable _ _ (read (goal.at.unpack-table-r
 
 pub totals-totals-requires : goal.totals-totals-requires
 totals-totals-requires c =
-    ((read (goal.at.totals-totals-requires c).After-struct_known-2-1).n_high, rw c.unpack-table.ensures (sum-within (sheet (goal.at.totals-totals-requires c).After-struct_known-2-1) (plan (goal.at.totals-totals-requires c).After-struct_known-2-1) (start (goal.at.totals-totals-requires c).After-struct_known-2-1).args.s (start (goal.at.totals-totals-requires c).After-struct_known-2-1).requires))
+    ((read (goal.at.totals-totals-requires c).After-struct_known-2-1).n_high, rw c.unpack-table.ensures (sum-within start.args.sheet.now start.args.plan.now c.args.s c.requires))
 
 pub words_64-helpands-requires : goal.words_64-helpands-requires
 words_64-helpands-requires c =
-    let w = (start (goal.at.words_64-helpands-requires c).After-struct_known-2-1).requires in
-    (omega (arith, (plan-accepted (plan (goal.at.words_64-helpands-requires c).After-struct_known-2-1) w.plan).size, w.nodes), (read (goal.at.words_64-helpands-requires c).After-struct_known-2-1).n_high)
+    let w = c.requires in
+    (omega (arith, (plan-accepted start.args.plan.now w.plan).size, w.nodes), (read (goal.at.words_64-helpands-requires c).After-struct_known-2-1).n_high)
 
 pub tree_leasts-requires : goal.tree_leasts-requires
 tree_leasts-requires c =
-    ((read (goal.at.tree_leasts-requires c).After-struct_known-2-1).n_high, rw c.words_64-helpands.ensures (array_tree (sheet (goal.at.tree_leasts-requires c).After-struct_known-2-1) (plan (goal.at.tree_leasts-requires c).After-struct_known-2-1) (start (goal.at.tree_leasts-requires c).After-struct_known-2-1).args.s (start (goal.at.tree_leasts-requires c).After-struct_known-2-1).requires))
+    ((read (goal.at.tree_leasts-requires c).After-struct_known-2-1).n_high, rw c.words_64-helpands.ensures (array_tree start.args.sheet.now start.args.plan.now c.args.s c.requires))
 
 pub returns : goal.returns
 returns c =
-    leasts-read (sheet (goal.at.returns c).After-struct_known-2-1) (plan (goal.at.returns c).After-struct_known-2-1) (start (goal.at.returns c).After-struct_known-2-1).args.s (start (goal.at.returns c).After-struct_known-2-1).requires c.unpack-table.result c.totals-totals.result c.words_64-helpands.result
+    leasts-read start.args.sheet.now start.args.plan.now c.args.s c.requires c.unpack-table.result c.totals-totals.result c.words_64-helpands.result
     c.tree_leasts.result c.unpack-table.ensures c.totals-totals.ensures c.words_64-helpands.ensures c.tree_leasts.ensures

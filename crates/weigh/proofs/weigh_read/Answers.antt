@@ -14,7 +14,7 @@ use Rattle.weigh.specs.Weigh.{weighed, least_in}
 use Rattle.weigh.specs.Inner.{Weighable}
 use Rattle.weigh.proofs.Checks.{stops_differ, stops_primary, stops_nowhere, facts}
 use Rattle.weigh.proofs.Weighed.{ends_refused, ends_short, ends_weighed}
-use Rattle.weigh.proofs.weigh_read.Goals.{After-leasts_of-leasts, After-put_words, After-struct_known-2-1, Else-least-nodes, Else-p-eq0, Else-s-p, Start}
+use Rattle.weigh.proofs.weigh_read.Goals.{After-leasts_of-leasts, After-struct_known-2-1, Else-p-eq0, Start}
 use Rattle.weigh.proofs.weigh_read.Goals as goal
 
 -- before the first check
@@ -28,37 +28,30 @@ module _ (c : After-struct_known-2-1) where
   abbrev head : Sheet
   head = start.args.s
 
--- past 21, and past 24
-abbrev same_nodes : Else-p-eq0 → Else-s-p
-same_nodes c = c.before
-
 pub returns-then-s-p : goal.returns-then-s-p
 returns-then-s-p c =
     let whole =
-        let r = (start (goal.at.returns-then-s-p c).After-struct_known-2-1).pre in
+        let r = c.pre in
     ends_refused _ _ _ NodesDiffer (stops_differ _ _ r.sheet r.plan c.if-s-p.true) in
     record { answer = whole.0; bytes = whole.1 }
 
 pub returns-then-p-eq0 : goal.returns-then-p-eq0
 returns-then-p-eq0 c =
     let whole =
-        let r = (start (goal.at.returns-then-p-eq0 c).After-struct_known-2-1).pre in
+        let r = c.pre in
     ends_refused _ _ _ Primary (stops_primary _ _ r.sheet r.plan c.if-s-p.false c.if-p-eq0.true) in
     record { answer = whole.0; bytes = whole.1 }
 
 -- past 24
 module _ (c : Else-p-eq0) where
   abbrev begun : After-struct_known-2-1
-  begun = (same_nodes c).before
+  begun = c.before
   can_weigh : Weighable (sheet begun) (plan begun) (head begun)
   can_weigh =
       let r = (start begun).pre in
-      stops_nowhere _ _ r.sheet r.plan (same_nodes c).if1.false c.if-p-eq0.false
+      stops_nowhere _ _ r.sheet r.plan c.if-s-p.false c.if-p-eq0.false
   few : (head begun).n ≤ max_nodes
   few = (facts (sheet begun) (plan begun) (head begun) can_weigh).n_high
-
-abbrev tree : Else-least-nodes → Else-p-eq0
-tree c = c.before
 
 pub returns-then-least-nodes : goal.returns-then-least-nodes
 returns-then-least-nodes c =
@@ -69,17 +62,16 @@ returns-then-least-nodes c =
 -- the leasts were worked out
 long : (c : After-leasts_of-leasts) → length c.leasts_of-leasts.result ≡ 64
 long c =
-    let t = tree c.before in
+    let few' : (head c.before).n ≤ max_nodes =
+        (facts (sheet c.before) (plan c.before) (head c.before) can_weigh).n_high in
+    let t = c.before in
     let b = begun t in
-    ap length c.leasts_of-leasts.ensures ∙ length-tabulate (head b).n (least_in (sheet b) (plan b)) (few t)
-
-abbrev written : After-put_words → After-leasts_of-leasts
-written c = c.before
+    ap length c.leasts_of-leasts.ensures ∙ length-tabulate (head b).n (least_in (sheet b) (plan b)) few'
 
 pub returns : goal.returns
 returns c =
     let w = c.before in
-    let l = written w in
+    let l = w in
     let x = ends_weighed (can_weigh (tree l.before)) _ l.if-least-nodes.left l.leasts_of-leasts.ensures in
     record { answer = ap weighed c.holds.ensures ∙ x.0; bytes = w.put_words.ensures ∙ x.1 }
 

@@ -41,7 +41,7 @@ module _ (c : After-word_number-t) where
 pub returns-then-not-one_to : goal.returns-then-not-one_to
 returns-then-not-one_to c =
     let whole =
-        ends_nodes (a₀ (goal.at.returns-then-not-one_to c).After-word_number-t) (out₀ (goal.at.returns-then-not-one_to c).After-word_number-t) (long (goal.at.returns-then-not-one_to c).After-word_number-t).if1.false
+        ends_nodes start.args.archive.now start.args.sheet.now c.if-archive-ne-ARCHIVE_SIZE.false
     (ap (one_to max_nodes) (sym (nodes_are (goal.at.returns-then-not-one_to c).After-word_number-t)) ∙ sym c.one_to.ensures ∙ c.if-not-one_to.true) in
     record { answer = whole.0; bytes = whole.1 }
 
@@ -55,24 +55,28 @@ module _ (c : Else-not-one_to) where
 pub returns-then-not-one_to-2 : goal.returns-then-not-one_to-2
 returns-then-not-one_to-2 c =
     let whole =
-        let w = read (goal.at.returns-then-not-one_to-2 c).Else-not-one_to in
-    ends_tolerance (a₀ w) (out₀ w) (long w).if1.left (ap (one_to max_nodes) (sym (nodes_are w)) ∙ nodes_fine (goal.at.returns-then-not-one_to-2 c).Else-not-one_to)
-    (ap (one_to max_tolerance) (sym (tolerance-is w)) ∙ sym c.one_to-2.ensures ∙ c.if-not-one_to-2.true) in
+        ends_tolerance (a₀ (goal.at.returns-then-not-one_to-2 c).After-word_number-t) (out₀ (goal.at.returns-then-not-one_to-2 c).After-word_number-t) (long (goal.at.returns-then-not-one_to-2 c).After-word_number-t).if1.left (ap (one_to max_nodes) (sym (nodes_are (goal.at.returns-then-not-one_to-2 c).After-word_number-t)) ∙ nodes_fine (goal.at.returns-then-not-one_to-2 c).Else-not-one_to)
+    (ap (one_to max_tolerance) (sym (tolerance-is (goal.at.returns-then-not-one_to-2 c).After-word_number-t)) ∙ sym c.one_to-2.ensures ∙ c.if-not-one_to-2.true) in
     record { answer = whole.0; bytes = whole.1 }
 
 -- and t too
 head_read : (c : Else-not-one_to-2) →
-    let w = read c.before in
+    let w = c.before in
     HeadRead (a₀ w) w.word_number-n.result w.word_number-t.result
 head_read c =
-    let n = c.before in
-    let w = read n in
-    let nodes = one-to-is max_nodes w.word_number-n.result (nodes_fine n) in
+    let nodes_are' : c.word_number-n.result ≡ nodes_in start.args.archive.now =
+        c.word_number-n.ensures in
+    let tolerance-is' : c.word_number-t.result ≡ tolerance_in start.args.archive.now =
+        c.word_number-t.ensures in
+    let nodes_fine' : one_to max_nodes read.word_number-n.result ≡ true =
+        sym c.one_to.ensures ∙ c.if-not-one_to.false in
+    let w = c.before in
+    let nodes = one-to-is max_nodes w.word_number-n.result nodes_fine' in
     let tolerance = one-to-is max_tolerance w.word_number-t.result (sym c.one_to-2.ensures ∙ c.if-not-one_to-2.false) in
     record {
       size = (long w).if1.left;
-      n_is = nodes_are w;
-      t_is = tolerance-is w;
+      n_is = nodes_are';
+      t_is = tolerance-is';
       n_low = nodes.0;
       n_high = nodes.1;
       t_low = tolerance.0;
@@ -81,10 +85,9 @@ head_read c =
 
 pub returns : goal.returns
 returns c =
-    let w = read (goal.at.returns c).Else-not-one_to in
-    let e = sym (head-passes (a₀ w) (length (out₀ w)) (head_read (goal.at.returns c).Else-not-one_to-2)) in
+    let e = sym (head-passes (a₀ (goal.at.returns c).After-word_number-t) (length (out₀ (goal.at.returns c).After-word_number-t)) (head_read (goal.at.returns c).Else-not-one_to-2)) in
     let x = c.read_counts.ensures in
-    record { answer = x.0 ∙ e; bytes = x.1 ∙ ap (λ (k : WrittenAnswer). after_call k.refusal (sheet_from (a₀ w)) (out₀ w)) e }
+    record { answer = x.0 ∙ e; bytes = x.1 ∙ ap (λ (k : WrittenAnswer). after_call k.refusal (sheet_from (a₀ (goal.at.returns c).After-word_number-t)) (out₀ (goal.at.returns c).After-word_number-t)) e }
 
 pub read_counts-requires : goal.read_counts-requires
 read_counts-requires c = head_read (goal.at.read_counts-requires c).Else-not-one_to-2

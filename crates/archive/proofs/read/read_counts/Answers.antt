@@ -36,7 +36,7 @@ module _ (c : After-counts_fine) where
 pub returns-then-not-counts_fine : goal.returns-then-not-counts_fine
 returns-then-not-counts_fine c =
     let whole =
-        ends_other-nodes (a₀ (goal.at.returns-then-not-counts_fine c).After-counts_fine) (out₀ (goal.at.returns-then-not-counts_fine c).After-counts_fine) (start (goal.at.returns-then-not-counts_fine c).After-counts_fine).requires (table_is (goal.at.returns-then-not-counts_fine c).After-counts_fine) (sym c.counts_fine_lem.ensures ∙ c.if-not-counts_fine.true) in
+        ends_other-nodes start.args.a.now start.args.out.now unpacked.requires (table_is (goal.at.returns-then-not-counts_fine c).After-counts_fine) (sym c.counts_fine_lem.ensures ∙ c.if-not-counts_fine.true) in
     record { answer = whole.0; bytes = whole.1 }
 
 -- and the sum was taken
@@ -55,7 +55,7 @@ module _ (c : After-sum_counts) where
 pub returns-then-wide-sum_counts : goal.returns-then-wide-sum_counts
 returns-then-wide-sum_counts c =
     let whole =
-        let f = tested (goal.at.returns-then-wide-sum_counts c).After-sum_counts in
+        let f = passed.before in
     ends_total (a₀ f) (out₀ f) (start f).pre (table_is f) (fine (goal.at.returns-then-wide-sum_counts c).After-sum_counts) (sum_is (goal.at.returns-then-wide-sum_counts c).After-sum_counts) (omega (arith, bound_is (goal.at.returns-then-wide-sum_counts c).After-sum_counts, c.if-wide-sum_counts.true)) in
     record { answer = whole.0; bytes = whole.1 }
 
@@ -75,7 +75,7 @@ module _ (c : After-write_sheet) where
 pub returns-in-Bytes : goal.returns-in-Bytes
 returns-in-Bytes c =
     let size = c.size-1.given in
-    let s = summed (goal.at.returns-in-Bytes c).After-write_sheet in
+    let s = within.before in
     let f = tested s in
     let x = ends_restored (a₀ f) (out₀ f) (start f).pre (table_is f) (fine s) (sum_is s) (sum_fits (goal.at.returns-in-Bytes c).After-write_sheet) size.0.0
     (sym size.1 ∙ c.write_sheet.ensures.0) in
@@ -83,7 +83,7 @@ returns-in-Bytes c =
 
 pub returns-in-Short : goal.returns-in-Short
 returns-in-Short c =
-    let s = summed (goal.at.returns-in-Short c).After-write_sheet in
+    let s = within.before in
     let f = tested s in
     let x = ends_unwritten (a₀ f) (out₀ f) (start f).pre (table_is f) (fine s) (sum_is s) (sum_fits (goal.at.returns-in-Short c).After-write_sheet)
     (sym c.in-Short.is ∙ c.write_sheet.ensures.0) in
@@ -93,7 +93,7 @@ returns-in-Short c =
 pub overflow_cast-result : goal.overflow_cast-result
 overflow_cast-result c =
     let size = c.size-1.given in
-    let f = tested (summed (goal.at.overflow_cast-result c).After-write_sheet) in
+    let f = tested within.before in
     let z = writing-bytes (rec (goal.at.overflow_cast-result c).After-write_sheet) (out₀ f) size.0.0 (sym size.1 ∙ c.write_sheet.ensures.0) in
     omega (arith, z.0, length_most (start f).args.n (start f).args.t (table f) (start f).pre.n_high)
 

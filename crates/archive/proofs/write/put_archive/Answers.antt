@@ -14,16 +14,13 @@ use Rattle.archive.specs.ZOrder.{position_of, Positions}
 use Rattle.archive.specs.Archive.{archive_size, no_counts, archive_bytes}
 use Rattle.archive.proofs.Bits.{position-below}
 use Rattle.archive.proofs.Storing.{Storing, begin, end, index_below, again, put_count}
-use Rattle.archive.proofs.write.put_archive.Goals.{After-positions-positions, After-put_word, After-word_number, After-word_number-c, At-loop-i, Start}
+use Rattle.archive.proofs.write.put_archive.Goals.{After-put_word, After-word_number, After-word_number-c, At-loop-i, Start}
 use Rattle.archive.proofs.write.put_archive.Goals as goal
-
-abbrev start : After-positions-positions → Start
-start c = c.before
 
 pub loop-i-init : goal.loop-i-init
 loop-i-init c =
-    let p = (start c).requires.0 in
-    let a = (start c).args in
+    let p = c.requires.0 in
+    let a = c.args in
     (no_counts, p, c.positions-positions.ensures, omega arith, refl, begin a.s.now a.n a.e p, λ base e. e)
 
 -- ---- a turn: the cell that was read, and its position
@@ -63,20 +60,20 @@ module _ (c : After-put_word) where
 
 pub loop-i-preserved : goal.loop-i-preserved
 loop-i-preserved c =
-    let r = cell-read (goal.at.loop-i-preserved c).After-put_word in
+    let r = counted.before in
     let a = (begun r).args in
     let l = (head r).loop in
     let v = l.inv in
-    let size = ap length (stored (goal.at.loop-i-preserved c).After-put_word) ∙ length_put l.out (4 * (2 + position_of (x r))) (k (goal.at.loop-i-preserved c).After-put_word) in (
-      set v.0 (position_of (x r)) (k (goal.at.loop-i-preserved c).After-put_word),
+    let size = ap length (stored (goal.at.loop-i-preserved c).After-put_word) ∙ length_put l.out (4 * (2 + position_of (x r))) counted.word_number.result in (
+      set v.0 (position_of (x r)) counted.word_number.result,
       v.1,
       v.2,
       omega (arith, size, v.3),
       size ∙ v.4,
-      again a.s.now a.n a.e v.1 v.0 l.i v.5 r.loop-i-test.true (x r) (k (goal.at.loop-i-preserved c).After-put_word) r.word_number-c.ensures
-          (counted (goal.at.loop-i-preserved c).After-put_word).word-number2.ensures,
-      λ base e. stored (goal.at.loop-i-preserved c).After-put_word ∙ ap (λ (o : List ℕ). put_word o (4 * (2 + position_of (x r))) (k (goal.at.loop-i-preserved c).After-put_word)) (v.6 base e)
-          ∙ put_count base a.n a.t v.0 (x r) (k (goal.at.loop-i-preserved c).After-put_word) v.5.size,
+      again a.s.now a.n a.e v.1 v.0 l.i v.5 r.loop-i-test.true (x r) counted.word_number.result r.word_number-c.ensures
+          c.word_number.ensures,
+      λ base e. stored (goal.at.loop-i-preserved c).After-put_word ∙ ap (λ (o : List ℕ). put_word o (4 * (2 + position_of (x r))) counted.word_number.result) (v.6 base e)
+          ∙ put_count base a.n a.t v.0 (x r) counted.word_number.result v.5.size,
     )
 
 pub returns : goal.returns
@@ -84,9 +81,8 @@ unfolding archive_bytes
 returns c =
     let l = c.loop-i in
     let v = l.invariant in
-    let b = c.before in
-    let a = (start b).args in
-    v.6 a.out.now b.put_empty.ensures
+    let a = c.args in
+    v.6 a.out.now c.put_empty.ensures
     ∙ ap (λ (xs : List ℕ). placed (encode (a.n ∷ a.t ∷ xs)) a.out.now)
     (end a.s.now a.n a.e v.1 v.0 l.i v.5 c.loop-i-test.false)
 

@@ -61,8 +61,8 @@ module _ (c : In-Accepted-read_moves) where
 
 pub returns-then-s-m : goal.returns-then-s-m
 returns-then-s-m c =
-    (stops_differ _ _ (sheet-read (second (goal.at.returns-then-s-m c).In-Accepted-read_moves)) (moves_read (goal.at.returns-then-s-m c).In-Accepted-read_moves) (λ same. omega (arith, c.if-s-m.true, same)), omega arith)
+    (stops_differ _ _ (sheet-read (goal.at.returns-then-s-m c).After-read_moves) (moves_read (goal.at.returns-then-s-m c).In-Accepted-read_moves) (λ same. omega (arith, c.if-s-m.true, same)), omega arith)
 
 pub returns-else-s-m : goal.returns-else-s-m
 returns-else-s-m c =
-    record { sheet = sheet-read (second (goal.at.returns-else-s-m c).In-Accepted-read_moves); moves = moves_read (goal.at.returns-else-s-m c).In-Accepted-read_moves; nodes = omega (arith, c.if-s-m.false) }
+    record { sheet = sheet-read (goal.at.returns-else-s-m c).After-read_moves; moves = moves_read (goal.at.returns-else-s-m c).In-Accepted-read_moves; nodes = omega (arith, c.if-s-m.false) }

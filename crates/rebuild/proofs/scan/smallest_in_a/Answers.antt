@@ -7,27 +7,22 @@ use native.Mathlib.Omega.{arith}
 use Rattle.fold.specs.Best.{best}
 use Rattle.fold.proofs.Scans.{best_skips, best_begins, best_takes, best-stays, best-found}
 use Rattle.rebuild.specs.Rebuild.{smallest_in_a}
-use Rattle.rebuild.proofs.scan.smallest_in_a.Goals.{After-in_a, At-loop-k, In-At, else-in_a, then-in_a}
+use Rattle.rebuild.proofs.scan.smallest_in_a.Goals.{In-At, else-in_a, then-in_a}
 use Rattle.rebuild.proofs.scan.smallest_in_a.Goals as goal
 
 pub loop-k-init : goal.loop-k-init
 unfolding best
 loop-k-init c = search rules
 
--- the loop's head, from where a node's group is known
-abbrev head : After-in_a → At-loop-k
-head c = c.before
-
 -- the best so far is a node
 at-node : (c : In-At) → c.in-At.b < 64
 at-node c =
-    let l = head c.before in
-    omega (arith, (best-found _ _ l.loop-k.k _ (sym l.loop-k.inv.1 ∙ c.in-At.is)).0)
+    omega (arith, (best-found _ _ c.loop-k.k _ (sym c.loop-k.inv.1 ∙ c.in-At.is)).0)
 
 -- one node more: the first in the group, a better one, one that is no better, and one that is not in the group
 pub loop-k-preserved : goal.loop-k-preserved
 loop-k-preserved c =
-    let l = (head c.before).loop in
+    let l = c.loop-k in
     let e = sym l.inv.1 in
     let o = sym c.in_a.ensures in
     elim c.if-in_a.branch [

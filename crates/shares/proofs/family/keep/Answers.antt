@@ -94,12 +94,12 @@ module _ (c : After-keeps-amount) where
 
 pub loop-k-preserved : goal.loop-k-preserved
 loop-k-preserved c =
-    let a = (start (goal.at.loop-k-preserved c).After-keeps-amount).args in
-    let e = space-helper (at a.helpands.now) a.limit (at a.reserves.now) a.share a.n (k (goal.at.loop-k-preserved c).After-keeps-amount) (helps-n (goal.at.loop-k-preserved c).After-keeps-amount) in (
-      so_far_more (loop (goal.at.loop-k-preserved c).After-keeps-amount).loop.invariant.0 (start (goal.at.loop-k-preserved c).After-keeps-amount).requires.0.few (k_lt (goal.at.loop-k-preserved c).After-keeps-amount) (keeps-is (goal.at.loop-k-preserved c).After-keeps-amount)
-          (ap (λ (x : ℕ). (loop (goal.at.loop-k-preserved c).After-keeps-amount).loop.rest - x) (keeps-is (goal.at.loop-k-preserved c).After-keeps-amount)) (next-first (goal.at.loop-k-preserved c).After-keeps-amount c.next-k.ensures),
+    let a = loop.args in
+    let e = space-helper (at a.helpands.now) a.limit (at a.reserves.now) a.share a.n loop.loop-k.k (helps-n (goal.at.loop-k-preserved c).After-keeps-amount) in (
+      so_far_more c.loop-k.invariant.0 loop.requires.0.few (k_lt (goal.at.loop-k-preserved c).After-keeps-amount) (keeps-is (goal.at.loop-k-preserved c).After-keeps-amount)
+          (ap (λ (x : ℕ). c.loop-k.rest-1 - x) (keeps-is (goal.at.loop-k-preserved c).After-keeps-amount)) (next-first (goal.at.loop-k-preserved c).After-keeps-amount c.next-k.ensures),
       rw c.larger-most.ensures
-          (somewhere_larger (loop (goal.at.loop-k-preserved c).After-keeps-amount).loop.invariant.1 (k_lt (goal.at.loop-k-preserved c).After-keeps-amount) (omega (arith, c.room.ensures.0, keeps-is (goal.at.loop-k-preserved c).After-keeps-amount, e))),
+          (somewhere_larger c.loop-k.invariant.1 (k_lt (goal.at.loop-k-preserved c).After-keeps-amount) (omega (arith, c.room.ensures.0, keeps-is (goal.at.loop-k-preserved c).After-keeps-amount, e))),
     )
 
 pub returns : goal.returns

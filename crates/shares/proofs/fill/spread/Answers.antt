@@ -33,9 +33,11 @@ module _ (c : Start) where
 
 owner-is : (c : After-unit-owner) → c.unit-owner.result ≡ unit (rooms c.before) c.args.level c.args.n
 owner-is c =
+    let h' : ℕ → ℕ =
+        at c.args.helpands.now in
     let a = c.args in
     c.unit-owner.ensures
-    ∙ ap (λ (x : ℕ). x - (a.level - 1) - (x - a.level)) (sym (family_own (h c.before) a.n a.own (room c.before)))
+    ∙ ap (λ (x : ℕ). x - (a.level - 1) - (x - a.level)) (sym (family_own h' a.n a.own (room c.before)))
 
 pub loop-k-init : goal.loop-k-init
 loop-k-init c =
@@ -79,26 +81,28 @@ module _ (c : After-raised-arg-1) where
   extra-most = omega (arith, smaller.min-extra.ensures)
 
 pub raised-requires : goal.raised-requires
-raised-requires c = (omega (arith, extra-most (goal.at.raised-requires c).After-raised-arg-1, (one (goal.at.raised-requires c).After-raised-arg-1).unit2.ensures), (one (goal.at.raised-requires c).After-raised-arg-1).before.room.ensures.1)
+raised-requires c = (omega (arith, extra-most (goal.at.raised-requires c).After-raised-arg-1, smaller.unit-one.ensures), smaller.room-room.ensures.1)
 
 next-first : (c : After-next-k) →
-    let r = c.before in
-    let a = (start r).args in
-    FirstFrom a.nodes (helps (h (start r)) a.n) (k r + 1) c.next-k.result
+    let a = loop.args in
+    FirstFrom a.nodes (helps (h loop.before) a.n) (loop.loop-k.k + 1) c.next-k.result
 next-first c =
-    let r = c.before in
-    link_next (start r).requires.0.linked (start r).args.n (k_lt r) (helps-n r) c.next-k.ensures
+    let k_lt' : loop.loop-k.k < start.args.nodes =
+        turn.loop-k-test.true in
+    let helps-n' : helps (h loop.before) start.args.n loop.loop-k.k ≡ true =
+        loop.loop-k.inv.true.helper k_lt in
+    link_next loop.requires.0.linked loop.args.n k_lt' helps-n' c.next-k.ensures
 
 pub loop-k-preserved : goal.loop-k-preserved
 loop-k-preserved c =
-    let level = (start (goal.at.loop-k-preserved c).After-raised-arg-1).args.level in
-    let e = (smaller (goal.at.loop-k-preserved c).After-raised-arg-1).min.result in
-    so_far_more (loop (goal.at.loop-k-preserved c).After-raised-arg-1).loop.invariant (start (goal.at.loop-k-preserved c).After-raised-arg-1).requires.0.few (k_lt (goal.at.loop-k-preserved c).After-raised-arg-1)
+    let level = loop.args.level in
+    let e = c.min-extra.result in
+    so_far_more turn.loop-k.invariant loop.requires.0.few (k_lt (goal.at.loop-k-preserved c).After-raised-arg-1)
     (c.raised.ensures
     ∙ ap₂ (λ (x y : ℕ). x + (y - level + e)) (amount-is (goal.at.loop-k-preserved c).After-raised-arg-1) (room-is (goal.at.loop-k-preserved c).After-raised-arg-1)
-    ∙ ap (λ (x : ℕ). at (start (goal.at.loop-k-preserved c).After-raised-arg-1).args.shares.now (k (goal.at.loop-k-preserved c).After-raised-arg-1) + x)
-    (gets-turn (rooms (start (goal.at.loop-k-preserved c).After-raised-arg-1)) level (start (goal.at.loop-k-preserved c).After-raised-arg-1).args.left (k (goal.at.loop-k-preserved c).After-raised-arg-1) (left_is (goal.at.loop-k-preserved c).After-raised-arg-1) (one-is (goal.at.loop-k-preserved c).After-raised-arg-1) (smaller (goal.at.loop-k-preserved c).After-raised-arg-1).min.ensures))
-    (c.saturating_sub-some.ensures ∙ ap (λ (x : ℕ). (loop (goal.at.loop-k-preserved c).After-raised-arg-1).loop.some - x) (one-is (goal.at.loop-k-preserved c).After-raised-arg-1))
+    ∙ ap (λ (x : ℕ). at loop.args.shares.now loop.loop-k.k + x)
+    (gets-turn (rooms loop.before) level loop.args.left loop.loop-k.k (left_is (goal.at.loop-k-preserved c).After-raised-arg-1) (one-is (goal.at.loop-k-preserved c).After-raised-arg-1) c.min-extra.ensures))
+    (c.saturating_sub-some.ensures ∙ ap (λ (x : ℕ). turn.loop-k.some - x) (one-is (goal.at.loop-k-preserved c).After-raised-arg-1))
     (next-first (goal.at.loop-k-preserved c).After-next-k)
 
 pub returns : goal.returns

@@ -20,14 +20,14 @@ module _ (c : After-wide-3) where
 
 -- no product of a limit and a size wraps
 pub overflow_mul-result : goal.overflow_mul-result
-overflow_mul-result c = omega (arith, mul-le-mul c.wide-3.ensures.1 (known (goal.at.overflow_mul-result c).After-wide-3).family-of.ensures.3)
+overflow_mul-result c = omega (arith, mul-le-mul c.wide-3.ensures.1 first.family_of-family.ensures.3)
 
 -- both sides of the test are the definition's
 pub returns : goal.returns
 unfolding affords
 returns c =
-    let f = (known (goal.at.returns c).After-wide-3).family-of.ensures in
-    ap₂ leb (ap₂ ◌+◌ (ap₂ ◌+◌ (first (goal.at.returns c).After-wide-3).wide.ensures.0 (second (goal.at.returns c).After-wide-3).wide2.ensures.0) f.0) (ap₂ ◌*◌ c.wide-3.ensures.0 f.1)
+    let f = first.family_of-family.ensures in
+    ap₂ leb (ap₂ ◌+◌ (ap₂ ◌+◌ second.wide.ensures.0 c.wide-2.ensures.0) f.0) (ap₂ ◌*◌ c.wide-3.ensures.0 f.1)
 
 pub overflow_add-result : goal.overflow_add-result
 overflow_add-result c = omega (arith, c.wide.ensures.1, c.wide-2.ensures.1)

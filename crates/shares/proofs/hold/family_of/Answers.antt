@@ -34,7 +34,7 @@ loop-k-init c =
 
 pub loop-k-preserved : goal.loop-k-preserved
 loop-k-preserved c =
-    let v = (loop (goal.at.loop-k-preserved c).In-loop-k).loop.invariant in
+    let v = c.loop-k.invariant in
     let x = onward (goal.at.loop-k-preserved c).In-loop-k c.next-k.ensures in (
       summed_next v.0 (k_lt (goal.at.loop-k-preserved c).In-loop-k) c.wide-sum.ensures.0 x,
       summed_next v.1 (k_lt (goal.at.loop-k-preserved c).In-loop-k) refl x,

@@ -16,7 +16,7 @@ use Rattle.shares.specs.Inner.{rooms_now}
 use Rattle.shares.proofs.Spaces.{family_own, family_helper, family_other, rooms-most}
 use Rattle.shares.proofs.Summing.{Summed, summed_first, summed_next, summed_all, summed_most}
 use Rattle.shares.proofs.level.above.Goals.{After-room-room, At-loop-k, Start}
-use Rattle.shares.proofs.level.above.Invariants.{excess, one}
+use Rattle.shares.proofs.level.above.Invariants.{one, excess}
 use Rattle.shares.proofs.level.above.Goals as goal
 
 module _ (c : Start) where
@@ -62,28 +62,28 @@ module _ (c : After-room-room) where
 -- no more than 64 rooms of 32 bits are added up
 pub overflow_add-particles : goal.overflow_add-particles
 overflow_add-particles c =
-    let a = (start (goal.at.overflow_add-particles c).After-room-room).args in
-    let few = (start (goal.at.overflow_add-particles c).After-room-room).requires.0.few in
+    let a = loop.args in
+    let few = loop.requires.0.few in
     let most =
     rooms-most a.limit a.helpands.now a.reserves.now a.n a.own a.noted.now 4294967295 (search rules) (search rules)
     in
-    let all = summed_most 4294967295 (loop (goal.at.overflow_add-particles c).After-room-room).loop.invariant.0 (λ j. omega (arith, most j)) in
+    let all = summed_most 4294967295 c.loop-k.invariant.0 (λ j. omega (arith, most j)) in
     omega (arith, all, most a.n, k_lt (goal.at.overflow_add-particles c).After-room-room, few, c.over-particles-in-loop-k.ensures.1)
 
 pub overflow_add-members : goal.overflow_add-members
 overflow_add-members c =
-    let few = (start (goal.at.overflow_add-members c).After-room-room).requires.0.few in
-    let most : (j : ℕ) → one (rooms (start (goal.at.overflow_add-members c).After-room-room)) (start (goal.at.overflow_add-members c).After-room-room).args.level j ≤ 1 = λ j.
-    only-max (ltb (start (goal.at.overflow_add-members c).After-room-room).args.level (rooms (start (goal.at.overflow_add-members c).After-room-room) j)) 1 in
-    let all = summed_most 1 (loop (goal.at.overflow_add-members c).After-room-room).loop.invariant.1 most in
-    omega (arith, all, most (start (goal.at.overflow_add-members c).After-room-room).args.n, k_lt (goal.at.overflow_add-members c).After-room-room, few, c.one_above-members-in-loop-k.ensures.1)
+    let few = loop.requires.0.few in
+    let most : (j : ℕ) → one (rooms loop.before) loop.args.level j ≤ 1 = λ j.
+    only-max (ltb loop.args.level (rooms loop.before j)) 1 in
+    let all = summed_most 1 c.loop-k.invariant.1 most in
+    omega (arith, all, most loop.args.n, k_lt (goal.at.overflow_add-members c).After-room-room, few, c.one_above-members-in-loop-k.ensures.1)
 
 pub loop-k-preserved : goal.loop-k-preserved
 loop-k-preserved c =
-    let level = (start (goal.at.loop-k-preserved c).After-room-room).args.level in
+    let level = loop.args.level in
     let x = next-first (goal.at.loop-k-preserved c).After-room-room c.next-k.ensures in (
-      summed_next (loop (goal.at.loop-k-preserved c).After-room-room).loop.invariant.0 (k_lt (goal.at.loop-k-preserved c).After-room-room) (c.over-particles-in-loop-k.ensures.0 ∙ ap (λ (y : ℕ). y - level) (room-is (goal.at.loop-k-preserved c).After-room-room)) x,
-      summed_next (loop (goal.at.loop-k-preserved c).After-room-room).loop.invariant.1 (k_lt (goal.at.loop-k-preserved c).After-room-room) (c.one_above-members-in-loop-k.ensures.0 ∙ ap (λ (y : ℕ). only (ltb level y) 1) (room-is (goal.at.loop-k-preserved c).After-room-room)) x,
+      summed_next c.loop-k.invariant.0 (k_lt (goal.at.loop-k-preserved c).After-room-room) (c.over-particles-in-loop-k.ensures.0 ∙ ap (λ (y : ℕ). y - level) (room-is (goal.at.loop-k-preserved c).After-room-room)) x,
+      summed_next c.loop-k.invariant.1 (k_lt (goal.at.loop-k-preserved c).After-room-room) (c.one_above-members-in-loop-k.ensures.0 ∙ ap (λ (y : ℕ). only (ltb level y) 1) (room-is (goal.at.loop-k-preserved c).After-room-room)) x,
     )
 
 pub returns : goal.returns

@@ -45,8 +45,14 @@ module _ (c : After-struct_known-in-loop-high-1) where
   short : start.args.rest < up.above-high.result.particles
   short = c.if-high-rest.false
 
-level-most : (c : After-rise) → (up c.before).before.loop.level + c.rise.result ≤ 4294967295
-level-most c = turn-most (bound (start c.before)) (counted (up c.before)) (short c.before) c.rise.ensures
+level-most : (c : After-rise) → c.loop-high.level + c.rise.result ≤ 4294967295
+level-most c =
+    let counted' : let s = c.before in
+    Counted s.args.nodes (rooms s) c.loop-high.level c.above-high.result.particles c.above-high.result.members =
+        record { particles_are = c.above-high.ensures.0; members_are = c.above-high.ensures.1 } in
+    let short' : start.args.rest < up.above-high.result.particles =
+        c.if-high-rest.false in
+    turn-most (bound up.before) counted' short' c.rise.ensures
 
 pub overflow_cast-left : goal.overflow_cast-left
 overflow_cast-left c = omega (arith, c.if-high-rest.true)

@@ -25,15 +25,10 @@ module _ (c : In-loop-more) where
   some_left : c.loop-more.more ≢ 0
   some_left z = omega (arith, c.loop-more-test.true)
 
--- the least of n is worked out
-abbrev turn : After-least_from-least → In-loop-more
-turn c = c.before
-
 pub returns-then-least-cells : goal.returns-then-least-cells
 returns-then-least-cells c =
-    let f = c.before in
-    let l = (turn f).before.loop in
-    sym (renewed-same _ _ _ _ _ f.least_from-least.ensures l.more (some_left (turn f)) c.if-least-cells.true) ∙ l.inv.1
+    let l = c.loop-more in
+    sym (renewed-same _ _ _ _ _ c.least_from-least.ensures l.more (some_left (goal.at.returns-then-least-cells c).In-loop-more) c.if-least-cells.true) ∙ l.inv.1
 
 -- it is noted, and the helpand is read
 module _ (c : After-helpand-1) where
@@ -44,17 +39,17 @@ module _ (c : After-helpand-1) where
 
 pub returns-then-helpand-n : goal.returns-then-helpand-n
 returns-then-helpand-n c =
-    let f = found (goal.at.returns-then-helpand-n c).After-helpand-1 in
+    let f = renewing.before in
     let l = (turn f).before.loop in
-    sym (renewed-root _ _ _ _ _ f.least_from-least.ensures l.more (some_left (turn f)) (renewing (goal.at.returns-then-helpand-n c).After-helpand-1).if1.false c.if-helpand-n.true)
+    sym (renewed-root _ _ _ _ _ f.least_from-least.ensures l.more (some_left (turn f)) c.if-least-cells.false c.if-helpand-n.true)
     ∙ l.inv.1
 
 pub loop-more-preserved : goal.loop-more-preserved
 loop-more-preserved c =
-    let f = found (goal.at.loop-more-preserved c).After-helpand-1 in
+    let f = renewing.before in
     let l = (turn f).before.loop in (
       helpand-below (turn f),
-      sym (renewed_up _ _ _ _ _ f.least_from-least.ensures l.more (some_left (turn f)) (renewing (goal.at.loop-more-preserved c).After-helpand-1).if1.false c.if-helpand-n.false)
+      sym (renewed_up _ _ _ _ _ f.least_from-least.ensures l.more (some_left (turn f)) c.if-least-cells.false c.if-helpand-n.false)
           ∙ l.inv.1,
     )
 

@@ -42,23 +42,23 @@ module _ (c : After-put_right-d) where
 
 pub put_right-b-requires : goal.put_right-b-requires
 put_right-b-requires c =
-    (decimal-le (start (goal.at.put_right-b-requires c).After-put_byte-a).args.sent, omega (arith, at_1 (goal.at.put_right-b-requires c).After-put_byte-a, (start (goal.at.put_right-b-requires c).After-put_byte-a).requires))
+    (decimal-le c.args.sent, omega (arith, at_1 (goal.at.put_right-b-requires c).After-put_byte-a, c.requires))
 
 pub put_byte-c-requires : goal.put_byte-c-requires
 put_byte-c-requires c =
-    omega (arith, at_11 (goal.at.put_byte-c-requires c).After-put_right-b, (start (one (goal.at.put_byte-c-requires c).After-put_right-b)).pre)
+    omega (arith, at_11 (goal.at.put_byte-c-requires c).After-put_right-b, (start (goal.at.put_byte-c-requires c).After-put_byte-a).pre)
 
 pub put_right-d-requires : goal.put_right-d-requires
 put_right-d-requires c =
-    (decimal-le (start (one (two (goal.at.put_right-d-requires c).After-put_byte-c))).args.received, omega (arith, at_12 (goal.at.put_right-d-requires c).After-put_byte-c, (start (one (two (goal.at.put_right-d-requires c).After-put_byte-c))).pre))
+    (decimal-le (start (one (goal.at.put_right-d-requires c).After-put_right-b)).args.received, omega (arith, at_12 (goal.at.put_right-d-requires c).After-put_byte-c, (start (one (goal.at.put_right-d-requires c).After-put_right-b)).pre))
 
 pub put_byte-requires : goal.put_byte-requires
 put_byte-requires c =
-    omega (arith, at_22 (goal.at.put_byte-requires c).After-put_right-d, (start (one (two (three (goal.at.put_byte-requires c).After-put_right-d)))).pre)
+    omega (arith, at_22 (goal.at.put_byte-requires c).After-put_right-d, (start (one (two (goal.at.put_byte-requires c).After-put_byte-c))).pre)
 
 pub returns : goal.returns
 unfolding amounts
 returns c =
-    put_then (one (two (three (goal.at.returns c).After-put_right-d))).put_byte.ensures
-    (put_then (two (three (goal.at.returns c).After-put_right-d)).put_right.ensures
-    (put_then (three (goal.at.returns c).After-put_right-d).put-byte2.ensures (put_then c.put_right-d.ensures c.put_byte.ensures)))
+    put_then (one (two (goal.at.returns c).After-put_byte-c)).put_byte.ensures
+    (put_then (two (goal.at.returns c).After-put_byte-c).put_right.ensures
+    (put_then c.put_byte-c.ensures (put_then c.put_right-d.ensures c.put_byte.ensures)))

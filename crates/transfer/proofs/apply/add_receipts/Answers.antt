@@ -60,10 +60,10 @@ loop-i-init c = record { i_le = omega arith; size = c.requires.0.size; added = Î
 
 pub loop-i-preserved : goal.loop-i-preserved
 loop-i-preserved c =
-    let a = (start (goal.at.loop-i-preserved c).After-word_number-received).args in
-    let l = (turn (goal.at.loop-i-preserved c).After-word_number-received).before.loop in
+    let a = turn.args in
+    let l = route-read.loop-i in
     rw c.into_cell-into.ensures
-    (after a.table.now a.moves.now a.e l.table l.i l.inv (turn (goal.at.loop-i-preserved c).After-word_number-received).loop-test.true _ _ (read (goal.at.loop-i-preserved c).After-word_number-received))
+    (after a.table.now a.moves.now a.e l.table l.i l.inv route-read.loop-i-test.true _ _ (read (goal.at.loop-i-preserved c).After-word_number-received))
 
 pub returns : goal.returns
 returns c =

@@ -63,8 +63,8 @@ module _ (c : Else-not-subtract_sends) where
 
 pub add_receipts-requires : goal.add_receipts-requires
 add_receipts-requires c =
-    let a = (start (goal.at.add_receipts-requires c).Else-not-subtract_sends).args in
-    rw (left_is (goal.at.add_receipts-requires c).Else-not-subtract_sends) (left-fits a.table.now a.moves.now a.e (start (goal.at.add_receipts-requires c).Else-not-subtract_sends).requires.0 (start (goal.at.add_receipts-requires c).Else-not-subtract_sends).requires.1 (within-here (goal.at.add_receipts-requires c).Else-not-subtract_sends))
+    let a = c.args in
+    rw (left_is (goal.at.add_receipts-requires c).Else-not-subtract_sends) (left-fits a.table.now a.moves.now a.e c.requires.0 c.requires.1 (within-here (goal.at.add_receipts-requires c).Else-not-subtract_sends))
 
 pub returns : goal.returns
 returns c =

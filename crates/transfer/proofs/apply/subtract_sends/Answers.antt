@@ -66,16 +66,16 @@ loop-i-init c = record { i_le = omega arith; size = c.requires.size; left = λ j
 
 pub returns-then-table-from : goal.returns-then-table-from
 returns-then-table-from c =
-    let a = (start (goal.at.returns-then-table-from c).After-word_number-sent).args in
-    let l = (turn (goal.at.returns-then-table-from c).After-word_number-sent).before.loop in record { answer = sym (fails a.table.now a.moves.now a.e l.table l.i l.inv (turn (goal.at.returns-then-table-from c).After-word_number-sent).loop-test.true _ _ (read (goal.at.returns-then-table-from c).After-word_number-sent)
-          (start (goal.at.returns-then-table-from c).After-word_number-sent).requires.size (rw (← c.from_cell-from.ensures) c.if-table-from.true)); left = λ z. absurd (true≢false (sym z)) }
+    let a = turn.args in
+    let l = route-read.loop-i in record { answer = sym (fails a.table.now a.moves.now a.e l.table l.i l.inv route-read.loop-i-test.true _ _ (read (goal.at.returns-then-table-from c).After-word_number-sent)
+          turn.requires.size (rw (← c.from_cell-from.ensures) c.if-table-from.true)); left = λ z. absurd (true≢false (sym z)) }
 
 pub loop-i-preserved : goal.loop-i-preserved
 loop-i-preserved c =
-    let a = (start (goal.at.loop-i-preserved c).After-word_number-sent).args in
-    let l = (turn (goal.at.loop-i-preserved c).After-word_number-sent).before.loop in
+    let a = turn.args in
+    let l = route-read.loop-i in
     rw c.from_cell-from.ensures
-    (after a.table.now a.moves.now a.e l.table l.i l.inv (turn (goal.at.loop-i-preserved c).After-word_number-sent).loop-test.true _ _ (read (goal.at.loop-i-preserved c).After-word_number-sent)
+    (after a.table.now a.moves.now a.e l.table l.i l.inv route-read.loop-i-test.true _ _ (read (goal.at.loop-i-preserved c).After-word_number-sent)
     (rw (← c.from_cell-from.ensures) c.if-table-from.false))
 
 pub returns : goal.returns

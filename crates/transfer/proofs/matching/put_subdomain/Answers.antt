@@ -12,8 +12,8 @@ use Rattle.transfer.specs.Inner.{NextFrom}
 use Rattle.transfer.proofs.Entries.{Pending, begin, finish, room, sender-next, receiver-next}
 use Rattle.transfer.proofs.Next.{next-eq}
 use Rattle.transfer.proofs.Matched.{moves-few}
-use Rattle.transfer.proofs.matching.put_subdomain.Goals.{After-min-count, After-put_move-entries, After-slice_known-in-loop-s-2-1, At-loop-s, Start}
-use Rattle.transfer.proofs.matching.put_subdomain.Invariants.{above, whole, lacks}
+use Rattle.transfer.proofs.matching.put_subdomain.Goals.{After-min-count, At-loop-s, Start}
+use Rattle.transfer.proofs.matching.put_subdomain.Invariants.{above, lacks, whole}
 use Rattle.transfer.proofs.matching.put_subdomain.Goals as goal
 
 -- both are what the one amount is above the other
@@ -61,23 +61,17 @@ module _ (c : After-min-count) where
         within k a.e (length all) (a.nodes - 1) (length l.counts) (length a.counts.now) b f p.3 l.inv.moves.counts_long,
       )
 
--- from after the turn's move, with its two arrays, back to the move
-abbrev put_before : After-slice_known-in-loop-s-2-1 → After-put_move-entries
-put_before c = c.before
-
 pub put_move-entries-requires : goal.put_move-entries-requires
 put_move-entries-requires c =
     (omega arith, omega (arith, sender-lt (goal.at.put_move-entries-requires c).After-min-count), omega (arith, receiver-lt (goal.at.put_move-entries-requires c).After-min-count), (has_room (goal.at.put_move-entries-requires c).After-min-count).0, (has_room (goal.at.put_move-entries-requires c).After-min-count).1)
 
 pub next_above-s-requires-then-s-r : goal.next_above-s-requires-then-s-r
 next_above-s-requires-then-s-r c =
-    let q = (put_before c.before).before.before.before in
-    ((start q).pre.0, omega (arith, sender-lt q, receiver-lt q))
+    ((start (goal.at.next_above-s-requires-then-s-r c).After-min-count).pre.0, omega (arith, sender-lt (goal.at.next_above-s-requires-then-s-r c).After-min-count, receiver-lt (goal.at.next_above-s-requires-then-s-r c).After-min-count))
 
 pub next_above-r-requires-else-s-r : goal.next_above-r-requires-else-s-r
 next_above-r-requires-else-s-r c =
-    let q = (put_before c.before).before.before.before in
-    ((start q).pre.0, omega (arith, sender-lt q, receiver-lt q))
+    ((start (goal.at.next_above-r-requires-else-s-r c).After-min-count).pre.0, omega (arith, sender-lt (goal.at.next_above-r-requires-else-s-r c).After-min-count, receiver-lt (goal.at.next_above-r-requires-else-s-r c).After-min-count))
 
 -- ---- what holds at the loop's head
 pub loop-s-init : goal.loop-s-init
@@ -91,29 +85,25 @@ loop-s-init c =
 
 pub loop-s-preserved-then-s-r : goal.loop-s-preserved-then-s-r
 loop-s-preserved-then-s-r c =
-    let p = put_before c.before in
-    let q = p.before in
-    let l = (head q).loop in
-    let a = (start q).args in
-    sender-next a.nodes (surplus q) (shortage q) a.n a.routes.now a.counts.now a.e (all q) l.routes l.counts
+    let l = (head (goal.at.loop-s-preserved-then-s-r c).After-min-count).loop in
+    let a = (start (goal.at.loop-s-preserved-then-s-r c).After-min-count).args in
+    sender-next a.nodes (surplus (goal.at.loop-s-preserved-then-s-r c).After-min-count) (shortage (goal.at.loop-s-preserved-then-s-r c).After-min-count) a.n a.routes.now a.counts.now a.e (all (goal.at.loop-s-preserved-then-s-r c).After-min-count) l.routes l.counts
     l.entries l.s.node l.s.count l.r.node l.r.count
-    l.inv (sender-lt q) (receiver-lt q) q.min-count.result q.min-count.ensures
-    p.put_move-entries.last.0 p.put_move-entries.last.1.0 p.put_move-entries.result p.put_move-entries.ensures.0 p.put_move-entries.ensures.1.0
-    p.put_move-entries.ensures.1.1
+    l.inv (sender-lt (goal.at.loop-s-preserved-then-s-r c).After-min-count) (receiver-lt (goal.at.loop-s-preserved-then-s-r c).After-min-count) c.min-count.result c.min-count.ensures
+    c.put_move-entries.last.0 c.put_move-entries.last.1.0 c.put_move-entries.result c.put_move-entries.ensures.0 c.put_move-entries.ensures.1.0
+    c.put_move-entries.ensures.1.1
     c.if-s-r.true c.next_above-s-then-s-r.result.node c.next_above-s-then-s-r.result.count
     (sender a.holding.now a.due.now c.next_above-s-then-s-r.ensures)
 
 pub loop-s-preserved : goal.loop-s-preserved
 loop-s-preserved c =
-    let p = put_before c.before in
-    let q = p.before in
-    let l = (head q).loop in
-    let a = (start q).args in
-    receiver-next a.nodes (surplus q) (shortage q) a.n a.routes.now a.counts.now a.e (all q) l.routes l.counts
+    let l = (head (goal.at.loop-s-preserved c).After-min-count).loop in
+    let a = (start (goal.at.loop-s-preserved c).After-min-count).args in
+    receiver-next a.nodes (surplus (goal.at.loop-s-preserved c).After-min-count) (shortage (goal.at.loop-s-preserved c).After-min-count) a.n a.routes.now a.counts.now a.e (all (goal.at.loop-s-preserved c).After-min-count) l.routes l.counts
     l.entries l.s.node l.s.count l.r.node l.r.count
-    l.inv (sender-lt q) (receiver-lt q) q.min-count.result q.min-count.ensures
-    p.put_move-entries.last.0 p.put_move-entries.last.1.0 p.put_move-entries.result p.put_move-entries.ensures.0 p.put_move-entries.ensures.1.0
-    p.put_move-entries.ensures.1.1
+    l.inv (sender-lt (goal.at.loop-s-preserved c).After-min-count) (receiver-lt (goal.at.loop-s-preserved c).After-min-count) c.min-count.result c.min-count.ensures
+    c.put_move-entries.last.0 c.put_move-entries.last.1.0 c.put_move-entries.result c.put_move-entries.ensures.0 c.put_move-entries.ensures.1.0
+    c.put_move-entries.ensures.1.1
     c.if-s-r.false c.next_above-r-else-s-r.result.node c.next_above-r-else-s-r.result.count
     (receiver a.holding.now a.due.now c.next_above-r-else-s-r.ensures)
 

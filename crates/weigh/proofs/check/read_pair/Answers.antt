@@ -55,7 +55,7 @@ module _ (c : In-Accepted-read_plan) where
 
 pub returns-then-s-p : goal.returns-then-s-p
 returns-then-s-p c =
-    stops_differ _ _ (sheet-read (second (goal.at.returns-then-s-p c).In-Accepted-read_plan)) (plan_read (goal.at.returns-then-s-p c).In-Accepted-read_plan) (λ same. omega (arith, c.if-s-p.true, same))
+    stops_differ _ _ (sheet-read (goal.at.returns-then-s-p c).After-read_plan) (plan_read (goal.at.returns-then-s-p c).In-Accepted-read_plan) (λ same. omega (arith, c.if-s-p.true, same))
 
 -- past 21
 module _ (c : Else-s-p) where
@@ -64,8 +64,8 @@ module _ (c : Else-s-p) where
 
 pub returns-then-p-eq0 : goal.returns-then-p-eq0
 returns-then-p-eq0 c =
-    stops_primary _ _ (sheet-read (second (both (goal.at.returns-then-p-eq0 c).Else-s-p))) (plan_read (both (goal.at.returns-then-p-eq0 c).Else-s-p)) (omega (arith, c.if-s-p.false)) c.if-p-eq0.true
+    stops_primary _ _ (sheet-read (second (goal.at.returns-then-p-eq0 c).In-Accepted-read_plan)) (plan_read (goal.at.returns-then-p-eq0 c).In-Accepted-read_plan) (omega (arith, c.if-s-p.false)) c.if-p-eq0.true
 
 pub returns-else-p-eq0 : goal.returns-else-p-eq0
 returns-else-p-eq0 c =
-    stops_nowhere _ _ (sheet-read (second (both (goal.at.returns-else-p-eq0 c).Else-s-p))) (plan_read (both (goal.at.returns-else-p-eq0 c).Else-s-p)) (omega (arith, c.if-s-p.false)) c.if-p-eq0.false
+    stops_nowhere _ _ (sheet-read (second (goal.at.returns-else-p-eq0 c).In-Accepted-read_plan)) (plan_read (goal.at.returns-else-p-eq0 c).In-Accepted-read_plan) (omega (arith, c.if-s-p.false)) c.if-p-eq0.false
