@@ -18,7 +18,7 @@ pub returns-then-not-routes_fine : goal.returns-then-not-routes_fine
 returns-then-not-routes_fine c = simp (sym c.routes_fine.ensures ∙ c.if-not-routes_fine.true)
 
 pub returns-then-not-counts_fine : goal.returns-then-not-counts_fine
-returns-then-not-counts_fine c = simp (routes (goal.at.returns-then-not-counts_fine c).Else-not-routes_fine, sym c.counts_fine_lem.ensures ∙ c.if-not-counts_fine.true)
+returns-then-not-counts_fine c = simp (routes (goal.at.returns-then-not-counts_fine c).Else-not-routes_fine, sym c.counts_fine.ensures ∙ c.if-not-counts_fine.true)
 
 pub returns : goal.returns
-returns c = simp (routes (goal.at.returns c).Else-not-routes_fine, sym c.counts_fine_lem.ensures ∙ c.if-not-counts_fine.false)
+returns c = simp (routes (goal.at.returns c).Else-not-routes_fine, sym c.counts_fine.ensures ∙ c.if-not-counts_fine.false)

@@ -36,8 +36,13 @@ nodes c = sym c.one_to.ensures ∙ c.if-not-one_to.false
 ranges : (c : Else-not-one_to) →
     read_moves c.args.s.now
     ≡ refuse_if (ltb (c.word_number-n.result * (c.word_number-n.result - 1)) c.word_number-e.result) (refused 33)
-    (refuse_if (not (eqb (length c.args.s.now) (4 * (2 + 2 * c.word_number-e.result)))) (refused 34) (entries_answer c.args.s.now c.word_number-n.result c.word_number-e.result))
-ranges c = head c.before ∙ rw (nodes c)
+    (refuse_if (not (eqb (length c.args.s.now) (4 * (2 + 2 * c.word_number-e.result)))) (refused 34)
+    (entries_answer c.args.s.now c.word_number-n.result c.word_number-e.result))
+unfolding read_moves
+ranges c =
+    let first : read_moves c.args.s.now ≡ head_answer c.args.s.now c.word_number-n.result c.word_number-e.result =
+        simp (le-ltb (length c.args.s.now) 8 (omega arith), ← c.word_number-n.ensures, ← c.word_number-e.ensures) in
+    first ∙ rw (nodes c)
 
 pub returns-then-s-lt8 : goal.returns-then-s-lt8
 unfolding read_moves

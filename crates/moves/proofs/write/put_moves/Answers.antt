@@ -27,9 +27,9 @@ returns c =
     let a = c.args in
     let routes = encode (take a.e a.routes.now) in
     let counts = encode (take a.e a.counts.now) in
-    let out₁ : c.put_word.new.0 ≡ put_word a.out.now 0 a.n = c.put_word.ensures in
-    let out₂ : c.put_word-2.new.0 ≡ put_word c.put_word.new.0 4 a.e = c.put_word-2.ensures in
-    let out₃ : c.put_words.new.0 ≡ sets c.put_word-2.new.0 8 routes = c.put_words.ensures in
-    let out₄ : c.put_words-2.new.0 ≡ sets c.put_words.new.0 (4 * (2 + a.e)) counts = c.put_words-2.ensures in
+    let out₁ : c.put_word.new.out ≡ put_word a.out.now 0 a.n = c.put_word.ensures in
+    let out₂ : c.put_word-2.new.out ≡ put_word c.put_word.new.out 4 a.e = c.put_word-2.ensures in
+    let out₃ : c.put_words.new.out ≡ sets c.put_word-2.new.out 8 routes = c.put_words.ensures in
+    let out₄ : c.put_words-2.new.out ≡ sets c.put_words.new.out (4 * (2 + a.e)) counts = c.put_words-2.ensures in
     rw (out₄, out₃, out₂, out₁)
     (stores a.out.now a.routes.now a.counts.now a.n a.e (omega arith) (omega arith) (omega arith))
