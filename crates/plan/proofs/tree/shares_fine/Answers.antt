@@ -9,7 +9,7 @@ use Rattle.fold.proofs.Tests.{all_none, all_more, all_fails}
 use Rattle.plan.specs.Tree.{share_fine}
 use Rattle.plan.proofs.Shares.{share-over, share-root, share_fine_lem}
 use Rattle.arrays.specs.Arrays.{at}
-use Rattle.plan.proofs.tree.shares_fine.Goals.{else-helpands-k, then-helpands-k}
+use Rattle.plan.proofs.tree.shares_fine.Goals.{then-helpands-k+else-share-ne0, else-helpands-k}
 use Rattle.plan.proofs.tree.shares_fine.Goals as goal
 
 pub returns-then-limit-share : goal.returns-then-limit-share
@@ -29,9 +29,9 @@ loop-k-preserved c =
       all_more _ _ c.loop-k.invariant.1
           (share_fine_lem _ (at a.helpands) (at a.shares) _ c.if-limit-share.false
           (λ e. elim c.if-helpands-k.branch [
-      | then-helpands-k w ↦ w.1.left
-      | else-helpands-k w ↦ absurd (w.left e)
-    ])),
+            | then-helpands-k+else-share-ne0 w ↦ w.if-share-ne0.false
+            | else-helpands-k w ↦ absurd (w.if-helpands-k.false e)
+          ])),
     )
 
 pub returns : goal.returns
