@@ -55,13 +55,13 @@ ranges : (c : Else-not-one_to-2) →
     let t = w.word_number-t.result in
     let e = w.word_number-e.result in
     read_header s ≡ refuse_if (ltb (n * n) e) (header_refused 4) (header_accepted n t e)
+unfolding read_header
 ranges c =
-    let nodes_fine' : one_to max_nodes c.word_number-n.result ≡ true =
-        sym c.one_to.ensures ∙ c.if-not-one_to.false in
-    let w = c.before in
-    let fine : one_to max_tolerance w.word_number-t.result ≡ true =
-    sym c.one_to-2.ensures ∙ c.if-not-one_to-2.false in
-    head w ∙ rw (nodes_fine', fine)
+    let first : read_header c.args.s.now ≡ ranges_answer c.word_number-n.result c.word_number-t.result c.word_number-e.result =
+        simp (le-ltb _ _ c.if-s-lt12.false, ← c.word_number-n.ensures, ← c.word_number-t.ensures, ← c.word_number-e.ensures) in
+    let nodes : one_to max_nodes c.word_number-n.result ≡ true = sym c.one_to.ensures ∙ c.if-not-one_to.false in
+    let fine : one_to max_tolerance c.word_number-t.result ≡ true = sym c.one_to-2.ensures ∙ c.if-not-one_to-2.false in
+    first ∙ rw (nodes, fine)
 
 pub returns-then-n-e : goal.returns-then-n-e
 returns-then-n-e c = sym (ranges (goal.at.returns-then-n-e c).Else-not-one_to-2 ∙ simp (lt-ltb _ _ c.if-n-e.true))

@@ -17,7 +17,7 @@ use Rattle.sheet.proofs.totals.add_row.Goals as goal
 more : (c : After-totals-in-loop-n-1) →
     let a = c.args in
     let n = c.loop-n.n in
-    at c.loop-n.totals-1 n + held a.table.now a.holder n ≡ total_of (a.holder + 1) a.table.now n
+    at c.loop-n.totals n + held a.table.now a.holder n ≡ total_of (a.holder + 1) a.table.now n
 more c =
     let a = c.args in
     let n = c.loop-n.n in
@@ -46,7 +46,7 @@ loop-n-init c = (
 pub loop-n-preserved : goal.loop-n-preserved
 loop-n-preserved c =
     let a = c.args in
-    let out = c.loop-n.totals-1 in
+    let out = c.loop-n.totals in
     let n = c.loop-n.n in
     let v = at out n + held a.table.now a.holder n in (
       omega arith,
@@ -59,7 +59,7 @@ pub returns : goal.returns
 returns c =
     let a = c.args in
     let e : c.loop-n.n ≡ a.nodes = omega arith in
-    tabulate-is a.nodes (total_of (a.holder + 1) a.table.now) (omega arith) c.loop-n.totals-1 c.loop-n.invariant.1
+    tabulate-is a.nodes (total_of (a.holder + 1) a.table.now) (omega arith) c.loop-n.totals c.loop-n.invariant.1
     (rw e at c.loop-n.invariant.2)
     (λ k b.
     c.loop-n.invariant.3 k (omega arith)

@@ -20,7 +20,7 @@ loop-c-preserved c =
       | then-table-c-ne0 w ↦ let one : length (collect (k + 1) (filled table)) ≡ length (collect k (filled table)) + 1 =
     rw (cells-one table k w.if-table-c-ne0.true) (length-append (collect k (filled table)) (k ∷ [])) in
     (omega arith, omega arith, omega arith)
-      | else-table-c-ne0 w ↦ (omega arith, omega arith, w.1 ∙ c.loop-c.invariant.2 ∙ sym (ap length (cells_skip table k w.if-table-c-ne0.false)))
+      | else-table-c-ne0 w ↦ (omega arith, omega arith, w.e-is ∙ c.loop-c.invariant.2 ∙ sym (ap length (cells_skip table k w.if-table-c-ne0.false)))
     ]
 
 pub returns : goal.returns

@@ -11,55 +11,46 @@ use Rattle.words.specs.Words.{encode, put_word}
 use Rattle.words.proofs.Buffer.{record_placed}
 use Rattle.sheet.specs.Write.{filled, sheet_bytes}
 use Rattle.sheet.proofs.Filled.{counts, cell_more, cells_skip, cells-one, store_one}
-use Rattle.sheet.proofs.write.put_sheet.Goals.{At-loop-c, Start, Then-count-ne0, else-count-ne0, then-count-ne0}
+use Rattle.sheet.proofs.write.put_sheet.Goals.{Then-count-ne0, else-count-ne0, then-count-ne0}
 use Rattle.sheet.proofs.write.put_sheet.Goals as goal
 
 pub loop-c-init : goal.loop-c-init
 unfolding collect encode
 loop-c-init c = (omega arith, omega arith, refl, refl, refl)
 
-abbrev begun : At-loop-c → Start
-begun l =
-    l.before
-
 -- there is room for one more entry
-room : (c : Then-count-ne0) →
-    let l = c.before in
-    l.loop-c.i < (begun l).args.e
+room : (c : Then-count-ne0) → c.loop-c.i < c.args.e
 room c =
-    let l = c.before in
-    let start = begun l in
     omega (
       arith,
-      cell_more start.args.table.now start.args.n l.loop-c.c c.loop-c-test.true c.if-count-ne0.true,
-      start.pre.1,
+      cell_more c.args.table.now c.args.n c.loop-c.c c.loop-c-test.true c.if-count-ne0.true,
+      c.requires.1,
     )
 
 pub loop-c-preserved : goal.loop-c-preserved
 loop-c-preserved c =
-    let l = c.before in
-    let a = (begun l).args in
-    let k = l.loop-c.c in
+    let a = c.args in
+    let k = c.loop-c.c in
     let table = a.table.now in
     elim c.if-count-ne0.branch [
-      | then-count-ne0 w ↦ let new = w.5 ∙ w.2.ensures in
+      | then-count-ne0 w ↦ let new = w.out-is ∙ w.put_entry.ensures in
     let one : length (collect (k + 1) (filled table)) ≡ length (collect k (filled table)) + 1 =
     rw (cells-one table k w.if-count-ne0.true) (length-append (collect k (filled table)) (k ∷ [])) in (
       omega arith,
       omega arith,
       omega arith,
-      new ∙ ap (λ (o : List ℕ). put_word (put_word o (4 * (3 + l.loop-c.i)) k) (4 * (3 + a.e + l.loop-c.i)) (get_or table k 0))
-          l.loop-c.invariant.3
-          ∙ store_one l.put_head.new.0 table a.e l.loop-c.i k w.if-count-ne0.true l.loop-c.invariant.2
-          (room (record { before = c.before; if1 = w.if-count-ne0 })),
-      ap length new ∙ simp length-set l.loop-c.invariant.4,
+      new ∙ ap (λ (o : List ℕ). put_word (put_word o (4 * (3 + c.loop-c.i)) k) (4 * (3 + a.e + c.loop-c.i)) (get_or table k 0))
+          c.loop-c.invariant.3
+          ∙ store_one c.put_head.new.out table a.e c.loop-c.i k w.if-count-ne0.true c.loop-c.invariant.2
+          (omega (arith, cell_more a.table.now a.n k c.loop-c-test.true w.if-count-ne0.true, c.requires.1)),
+      ap length new ∙ simp length-set c.loop-c.invariant.4,
     )
       | else-count-ne0 w ↦ (
       omega arith,
       omega arith,
-      w.2 ∙ l.loop-c.invariant.2 ∙ sym (ap length (cells_skip table k w.if-count-ne0.false)),
-      w.1 ∙ l.loop-c.invariant.3 ∙ rw (cells_skip table k w.if-count-ne0.false),
-      ap length w.1 ∙ l.loop-c.invariant.4,
+      w.i-is ∙ c.loop-c.invariant.2 ∙ sym (ap length (cells_skip table k w.if-count-ne0.false)),
+      w.out-is ∙ c.loop-c.invariant.3 ∙ rw (cells_skip table k w.if-count-ne0.false),
+      ap length w.out-is ∙ c.loop-c.invariant.4,
     )
     ]
 
