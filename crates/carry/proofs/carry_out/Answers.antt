@@ -7,8 +7,7 @@ use Rattle.carry.proofs.carry_out.Goals as goal
 pub returns-in-Refused : goal.returns-in-Refused
 returns-in-Refused c =
     let whole =
-        let r = c.r-1.given in
-    ends_refused _ _ _ r.0.0 (pair-refused _ _ c.read_pair.ensures r.1) in
+        ends_refused _ _ _ c.in-Refused.r (pair-refused _ _ c.read_pair.ensures c.in-Refused.is) in
     record { answer = whole.0; bytes = whole.1 }
 
 pub carry_read-requires : goal.carry_read-requires

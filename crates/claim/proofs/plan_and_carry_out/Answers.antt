@@ -13,7 +13,7 @@ use Rattle.words.specs.declared.WrittenAnswer.{WrittenAnswer}
 use Rattle.carry.specs.Carry.{carry_answer, next_after}
 use Rattle.claim.specs.Claim.{Demand3}
 use Rattle.claim.proofs.Demand.{demand}
-use Rattle.claim.proofs.plan_and_carry_out.Goals.{After-firrozka_plan_step-step, After-slice_known-3-1, Start}
+use Rattle.claim.proofs.plan_and_carry_out.Goals.{After-firrozka_plan_step-step}
 use Rattle.claim.proofs.plan_and_carry_out.Goals as goal
 
 -- the demand, of answers and buffers that are what the contracts say
@@ -22,19 +22,11 @@ handed-on : (s o p m x : List ℕ) (a : StepAnswer) (c : WrittenAnswer) (p₁ m�
     → c ≡ carry_answer s (take a.moves m₁) (length x) → x₁ ≡ next_after s (take a.moves m₁) x → Demand3 s o p m x a c p₁ x₁
 handed-on s o p m x a c p₁ m₁ x₁ e f g h i = rw (h, i, g, f, e) (demand s o p m x)
 
--- the step was planned or refused
-module _ (c : After-firrozka_plan_step-step) where
-  abbrev begun : After-slice_known-3-1
-  begun = c.before
-  abbrev start : Start
-  start = begun.before
-  abbrev m : List ℕ
-  m = start.args.moves.now
-  size-inside : c.firrozka_plan_step-step.result.moves-1 ≤ length m
-  size-inside =
-      let a = start.args in
-      let sizes = moves-inside a.sheet.now a.old.now (length a.plan.now) (length m) in
-      omega (arith, ap (λ (x : StepAnswer). x.moves-1) c.firrozka_plan_step-step.ensures.0, sizes)
+size-inside : (c : After-firrozka_plan_step-step) → c.firrozka_plan_step-step.result.moves-1 ≤ length c.args.moves.now
+size-inside c =
+    let a = c.args in
+    let sizes = moves-inside a.sheet.now a.old.now (length a.plan.now) (length c.args.moves.now) in
+    omega (arith, ap (λ (x : StepAnswer). x.moves-1) c.firrozka_plan_step-step.ensures.answer, sizes)
 
 pub returns : goal.returns
 returns c =

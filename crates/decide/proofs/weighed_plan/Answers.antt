@@ -3,29 +3,19 @@
 use borrow.Author.Rules.{rules}
 use Rattle.plan.proofs.Trees.{tree-below}
 use Rattle.decide.proofs.Ways.{way_kept, way_broken}
-use Rattle.decide.proofs.weighed_plan.Goals.{After-helper_links-links, After-holds, After-leasts-leasts, Start}
 use Rattle.decide.proofs.weighed_plan.Goals as goal
-
--- the tree was weighed and its leasts tested
-module _ (c : After-holds) where
-  abbrev weighed : After-leasts-leasts
-  weighed = c.before
-  abbrev linked : After-helper_links-links
-  linked = weighed.before
-  abbrev start : Start
-  start = linked.before
 
 pub returns-then-holds : goal.returns-then-holds
 returns-then-holds c =
     let l = c.leasts-leasts in
-    let a = linked.args in
+    let a = c.args in
     way_kept a.nodes a.p a.limit a.table.now a.totals a.old l.result l.ensures c.holds.result
     c.holds.ensures c.if-holds.true c.shares.result c.shares.ensures
 
 pub returns : goal.returns
 returns c =
     let l = c.leasts-leasts in
-    let a = linked.args in
+    let a = c.args in
     way_broken a.nodes a.p a.limit a.table.now a.totals a.old l.result l.ensures c.holds.result
     c.holds.ensures c.if-holds.false c.rebuilt_plan.result c.rebuilt_plan.ensures
 
@@ -33,4 +23,4 @@ pub helper_links-links-requires : goal.helper_links-links-requires
 helper_links-links-requires c = (c.requires.1, c.find_root-root.ensures.inside)
 
 pub rebuilt_plan-requires : goal.rebuilt_plan-requires
-rebuilt_plan-requires c = let s = (start (goal.at.rebuilt_plan-requires c).After-holds).pre in (s.0, s.1, tree-below s.5.1, s.3, s.4)
+rebuilt_plan-requires c = let s = (start c.before).pre in (s.0, s.1, tree-below s.5.1, s.3, s.4)

@@ -11,10 +11,9 @@ use Rattle.groups.proofs.groups.Goals as goal
 pub returns-in-Refused : goal.returns-in-Refused
 returns-in-Refused c =
     let whole =
-        let r = c.r-1.given in
-    ends_plan _ _ (refusal_number r.0.0)
-    (ap (λ (x : PlanAnswer). x.refusal) (ap answer_of (sym r.1) ∙ c.read_plan.ensures))
-    (λ z. omega (arith, number_more r.0.0)) in
+        ends_plan _ _ (refusal_number c.in-Refused.r)
+    (ap (λ (x : PlanAnswer). x.refusal) (ap answer_of (sym c.in-Refused.is) ∙ c.read_plan.ensures))
+    (λ z. omega (arith, number_more c.in-Refused.r)) in
     record { answer = whole.0; bytes = whole.1 }
 
 pub groups_read-requires : goal.groups_read-requires

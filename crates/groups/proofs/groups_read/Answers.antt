@@ -16,27 +16,21 @@ use Rattle.groups.specs.Inner.{no_groups}
 use Rattle.groups.proofs.Planned.{array_rooted, reading_none}
 use Rattle.groups.proofs.Placing.{length-groups, none-groups}
 use Rattle.groups.proofs.Checks.{ends_buffer, ends_grouped}
-use Rattle.groups.proofs.groups_read.Goals.{After-struct_known-1, Joined-p-eq0, Start, else-p-eq0, then-p-eq0}
+use Rattle.groups.proofs.groups_read.Goals.{After-struct_known-1, Joined-p-eq0, else-p-eq0, then-p-eq0}
 use Rattle.groups.proofs.groups_read.Goals as goal
 
--- what was read
-module _ (c : After-struct_known-1) where
-  abbrev start : Start
-  start = c.before
-  abbrev plan : List ℕ
-  plan = start.args.plan.now
-  facts : Accepted plan (accepted start.args.p.n start.args.p.kind start.args.p.limit)
-  facts = reading_accepted plan start.args.p start.pre
+facts : (c : After-struct_known-1) → Accepted c.args.plan.now (accepted c.args.p.n c.args.p.kind c.args.p.limit)
+facts c = reading_accepted c.args.plan.now c.args.p c.requires
 
 pub returns-then-groups-nodes : goal.returns-then-groups-nodes
 returns-then-groups-nodes c =
     let whole =
-        ends_buffer _ _ c.pre (omega (arith, c.if-groups-nodes.true)) in
+        ends_buffer _ _ c.requires (omega (arith, c.if-groups-nodes.true)) in
     record { answer = whole.0; bytes = whole.1 }
 
 pub put_none-requires : goal.put_none-requires
 put_none-requires c =
-    ((facts (goal.at.put_none-requires c).After-struct_known-1).n_high, omega (arith, c.if-groups-nodes.left))
+    ((facts (goal.at.put_none-requires c).After-struct_known-1).n_high, omega (arith, c.if-groups-nodes.false))
 
 pub words_64-requires : goal.words_64-requires
 words_64-requires c =
@@ -45,45 +39,40 @@ words_64-requires c =
 
 pub put_groups-requires : goal.put_groups-requires
 put_groups-requires c =
-    let s = start (goal.at.put_groups-requires c).After-struct_known-1 in
-    (rw c.words_64.ensures (array_rooted (plan (goal.at.put_groups-requires c).After-struct_known-1) s.args.p s.pre), omega (arith, c.if-groups-nodes.left))
+    (rw c.words_64.ensures (array_rooted c.args.plan.now c.args.p c.requires), omega (arith, c.if-groups-nodes.false))
 
--- what was written, whichever way it went
-module _ (c : Joined-p-eq0) where
-  abbrev read : After-struct_known-1
-  read = c.before
-  abbrev n : ℕ
-  n = (start read).args.p.n
-  abbrev h : ℕ → ℕ
-  h = at (helpands_of (plan read) n)
-  none_is : (start read).args.p.kind ≡ 0 → no_groups n ≡ groups_bytes n h
-  none_is z = none-groups n h (reading_none (plan read) (start read).args.p (start read).pre z)
-  written : c.if-p-eq0.groups-1 ≡ placed (groups_bytes n h) (start read).args.groups.now
-  written = elim c.if-p-eq0.branch [
-      | then-p-eq0 w ↦ w.5 ∙ w.2.ensures ∙ ap (λ (x : List ℕ). placed x (start read).args.groups.now) (none_is w.if-p-eq0.true)
+abbrev h : (c : Joined-p-eq0) → ℕ → ℕ
+h c = at (helpands_of c.args.plan.now c.args.p.n)
+
+none_is : (c : Joined-p-eq0) → c.args.p.kind ≡ 0 → no_groups c.args.p.n ≡ groups_bytes c.args.p.n (h c)
+none_is c z = none-groups c.args.p.n (h c) (reading_none c.args.plan.now c.args.p c.requires z)
+
+written : (c : Joined-p-eq0) → c.if-p-eq0.groups-1 ≡ placed (groups_bytes c.args.p.n (h c)) c.args.groups.now
+written c = elim c.if-p-eq0.branch [
+      | then-p-eq0 w ↦ w.5 ∙ w.2.ensures ∙ ap (λ (x : List ℕ). placed x c.args.groups.now) ((none_is c) w.if-p-eq0.true)
       | else-p-eq0 w ↦ w.6 ∙ w.3.ensures
-      ∙ ap (λ (x : ℕ → ℕ). placed (groups_bytes n x) (start read).args.groups.now)
-      (ap at w.2.ensures ∙ padded-same (helpands_of (plan read) n))
+    ∙ ap (λ (x : ℕ → ℕ). placed (groups_bytes c.args.p.n x) c.args.groups.now)
+    (ap at w.2.ensures ∙ padded-same (helpands_of c.args.plan.now c.args.p.n))
     ]
 
 pub returns : goal.returns
 returns c =
     let whole =
-        ends_grouped _ _ (start (goal.at.returns c).After-struct_known-1).pre (omega (arith, c.if-groups-nodes.left)) (written (goal.at.returns c).Joined-p-eq0) in
+        ends_grouped _ _ c.requires (omega (arith, c.if-groups-nodes.false)) (written (goal.at.returns c).Joined-p-eq0) in
     record { answer = whole.0; bytes = whole.1 }
 
 pub shape_of-groups : goal.shape_of-groups
 shape_of-groups c =
-    let out = (start (goal.at.shape_of-groups c).After-struct_known-1).args.groups.now in
-    let rec = groups_bytes (n (goal.at.shape_of-groups c).Joined-p-eq0) (h (goal.at.shape_of-groups c).Joined-p-eq0) in
-    let e : length rec ≤ length out = omega (arith, length-groups (n (goal.at.shape_of-groups c).Joined-p-eq0) (h (goal.at.shape_of-groups c).Joined-p-eq0), c.if-groups-nodes.false) in
+    let out = c.args.groups.now in
+    let rec = groups_bytes c.args.p.n (h (goal.at.shape_of-groups c).Joined-p-eq0) in
+    let e : length rec ≤ length out = omega (arith, length-groups c.args.p.n (h (goal.at.shape_of-groups c).Joined-p-eq0), c.if-groups-nodes.false) in
     ap length (written (goal.at.shape_of-groups c).Joined-p-eq0) ∙ length-append rec (drop (length rec) out) ∙ simp length-drop (omega arith)
 
 pub overflow_mul-result : goal.overflow_mul-result
-overflow_mul-result c = omega (arith, (facts (read (goal.at.overflow_mul-result c).Joined-p-eq0)).n_high)
+overflow_mul-result c = omega (arith, (facts (read c.before)).n_high)
 
 pub overflow_add-result : goal.overflow_add-result
-overflow_add-result c = omega (arith, (facts (read (goal.at.overflow_add-result c).Joined-p-eq0)).n_high)
+overflow_add-result c = omega (arith, (facts (read c.before)).n_high)
 
 pub overflow_mul-result-2 : goal.overflow_mul-result-2
-overflow_mul-result-2 c = omega (arith, (facts (read (goal.at.overflow_mul-result-2 c).Joined-p-eq0)).n_high)
+overflow_mul-result-2 c = omega (arith, (facts (read c.before)).n_high)

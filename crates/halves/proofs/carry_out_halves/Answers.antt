@@ -11,7 +11,7 @@ use Rattle.carry.specs.Carry.{carry_answer, next_after}
 use Rattle.carry.proofs.Sizes.{carry_inside}
 use Rattle.halves.specs.Halves.{HalfFirst}
 use Rattle.halves.proofs.Halves.{half_first}
-use Rattle.halves.proofs.carry_out_halves.Goals.{After-firrozka_carry_out-a, Start}
+use Rattle.halves.proofs.carry_out_halves.Goals.{After-firrozka_carry_out-a}
 use Rattle.halves.proofs.carry_out_halves.Goals as goal
 
 -- the request, of answers and buffers that are what the contracts say
@@ -20,15 +20,11 @@ handed-on : (s a b x y : List ℕ) (c d : WrittenAnswer) (x₁ y₁ : List ℕ)
     → d ≡ carry_answer (take c.bytes x₁) b (length y) → y₁ ≡ next_after (take c.bytes x₁) b y → HalfFirst s a b x y c d y₁
 handed-on s a b x y c d x₁ y₁ e f g h = rw (g, h, f, e) (half_first s a b x y)
 
--- the first call was answered
-module _ (c : After-firrozka_carry_out-a) where
-  abbrev start : Start
-  start = c.before
-  size-inside : c.firrozka_carry_out-a.result.bytes ≤ length start.args.between.now
-  size-inside =
-      let a = start.args in
-      let inside = carry_inside a.sheet.now a.first.now (length a.between.now) in
-      omega (arith, ap (λ (r : WrittenAnswer). r.bytes) c.firrozka_carry_out-a.ensures.0, inside)
+size-inside : (c : After-firrozka_carry_out-a) → c.firrozka_carry_out-a.result.bytes ≤ length c.args.between.now
+size-inside c =
+    let a = c.args in
+    let inside = carry_inside a.sheet.now a.first.now (length a.between.now) in
+    omega (arith, ap (λ (r : WrittenAnswer). r.bytes) c.firrozka_carry_out-a.ensures.answer, inside)
 
 pub firrozka_carry_out-a-requires : goal.firrozka_carry_out-a-requires
 firrozka_carry_out-a-requires c = ? c

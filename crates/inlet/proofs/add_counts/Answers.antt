@@ -6,7 +6,7 @@ use Rattle.limit.specs.Limit.{max_total, table_size}
 use Rattle.arrays.specs.Arrays.{at}
 use Rattle.inlet.specs.Inner.{Addable}
 use Rattle.inlet.proofs.Adding.{Adding, begin, end, index_below, fits, again}
-use Rattle.inlet.proofs.add_counts.Goals.{After-word_number, After-word_number-c, At-loop-i, In-loop-i, Start}
+use Rattle.inlet.proofs.add_counts.Goals.{After-word_number, At-loop-i}
 use Rattle.inlet.proofs.add_counts.Goals as goal
 
 pub loop-i-init : goal.loop-i-init
@@ -19,37 +19,28 @@ loop-i-init c =
 long : (l : At-loop-i) → let a = l.args in 4 * (3 + 2 * a.e) ≤ length a.s.now
 long l = l.loop-i.invariant.1.entries.long
 
--- ---- a turn: the cell and the count that were read
-module _ (c : After-word_number) where
-  abbrev cell-read : After-word_number-c
-  cell-read = c.before
-  abbrev turn : In-loop-i
-  turn = cell-read.before
-  abbrev start : Start
-  start = turn.before
-  abbrev head : At-loop-i
-  head = turn.before
-  below : cell-read.word_number-c.result < table_size
-  below =
-      let a = start.args in
-      let v = head.loop-i.inv in
-      index_below a.table.now a.s.now v.0 a.e v.1 head.loop-i.table-1 head.loop-i.i v.2 turn.loop-i-test.true
-      _ _ cell-read.word_number-c.ensures c.word_number.ensures
-  fits-here : at head.loop-i.table-1 cell-read.word_number-c.result + c.word_number.result ≤ max_total
-  fits-here =
-      let a = start.args in
-      let v = head.loop-i.inv in
-      fits a.table.now a.s.now v.0 a.e v.1 head.loop-i.table-1 head.loop-i.i v.2 turn.loop-i-test.true
-      _ _ cell-read.word_number-c.ensures c.word_number.ensures
+below : (c : After-word_number) → c.word_number-c.result < table_size
+below c =
+    let a = c.args in
+    let v = c.loop-i.inv in
+    index_below a.table.now a.s.now v.0 a.e v.1 c.loop-i.table-1 c.loop-i.i v.2 c.loop-i-test.true
+    _ _ c.word_number-c.ensures c.word_number.ensures
+
+fits-here : (c : After-word_number) → at c.loop-i.table-1 c.word_number-c.result + c.word_number.result ≤ max_total
+fits-here c =
+    let a = c.args in
+    let v = c.loop-i.inv in
+    fits a.table.now a.s.now v.0 a.e v.1 c.loop-i.table-1 c.loop-i.i v.2 c.loop-i-test.true
+    _ _ c.word_number-c.ensures c.word_number.ensures
 
 pub loop-i-preserved : goal.loop-i-preserved
 loop-i-preserved c =
-    let a = turn.args in
-    let l = turn.loop-i in
+    let a = c.args in
+    let l = c.loop-i in
     let v = l.inv in (
       v.0,
       v.1,
-      again a.table.now a.s.now v.0 a.e v.1 l.table l.i v.2 cell-read.loop-i-test.true _ _
+      again a.table.now a.s.now v.0 a.e v.1 l.table l.i v.2 c.loop-i-test.true _ _
           c.word_number-c.ensures c.word_number.ensures,
     )
 

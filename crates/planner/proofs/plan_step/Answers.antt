@@ -13,17 +13,8 @@ use Rattle.planner.specs.declared.OldPlan.{OldPlan}
 use Rattle.planner.specs.Step.{number_of, old_of, old_read}
 use Rattle.planner.specs.Inner.{StepRead}
 use Rattle.planner.proofs.Ways.{ends_sheet, ends_old, number_more, refusal_more}
-use Rattle.planner.proofs.plan_step.Goals.{After-read_old, After-read_sheet-reading, In-Accepted, In_default, Start}
+use Rattle.planner.proofs.plan_step.Goals.{After-read_old, In_default}
 use Rattle.planner.proofs.plan_step.Goals as goal
-
--- the sheet was read
-module _ (c : After-read_sheet-reading) where
-  abbrev start : Start
-  start = c.before
-  abbrev sheet : List ℕ
-  sheet = start.args.sheet.now
-  abbrev old : List ℕ
-  old = start.args.old.now
 
 -- it was refused: its number is not 0
 not-zero : (c : In_default) → (sheetAnswer c.read_sheet-reading.result).refusal ≢ 0
@@ -38,27 +29,19 @@ returns-in_default c =
     (c.not_read.ensures ∙ ends.0, ends.1) in
     record { answer = whole.0; plan = whole.1; moves = whole.2 }
 
--- it was accepted, and the old plan read
-module _ (c : After-read_old) where
-  abbrev reading : In-Accepted
-  reading = c.before
-  abbrev first : After-read_sheet-reading
-  first = reading.before
-  abbrev head : Sheet
-  head = reading.in-Accepted.s
-  sheet-read : sheetAnswer (Accepted head) ≡ read_sheet (sheet first)
-  sheet-read = ap sheetAnswer (sym reading.in-Accepted.is) ∙ first.read_sheet-reading.ensures
-  -- with a tree, or without one
-  both_read : (x : OldPlan) (tree : Bool) → c.read_old.result ≡ x → old_of x ≡ old_read tree → StepRead (sheet first) (old first) head tree
-  both_read x tree e f = record { sheet = sheet-read; old = sym c.read_old.ensures ∙ ap old_of e ∙ f }
+sheet-read : (c : After-read_old) → sheetAnswer (Accepted c.in-Accepted.s) ≡ read_sheet c.args.sheet.now
+sheet-read c = ap sheetAnswer (sym c.in-Accepted.is) ∙ c.read_sheet-reading.ensures
+
+-- with a tree, or without one
+both_read : (c : After-read_old) → (x : OldPlan) (tree : Bool) → c.read_old.result ≡ x → old_of x ≡ old_read tree → StepRead c.args.sheet.now c.args.old.now c.in-Accepted.s tree
+both_read c x tree e f = record { sheet = (sheet-read c); old = sym c.read_old.ensures ∙ ap old_of e ∙ f }
 
 pub returns-in-Refused : goal.returns-in-Refused
 returns-in-Refused c =
     let whole =
-        let r = c.r-1.given in
-    let refused = ap old_of (sym r.1) ∙ c.read_old.ensures in
-    ends_old _ _ _ _ reading.in-Accepted.s.n (ap (λ (x : SheetAnswer). x.refusal) (sheet-read (goal.at.returns-in-Refused c).After-read_old))
-    (ap (λ (x : SheetAnswer). x.n) (sheet-read (goal.at.returns-in-Refused c).After-read_old)) (number_of r.0.0) refused (number_more r.0.0) in
+        let refused = ap old_of (sym c.in-Refused.is) ∙ c.read_old.ensures in
+    ends_old _ _ _ _ c.in-Accepted.s.n (ap (λ (x : SheetAnswer). x.refusal) (sheet-read (goal.at.returns-in-Refused c).After-read_old))
+    (ap (λ (x : SheetAnswer). x.n) (sheet-read (goal.at.returns-in-Refused c).After-read_old)) (number_of c.in-Refused.r) refused (number_more c.in-Refused.r) in
     record { answer = whole.0; plan = whole.1; moves = whole.2 }
 
 pub not_read-requires : goal.not_read-requires

@@ -7,7 +7,7 @@ use Rattle.plan.specs.declared.PlanReading.TheVariants.{Accepted}
 use Rattle.plan.specs.Plan.{read_plan, answer_of, refusal_number}
 use Rattle.plan.proofs.Answers.{number_more}
 use Rattle.planner.proofs.Ways.{old_empty, old-refused, old_differs, old-primary, old-tree}
-use Rattle.planner.proofs.read_old.Goals.{Else-old-eq0, In-Accepted, Start}
+use Rattle.planner.proofs.read_old.Goals.{In-Accepted}
 use Rattle.planner.proofs.read_old.Goals as goal
 
 pub returns-then-old-eq0 : goal.returns-then-old-eq0
@@ -15,18 +15,12 @@ returns-then-old-eq0 c =
     let a = c.args in
     old_empty a.old.now a.n c.if-old-eq0.true
 
--- the plan was accepted
-module _ (c : In-Accepted) where
-  abbrev full : Else-old-eq0
-  full = c.before
-  abbrev start : Start
-  start = full.before
-  plan_read : answer_of (Accepted c.in-Accepted.p) ≡ read_plan start.args.old.now
-  plan_read = ap answer_of (sym c.in-Accepted.is) ∙ c.read_plan.ensures
+plan_read : (c : In-Accepted) → answer_of (Accepted c.in-Accepted.p) ≡ read_plan c.args.old.now
+plan_read c = ap answer_of (sym c.in-Accepted.is) ∙ c.read_plan.ensures
 
 pub returns-then-p-n : goal.returns-then-p-n
 returns-then-p-n c =
-    old_differs full.args.old.now full.args.n c.if-old-eq0.false c.in-Accepted.p (plan_read (goal.at.returns-then-p-n c).In-Accepted) c.if-p-n.true
+    old_differs c.args.old.now c.args.n c.if-old-eq0.false c.in-Accepted.p (plan_read (goal.at.returns-then-p-n c).In-Accepted) c.if-p-n.true
 
 pub returns-in-Refused : goal.returns-in-Refused
 returns-in-Refused c =
@@ -38,8 +32,8 @@ returns-in-Refused c =
 
 pub returns-then-p-eq0 : goal.returns-then-p-eq0
 returns-then-p-eq0 c =
-    old-primary full.args.old.now full.args.n c.if-old-eq0.false _ (plan_read (goal.at.returns-then-p-eq0 c).In-Accepted) c.if-p-n.false c.if-p-eq0.true
+    old-primary c.args.old.now c.args.n c.if-old-eq0.false _ (plan_read (goal.at.returns-then-p-eq0 c).In-Accepted) c.if-p-n.false c.if-p-eq0.true
 
 pub returns-else-p-eq0 : goal.returns-else-p-eq0
 returns-else-p-eq0 c =
-    old-tree full.args.old.now full.args.n c.if-old-eq0.false _ (plan_read (goal.at.returns-else-p-eq0 c).In-Accepted) c.if-p-n.false c.if-p-eq0.false
+    old-tree c.args.old.now c.args.n c.if-old-eq0.false _ (plan_read (goal.at.returns-else-p-eq0 c).In-Accepted) c.if-p-n.false c.if-p-eq0.false

@@ -11,28 +11,23 @@ use Rattle.plan.proofs.Writing.{length-plan}
 use Rattle.decide.specs.declared.Decision.{Decision}
 use Rattle.planner.specs.Step.{plan_record}
 use Rattle.planner.proofs.Ways.{writes_plan_short, writes_moves_short, writes_both}
-use Rattle.planner.proofs.write_records.Goals.{After-shared_slice_known-2-1, Start}
+use Rattle.planner.proofs.write_records.Goals.{After-shared_slice_known-2-1}
 use Rattle.planner.proofs.write_records.Goals as goal
 
--- before the first test
-module _ (c : After-shared_slice_known-2-1) where
-  abbrev start : Start
-  start = c.before
-  abbrev d : Decision
-  d = start.args.d
-  abbrev limit : ℕ
-  limit = start.args.limit
-  abbrev plan : List ℕ
-  plan = plan_record start.args.n limit d
-  abbrev moves : List ℕ
-  moves = moves_bytes start.args.n start.args.e start.args.routes.now start.args.counts.now
-  plan-size : length plan ≡ 4 * (3 + 2 * start.args.n)
-  plan-size =
-      let few = start.pre.0 in
-      let h : (length d.helpands ≡ 64) × (length d.shares ≡ 64) = search rules in
-      length-plan start.args.n d.kind limit d.helpands d.shares (omega (arith, few)) (omega (arith, few))
-  moves-size : length moves ≡ 4 * (2 + 2 * start.args.e)
-  moves-size = let q = start.pre in length-moves start.args.n start.args.e _ _ q.2 q.3
+abbrev plan : (c : After-shared_slice_known-2-1) → List ℕ
+plan c = plan_record c.args.n c.args.limit c.args.d
+
+abbrev moves : (c : After-shared_slice_known-2-1) → List ℕ
+moves c = moves_bytes c.args.n c.args.e c.args.routes.now c.args.counts.now
+
+plan-size : (c : After-shared_slice_known-2-1) → length (plan c) ≡ 4 * (3 + 2 * c.args.n)
+plan-size c =
+    let few = c.requires.0 in
+    let h : (length c.args.d.helpands ≡ 64) × (length c.args.d.shares ≡ 64) = search rules in
+    length-plan c.args.n c.args.d.kind c.args.limit c.args.d.helpands c.args.d.shares (omega (arith, few)) (omega (arith, few))
+
+moves-size : (c : After-shared_slice_known-2-1) → length (moves c) ≡ 4 * (2 + 2 * c.args.e)
+moves-size c = let q = c.requires in length-moves c.args.n c.args.e _ _ q.2 q.3
 
 pub returns-then-plan-plan_size : goal.returns-then-plan-plan_size
 returns-then-plan-plan_size c =

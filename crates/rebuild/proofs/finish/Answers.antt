@@ -15,7 +15,8 @@ use Rattle.rebuild.proofs.finish.Goals as goal
 -- the points that the facts below speak of: the start, and the loop's turn
 abbrev begun : At-loop-k → Start
 begun l =
-    l.before
+    let found = l.before in
+    found.before
 
 -- no node is in B
 pub returns-in_default : goal.returns-in_default

@@ -43,50 +43,54 @@ loop-l-init c =
     }
 
 -- where l is found
-module _ (c : In-At) where
-  abbrev head : At-loop-l
-  head =
-      c.before
-  abbrev start : Start
-  start = head.before
-  l_is : next_l start.args.nodes head.loop-l.s ≡ At c.in-At.l
-  l_is = sym c.smallest_in_a.ensures ∙ c.in-At.is
-  -- it is a node under its target
-  l_fits : (c.in-At.l < start.args.nodes) × (is head.loop-l.s.finished c.in-At.l ≡ false)
-      × (at head.loop-l.s.loads c.in-At.l < at head.loop-l.s.targets-targets c.in-At.l)
-  l_fits = next_l_lem start.args.nodes start.args.p start.pre.1 (at start.args.totals) head.loop-l.s c.in-At.l l_is
-  old-fits : at start.args.old c.in-At.l < start.args.nodes
-  old-fits = old_below start c.in-At.l l_fits.0
+abbrev head : (c : In-At) → At-loop-l
+head c =
+    c.before
+
+abbrev start : (c : In-At) → Start
+start c = (head c).before.before
+
+l_is : (c : In-At) → next_l (start c).args.nodes (head c).loop.s ≡ At c.in-At.l
+l_is c = sym c.smallest_in_a.ensures ∙ c.in-At.is
+
+-- it is a node under its target
+l_fits : (c : In-At) → (c.in-At.l < (start c).args.nodes) × (is (head c).loop.s.finished c.in-At.l ≡ false)
+    × (at (head c).loop.s.loads c.in-At.l < at (head c).loop.s.targets c.in-At.l)
+l_fits c = next_l_lem (start c).args.nodes (start c).args.p (start c).pre.1 (at (start c).args.totals) (head c).loop.s c.in-At.l (l_is c)
+
+old-fits : (c : In-At) → at (start c).args.t2 c.in-At.l < (start c).args.nodes
+old-fits c = old_below (start c) c.in-At.l (l_fits c).0
 
 abbrev found-l : After-choose-arg-in-At-2-1 → In-At
 found-l c =
     c.before
 
 -- where g is found too
-module _ (c : In-At-choose) where
-  abbrev l-found : In-At
-  l-found = found-l c.before
-  g_is : next_g (start l-found).args.nodes (start l-found).args.t2 (head l-found).loop.s l-found.in-At.l
-      ≡ At c.in-At-choose.g
-  g_is = sym c.choose.ensures ∙ c.in-At-choose.is
-  g_fits : Served (start l-found).args.nodes (head l-found).loop.s l-found.in-At.l c.in-At-choose.g
-  g_fits =
-      reached_served (start l-found).args.nodes (start l-found).args.p (start l-found).pre.1 (at (start l-found).args.totals)
-      (start l-found).args.t2 (old_below (start l-found))
-      _ (head l-found).loop.s (head l-found).loop.inv l-found.in-At.l c.in-At-choose.g (l_is l-found) g_is
+abbrev l-found : (c : In-At-choose) → In-At
+l-found c = found-l c.before
+
+g_is : (c : In-At-choose) → next_g (start (l-found c)).args.nodes (start (l-found c)).args.t2 (head (l-found c)).loop.s (l-found c).l.given.0.0
+    ≡ At c.in-At-choose.g
+g_is c = sym c.choose.ensures ∙ c.in-At-choose.is
+
+g_fits : (c : In-At-choose) → Served (start (l-found c)).args.nodes (head (l-found c)).loop.s (l-found c).l.given.0.0 c.in-At-choose.g
+g_fits c =
+    reached_served (start (l-found c)).args.nodes (start (l-found c)).args.p (start (l-found c)).pre.1 (at (start (l-found c)).args.totals)
+    (start (l-found c)).args.t2 (old_below (start (l-found c)))
+    _ (head (l-found c)).loop.s (head (l-found c)).loop.inv (l-found c).l.given.0.0 c.in-At-choose.g (l_is (l-found c)) (g_is c)
 
 pub loop-l-smaller : goal.loop-l-smaller
 loop-l-smaller c =
     let b = start (l-found (goal.at.loop-l-smaller c).In-At-choose) in
     rw c.turn-s.ensures
-    (reached-less b.args.nodes b.args.p b.pre.1 (at b.args.totals) b.args.old (old_below b) _ _
+    (reached-less b.args.nodes b.args.p b.requires.1 (at b.args.totals) b.args.old (old_below b) _ _
     (head (l-found (goal.at.loop-l-smaller c).In-At-choose)).loop.inv _ _ (l_is (l-found (goal.at.loop-l-smaller c).In-At-choose)) (g_is (goal.at.loop-l-smaller c).In-At-choose))
 
 pub loop-l-preserved : goal.loop-l-preserved
 loop-l-preserved c =
     let b = start (l-found (goal.at.loop-l-preserved c).In-At-choose) in
     rw c.turn-s.ensures
-    (reached-turn b.args.nodes b.args.p b.pre.1 (at b.args.totals) b.args.old (old_below b) _ _
+    (reached-turn b.args.nodes b.args.p b.requires.1 (at b.args.totals) b.args.old (old_below b) _ _
     (head (l-found (goal.at.loop-l-preserved c).In-At-choose)).loop.inv _ _ (l_is (l-found (goal.at.loop-l-preserved c).In-At-choose)) (g_is (goal.at.loop-l-preserved c).In-At-choose))
 
 pub returns : goal.returns

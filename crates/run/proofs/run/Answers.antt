@@ -27,7 +27,7 @@ within c = omega (arith, c.split-at.ensures, split-le c.args.input.now)
 pub returns : goal.returns
 returns c =
     let same = parts_text c.args.input.now c.split-at.result c.split-at.ensures in
-    record { size = c.step.ensures.0 ∙ ap length same; bytes = c.step.ensures.1 ∙ ap (λ (x : List ℕ). placed x c.args.out.now) same }
+    record { size = c.step.ensures.size ∙ ap length same; bytes = c.step.ensures.bytes ∙ ap (λ (x : List ℕ). placed x c.args.out.now) same }
 
 pub slice_bounds-step-end : goal.slice_bounds-step-end
 slice_bounds-step-end c = sym (length-take-le _ _ (within (goal.at.slice_bounds-step-end c).After-split-at))

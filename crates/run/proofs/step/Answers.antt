@@ -9,79 +9,69 @@ use lib.Seq.{length-take-le}
 use Rattle.words.specs.Buffer.{placed}
 use Rattle.run.specs.Run.{plan_size, moves_size}
 use Rattle.run.proofs.Planned.{Answered, number_text, plan_in_front, moves_in_front, fronts_printable, fronts_text}
-use Rattle.run.proofs.step.Goals.{After-answer-answer, After-plan-1, After-plan_step, Else-answer-ne0, Start}
+use Rattle.run.proofs.step.Goals.{After-answer-answer, Else-answer-ne0}
 use Rattle.run.proofs.step.Goals as goal
 
--- the step was planned or refused
-module _ (c : After-answer-answer) where
-  abbrev step : After-plan_step
-  step = c.before
-  abbrev lent : After-plan-1
-  lent = step.before
-  abbrev start : Start
-  start = lent.before
-  abbrev out : List ℕ
-  out = start.args.out.now
-  -- the two buffers, which began as zeros: the last of the four that were lent
-  abbrev plan : List ℕ
-  plan = let buffers = step.plan_step.last.1.1 in buffers.0
-  abbrev moves : List ℕ
-  moves = let buffers = step.plan_step.last.1.1 in buffers.1.0
-  answered : Answered start.args.sheet.now start.args.old.now c.answer-answer.result (replicate plan_size 0) (replicate moves_size 0)
-      plan moves
-  answered =
-      let e = step.plan_step.ensures in
-      record {
-        plan_long = length-replicate {A = ℕ} plan_size 0;
-        moves_long = length-replicate {A = ℕ} moves_size 0;
-        answer = c.answer-answer.ensures ∙ e.0;
-        plan_after_lem = e.1.0;
-        moves_after_lem = e.1.1;
-      }
+-- the two buffers, which began as zeros: the last of the four that were lent
+abbrev plan : (c : After-answer-answer) → List ℕ
+plan c = let buffers = c.plan_step.last.1.1 in buffers.0
+
+abbrev moves : (c : After-answer-answer) → List ℕ
+moves c = let buffers = c.plan_step.last.1.1 in buffers.1.0
+
+answered : (c : After-answer-answer) → Answered c.args.sheet.now c.args.old.now c.answer-answer.result (replicate plan_size 0) (replicate moves_size 0)
+    (plan c) (moves c)
+answered c =
+    let e = c.plan_step.ensures in
+    record {
+      plan_long = length-replicate {A = ℕ} plan_size 0;
+      moves_long = length-replicate {A = ℕ} moves_size 0;
+      answer = c.answer-answer.ensures ∙ e.0;
+      plan_after_lem = e.1.0;
+      moves_after_lem = e.1.1;
+    }
 
 pub returns-then-answer-ne0 : goal.returns-then-answer-ne0
 returns-then-answer-ne0 c =
     let same = number_text (answered (goal.at.returns-then-answer-ne0 c).After-answer-answer) c.if-answer-ne0.true in
-    record { size = c.write_refused.ensures.0 ∙ ap length same; bytes = c.write_refused.ensures.1 ∙ ap (λ (x : List ℕ). placed x start.args.out.now) same }
+    record { size = c.write_refused.ensures.size ∙ ap length same; bytes = c.write_refused.ensures.bytes ∙ ap (λ (x : List ℕ). placed x c.args.out.now) same }
 
 plan-within : (c : Else-answer-ne0) → c.answer-answer.result.plan-1 ≤ length (plan c)
 plan-within c =
-    let answered' : Answered start.args.sheet.now start.args.old.now c.answer-answer.result (replicate plan_size 0) (replicate moves_size 0)
-      plan moves =
-        let e = step.plan_step.ensures in
-      record {
-        plan_long = length-replicate {A = ℕ} plan_size 0;
-        moves_long = length-replicate {A = ℕ} moves_size 0;
-        answer = c.answer-answer.ensures ∙ e.0;
-        plan_after_lem = e.1.0;
-        moves_after_lem = e.1.1;
-      } in
+    let answered' : Answered c.args.sheet.now c.args.old.now c.answer-answer.result (replicate plan_size 0) (replicate moves_size 0)
+    (plan c) (moves c) =
+        let e = c.plan_step.ensures in
+    record {
+      plan_long = length-replicate {A = ℕ} plan_size 0;
+      moves_long = length-replicate {A = ℕ} moves_size 0;
+      answer = c.answer-answer.ensures ∙ e.0;
+      plan_after_lem = e.1.0;
+      moves_after_lem = e.1.1;
+    } in
     (plan_in_front answered' c.if-answer-ne0.false).within
 
 moves-within : (c : Else-answer-ne0) → c.answer-answer.result.moves-1 ≤ length (moves c)
 moves-within c =
-    let answered' : Answered start.args.sheet.now start.args.old.now c.answer-answer.result (replicate plan_size 0) (replicate moves_size 0)
-      plan moves =
-        let e = step.plan_step.ensures in
-      record {
-        plan_long = length-replicate {A = ℕ} plan_size 0;
-        moves_long = length-replicate {A = ℕ} moves_size 0;
-        answer = c.answer-answer.ensures ∙ e.0;
-        plan_after_lem = e.1.0;
-        moves_after_lem = e.1.1;
-      } in
+    let answered' : Answered c.args.sheet.now c.args.old.now c.answer-answer.result (replicate plan_size 0) (replicate moves_size 0)
+    (plan c) (moves c) =
+        let e = c.plan_step.ensures in
+    record {
+      plan_long = length-replicate {A = ℕ} plan_size 0;
+      moves_long = length-replicate {A = ℕ} moves_size 0;
+      answer = c.answer-answer.ensures ∙ e.0;
+      plan_after_lem = e.1.0;
+      moves_after_lem = e.1.1;
+    } in
     (moves_in_front answered' c.if-answer-ne0.false).within
 
 pub write_records-requires : goal.write_records-requires
 write_records-requires c =
-    let e = c.before in
-    (fronts_printable (answered (planned e)) e.if-answer-ne0.left, (start (planned e)).pre)
+    (fronts_printable (answered (goal.at.write_records-requires c).After-answer-answer) c.if-answer-ne0.false, c.requires)
 
 pub returns : goal.returns
 returns c =
-    let e = c.before in
-    let same = fronts_text (answered (planned e)) e.if-answer-ne0.left in
-    record { size = c.write_records.ensures.0 ∙ ap length same; bytes = c.write_records.ensures.1 ∙ ap (λ (x : List ℕ). placed x (out (planned e))) same }
+    let same = fronts_text (answered (goal.at.returns c).After-answer-answer) c.if-answer-ne0.false in
+    record { size = c.write_records.ensures.size ∙ ap length same; bytes = c.write_records.ensures.bytes ∙ ap (λ (x : List ℕ). placed x c.args.out.now) same }
 
 pub slice_bounds-plan-end : goal.slice_bounds-plan-end
 slice_bounds-plan-end c = plan-within (goal.at.slice_bounds-plan-end c).Else-answer-ne0

@@ -18,52 +18,50 @@ use Rattle.transfer.specs.Inner.{Allotted}
 use Rattle.sheet.specs.Totals.{totals_in}
 use Rattle.run.proofs.Lines.{moves-few, text_same}
 use Rattle.arrays.proofs.Padded.{padded-same}
-use Rattle.run.proofs.write_records.Goals.{After-get_words, After-get_words-2, After-word_number-e, After-word_number-limit, After-word_number-nodes, After-words_64-shares, Start}
+use Rattle.run.proofs.write_records.Goals.{After-word_number-e, After-word_number-limit, After-word_number-nodes, After-words_64-shares, Start}
 use Rattle.run.proofs.write_records.Goals as goal
 
-module _ (b : Start) where
-  abbrev sheet₀ : List ℕ
-  sheet₀ = b.args.sheet.now
-  abbrev plan₀ : List ℕ
-  plan₀ = b.args.plan.now
-  abbrev moves₀ : List ℕ
-  moves₀ = b.args.moves.now
-  accepted : plan.Accepted plan₀ (read_plan plan₀)
-  accepted = plan.plan-accepted plan₀ b.pre.0.plan
-  moves-accepted : moves.Accepted moves₀ (read_moves moves₀)
-  moves-accepted = moves.moves-accepted moves₀ b.pre.0.moves
-  few : (read_moves moves₀).e ≤ 4032
-  few = moves-few sheet₀ plan₀ moves₀ b.pre.0
+abbrev sheet₀ : (b : Start) → List ℕ
+sheet₀ b = b.args.sheet.now
+
+abbrev plan₀ : (b : Start) → List ℕ
+plan₀ b = b.args.plan.now
+
+abbrev moves₀ : (b : Start) → List ℕ
+moves₀ b = b.args.moves.now
+
+accepted : (b : Start) → plan.Accepted (plan₀ b) (read_plan (plan₀ b))
+accepted b = plan.plan-accepted (plan₀ b) b.requires.0.plan
+
+moves-accepted : (b : Start) → moves.Accepted (moves₀ b) (read_moves (moves₀ b))
+moves-accepted b = moves.moves-accepted (moves₀ b) b.requires.0.moves
+
+few : (b : Start) → (read_moves (moves₀ b)).e ≤ 4032
+few b = moves-few (sheet₀ b) (plan₀ b) (moves₀ b) b.requires.0
 
 -- N was read
-module _ (w : After-word_number-nodes) where
-  abbrev start₁ : Start
-  start₁ = w.before
-  nodes-is : w.word_number-nodes.result ≡ (read_plan (plan₀ start₁)).n
-  nodes-is = w.word_number-nodes.ensures ∙ sym (accepted start₁).n_is
+abbrev start₁ : (w : After-word_number-nodes) → Start
+start₁ w = w.before
+
+nodes-is : (w : After-word_number-nodes) → w.word_number-nodes.result ≡ (read_plan (plan₀ (start₁ w))).n
+nodes-is w = w.word_number-nodes.ensures ∙ sym (accepted (start₁ w)).n_is
 
 -- all words of the plan were read
-module _ (w : After-words_64-shares) where
-  abbrev limit-read : After-word_number-limit
-  limit-read = w.before
-  abbrev first : After-word_number-nodes
-  first = limit-read.before
+abbrev limit-read : (w : After-words_64-shares) → After-word_number-limit
+limit-read w = w.before
+
+abbrev first : (w : After-words_64-shares) → After-word_number-nodes
+first w = (limit-read w).before.before
 
 -- and what is left to the owners, and E
-module _ (w : After-word_number-e) where
-  abbrev arrays : After-words_64-shares
-  arrays = w.before
-  abbrev start₄ : Start
-  start₄ = start₁ (first arrays)
-  moves-is : w.word_number-e.result ≡ (read_moves (moves₀ start₄)).e
-  moves-is = w.word_number-e.ensures ∙ sym (moves-accepted start₄).e_is
+abbrev arrays : (w : After-word_number-e) → After-words_64-shares
+arrays w = w.before
 
--- and the routes and counts
-module _ (c : After-get_words-2) where
-  abbrev routes-read : After-get_words
-  routes-read = c.before
-  abbrev e-read : After-word_number-e
-  e-read = routes-read.before
+abbrev start₄ : (w : After-word_number-e) → Start
+start₄ w = start₁ (first (arrays w))
+
+moves-is : (w : After-word_number-e) → w.word_number-e.result ≡ (read_moves (moves₀ (start₄ w))).e
+moves-is w = w.word_number-e.ensures ∙ sym (moves-accepted (start₄ w)).e_is
 
 -- what own_of asks, of arrays that were read
 allotted-read : (s p : List ℕ) (n : ℕ) (helpands shares : List ℕ) → n ≡ (read_plan p).n
@@ -86,29 +84,27 @@ front_long xs ws a first e l f =
 
 pub write_step-requires : goal.write_step-requires
 write_step-requires c =
-    let w = routes-read.before in
-    let b = start₄ w in
-    let n = nodes-is (first (arrays w)) in
-    let e = moves-is w in
+    let b = start₄ (goal.at.write_step-requires c).After-word_number-e in
+    let n = nodes-is (first (arrays (goal.at.write_step-requires c).After-word_number-e)) in
+    let e = moves-is (goal.at.write_step-requires c).After-word_number-e in
     let l = moves.words_are (moves₀ b) (read_moves (moves₀ b)) (moves-accepted b) in (
       omega (arith, n, (accepted b).n_high),
       front_long _ (words (moves₀ b)) _ 2 _ (omega (arith, e, l)) c.get_words.ensures,
-      front_long _ (words (moves₀ b)) _ (2 + w.word_number-e.result) _ (omega (arith, e, l)) c.get_words-2.ensures,
-      omega (arith, n, e, (accepted b).n_high, few b, b.pre.1),
+      front_long _ (words (moves₀ b)) _ (2 + c.word_number-e.result) _ (omega (arith, e, l)) c.get_words-2.ensures,
+      omega (arith, n, e, (accepted b).n_high, few b, b.requires.1),
     )
 
 pub returns : goal.returns
 returns c =
-    let w = routes-read.before in
-    let b = start₄ w in
-    let x = arrays w in
+    let b = start₄ (goal.at.returns c).After-word_number-e in
+    let x = arrays (goal.at.returns c).After-word_number-e in
     let same =
-    text_same (sheet₀ b) (plan₀ b) (moves₀ b) b.pre.0 _ _ _ _ _ _ _ _ _ _ _ (nodes-is (first x)) (moves-is w)
-    x.words_64-helpands.ensures x.words_64-shares.ensures w.own_of_lem.ensures c.get_words.ensures
+    text_same (sheet₀ b) (plan₀ b) (moves₀ b) b.requires.0 _ _ _ _ _ _ _ _ _ _ _ (nodes-is (first x)) (moves-is (goal.at.returns c).After-word_number-e)
+    x.words_64-helpands.ensures x.words_64-shares.ensures c.own_of_lem.ensures c.get_words.ensures
     c.get_words-2.ensures
     ((limit-read x).before.word-number2.ensures ∙ sym (accepted b).kind_is)
     ((limit-read x).word-number3.ensures ∙ sym (accepted b).limit_is) in
-    record { size = c.write_step.ensures.0 ∙ ap length same; bytes = c.write_step.ensures.1 ∙ ap (λ (x : List ℕ). placed x b.args.out.now) same }
+    record { size = c.write_step.ensures.size ∙ ap length same; bytes = c.write_step.ensures.bytes ∙ ap (λ (x : List ℕ). placed x b.args.out.now) same }
 
 -- N words of the plan, and E of the moves, can be read
 words_requires : (w : After-word_number-nodes)

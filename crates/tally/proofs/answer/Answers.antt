@@ -9,8 +9,7 @@ use Rattle.tally.proofs.answer.Goals as goal
 
 pub returns-in-Holding : goal.returns-in-Holding
 returns-in-Holding c =
-    let t = c.t-1.given in
-    ap (λ (x : ℕ). record { refusal = 0; holds = x }) (bool-number t.0.0) ∙ sym (ap answer_of t.1)
+    ap (λ (x : ℕ). record { refusal = 0; holds = x }) (bool-number c.in-Holding.holds) ∙ sym (ap answer_of c.in-Holding.is)
 
 pub returns-in-Refused : goal.returns-in-Refused
 returns-in-Refused c = ap refused c.number.ensures ∙ sym (ap answer_of c.in-Refused.is)

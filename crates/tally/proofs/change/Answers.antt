@@ -12,7 +12,7 @@ use Rattle.tally.specs.declared.Head.{Head}
 use Rattle.tally.specs.Layout.{total_at, count_at}
 use Rattle.tally.specs.Inner.{named, amount_number, checked_number}
 use Rattle.tally.proofs.Calling.{ends_unnamed, ends_amounts, ends_changed, few, named-holder, named-subdomain, changeable, total_countable}
-use Rattle.tally.proofs.change.Goals.{After-cell, After-check_amounts, Else-not-is_named, In-Passed, Start}
+use Rattle.tally.proofs.change.Goals.{After-cell, After-check_amounts, Else-not-is_named, In-Passed}
 use Rattle.tally.proofs.change.Goals as goal
 
 pub returns-then-not-is_named : goal.returns-then-not-is_named
@@ -22,90 +22,63 @@ returns-then-not-is_named c =
     (sym c.is_named.ensures ∙ c.if-not-is_named.true) in
     (rw c.answer.ensures x.0, x.1)
 
--- the call names a cell
-module _ (c : Else-not-is_named) where
-  abbrev start : Start
-  start = c.before
-  abbrev head : Head
-  head = start.args.h
-  abbrev cells : List ℕ
-  cells = start.args.cells.now
-  abbrev adds : Bool
-  adds = start.args.adds
-  abbrev holder : ℕ
-  holder = start.args.holder
-  abbrev subdomain : ℕ
-  subdomain = start.args.subdomain
-  abbrev count : ℕ
-  count = start.args.count
-  is-named : named head.n (at head.helpands-1) holder subdomain count ≡ true
-  is-named = sym c.is_named.ensures ∙ c.if-not-is_named.false
-  holder-below : holder < 64
-  holder-below = named-holder head cells adds holder subdomain count is-named
-  subdomain_below : subdomain < 64
-  subdomain_below = named-subdomain head cells adds holder subdomain count is-named
-  -- what the checks of the amounts say
-  abbrev amounts : ℕ
-  amounts = amount_number (count_at cells (cell holder subdomain)) (total_at cells subdomain) head.total count adds
+is-named : (c : Else-not-is_named) → named c.args.h.n (at c.args.h.helpands-1) c.args.holder c.args.subdomain c.args.count ≡ true
+is-named c = sym c.is_named.ensures ∙ c.if-not-is_named.false
+
+holder-below : (c : Else-not-is_named) → c.args.holder < 64
+holder-below c = named-holder c.args.h c.args.cells.now c.args.adds c.args.holder c.args.subdomain c.args.count (is-named c)
+
+subdomain_below : (c : Else-not-is_named) → c.args.subdomain < 64
+subdomain_below c = named-subdomain c.args.h c.args.cells.now c.args.adds c.args.holder c.args.subdomain c.args.count (is-named c)
+
+-- what the checks of the amounts say
+abbrev amounts : (c : Else-not-is_named) → ℕ
+amounts c = amount_number (count_at c.args.cells.now (cell c.args.holder c.args.subdomain)) (total_at c.args.cells.now c.args.subdomain) c.args.h.total c.args.count c.args.adds
 
 cell_below : (c : After-cell) → 128 + c.cell.result < 4224
 cell_below c =
-    let holder-below' : start.args.holder < 64 =
-        named-holder start.args.h start.args.cells.now start.args.adds start.args.holder start.args.subdomain start.args.count is-named in
-    let subdomain_below' : start.args.subdomain < 64 =
-        named-subdomain start.args.h start.args.cells.now start.args.adds start.args.holder start.args.subdomain start.args.count is-named in
+    let holder-below' : c.args.holder < 64 =
+        named-holder c.args.h c.args.cells.now c.args.adds c.args.holder c.args.subdomain c.args.count (is-named c) in
+    let subdomain_below' : c.args.subdomain < 64 =
+        named-subdomain c.args.h c.args.cells.now c.args.adds c.args.holder c.args.subdomain c.args.count (is-named c) in
     omega (arith, c.cell.ensures, holder-below', subdomain_below')
 
--- the amounts were checked
-module _ (c : After-check_amounts) where
-  abbrev at-cell : After-cell
-  at-cell = c.before
-  abbrev past-named : Else-not-is_named
-  past-named = at-cell.before
-  checked : checked_number c.check_amounts.result ≡ amounts past-named
-  checked =
-      let p = past-named in
-      c.check_amounts.ensures
-      ∙ ap (λ (x : ℕ). amount_number (count_at (cells p) x) (total_at (cells p) (subdomain p)) (head p).total (count p) (adds p))
-      at-cell.cell.ensures
+checked : (c : After-check_amounts) → checked_number c.check_amounts.result ≡ amounts c
+checked c =
+    c.check_amounts.ensures
+    ∙ ap (λ (x : ℕ). amount_number (count_at c.args.cells.now x) (total_at c.args.cells.now c.args.subdomain) c.args.h.total c.args.count c.args.adds)
+    c.cell.ensures
 
 pub returns-in-Refused : goal.returns-in-Refused
 returns-in-Refused c =
-    let r = c.r-1.given in
-    let p = at-cell.before in
-    let x = ends_amounts (head p) (cells p) (adds p) (holder p) (subdomain p) (count p) (is-named p) r.0.0
-    (ap checked_number (sym r.1) ∙ checked (goal.at.returns-in-Refused c).After-check_amounts) in
+    let x = ends_amounts c.args.h c.args.cells.now c.args.adds c.args.holder c.args.subdomain c.args.count (is-named (goal.at.returns-in-Refused c).Else-not-is_named) c.in-Refused.r
+    (ap checked_number (sym c.in-Refused.is) ∙ checked (goal.at.returns-in-Refused c).After-check_amounts) in
     (rw c.answer-in-Refused.ensures x.0, x.1)
 
--- they pass
-module _ (c : In-Passed) where
-  abbrev named-call : Else-not-is_named
-  named-call = past-named c.before
-  passed : 0 ≡ amounts named-call
-  passed = ap checked_number (sym c.in-Passed.is) ∙ checked c.before
+passed : (c : In-Passed) → 0 ≡ amounts c
+passed c =
+    let checked' : checked_number c.check_amounts.result ≡ amounts c =
+    c.check_amounts.ensures
+    ∙ ap (λ (x : ℕ). amount_number (count_at c.args.cells.now x) (total_at c.args.cells.now c.args.subdomain) c.args.h.total c.args.count c.args.adds)
+    c.cell.ensures in
+    ap checked_number (sym c.in-Passed.is) ∙ checked'
 
 pub change_cells-requires : goal.change_cells-requires
 change_cells-requires c =
-    let p = named-call (goal.at.change_cells-requires c).In-Passed in
-    changeable (head p) (cells p) (adds p) (holder p) (subdomain p) (count p) (is-named p) (passed (goal.at.change_cells-requires c).In-Passed)
+    changeable c.args.h c.args.cells.now c.args.adds c.args.holder c.args.subdomain c.args.count (is-named (goal.at.change_cells-requires c).Else-not-is_named) (passed (goal.at.change_cells-requires c).In-Passed)
 
 pub holds-requires : goal.holds-requires
 holds-requires c =
-    let p = named-call (goal.at.holds-requires c).In-Passed in
-    few (head p) (cells p) (adds p) (holder p) (subdomain p) (count p) (is-named p)
+    few c.args.h c.args.cells.now c.args.adds c.args.holder c.args.subdomain c.args.count (is-named (goal.at.holds-requires c).Else-not-is_named)
 
 pub count_in-requires : goal.count_in-requires
 count_in-requires c =
-    let p = named-call (goal.at.count_in-requires c).In-Passed in
-    total_countable (head p) (cells p) (adds p) (holder p) (subdomain p) (count p) (is-named p) (passed (goal.at.count_in-requires c).In-Passed)
+    total_countable c.args.h c.args.cells.now c.args.adds c.args.holder c.args.subdomain c.args.count (is-named (goal.at.count_in-requires c).Else-not-is_named) (passed (goal.at.count_in-requires c).In-Passed)
 
 pub returns-in-Passed : goal.returns-in-Passed
 returns-in-Passed c =
-    let m = c.before in
-    let e = m in
-    let p = named-call (goal.at.returns-in-Passed c).In-Passed in
-    let x = ends_changed (head p) (cells p) (adds p) (holder p) (subdomain p) (count p) (is-named p) (passed (goal.at.returns-in-Passed c).In-Passed)
-    m.change_cells.ensures in
+    let x = ends_changed c.args.h c.args.cells.now c.args.adds c.args.holder c.args.subdomain c.args.count (is-named (goal.at.returns-in-Passed c).Else-not-is_named) (passed (goal.at.returns-in-Passed c).In-Passed)
+    c.change_cells.ensures in
     (rw (c.answer-in-Passed.ensures, c.holds.ensures, c.count_in.ensures) x.0, x.1)
 
 pub cell-requires : goal.cell-requires

@@ -7,8 +7,7 @@ use Rattle.tally.proofs.open.Goals as goal
 
 pub returns-in-Refused : goal.returns-in-Refused
 returns-in-Refused c =
-    let r = c.r-1.given in
-    let x = ends_refused _ _ r.0.0 (pair-refused _ _ c.read_pair.ensures r.1) in
+    let x = ends_refused _ _ c.in-Refused.r (pair-refused _ _ c.read_pair.ensures c.in-Refused.is) in
     (c.open_refused.ensures.0 ∙ x.0, c.open_refused.ensures.1 ∙ x.1)
 
 pub open_read-requires : goal.open_read-requires

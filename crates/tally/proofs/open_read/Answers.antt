@@ -9,35 +9,28 @@ use Rattle.sheet.proofs.Accepted.{Accepted, sheet_unpackable}
 use Rattle.plan.proofs.Accepted.{plan-accepted}
 use Rattle.weigh.proofs.Checks.{facts, sum-within, array_tree}
 use Rattle.tally.proofs.Opening.{ends_opened}
-use Rattle.tally.proofs.open_read.Goals.{After-struct_known-2-1, Start}
+use Rattle.tally.proofs.open_read.Goals.{After-struct_known-2-1}
 use Rattle.tally.proofs.open_read.Goals as goal
 
-module _ (c : After-struct_known-2-1) where
-  abbrev start : Start
-  start = c.before
-  abbrev sheet : List ℕ
-  sheet = start.args.sheet.now
-  abbrev plan : List ℕ
-  plan = start.args.plan.now
-  read : let s = start.args.s in Accepted sheet (accepted s.n s.t s.e s.p s.limit)
-  read = facts sheet plan start.args.s start.pre
+read : (c : After-struct_known-2-1) → let s = c.args.s in Accepted c.args.sheet.now (accepted s.n s.t s.e s.p s.limit)
+read c = facts c.args.sheet.now c.args.plan.now c.args.s c.requires
 
 pub totals-totals-requires : goal.totals-totals-requires
 totals-totals-requires c =
-    ((read (goal.at.totals-totals-requires c).After-struct_known-2-1).n_high, rw c.unpack-table.ensures (sum-within start.args.sheet.now start.args.plan.now c.args.s c.requires))
+    ((read (goal.at.totals-totals-requires c).After-struct_known-2-1).n_high, rw c.unpack-table.ensures (sum-within c.args.sheet.now c.args.plan.now c.args.s c.requires))
 
 pub words_64-helpands-requires : goal.words_64-helpands-requires
 words_64-helpands-requires c =
     let w = c.requires in
-    (omega (arith, (plan-accepted start.args.plan.now w.plan).size, w.nodes), (read (goal.at.words_64-helpands-requires c).After-struct_known-2-1).n_high)
+    (omega (arith, (plan-accepted c.args.plan.now w.plan).size, w.nodes), (read (goal.at.words_64-helpands-requires c).After-struct_known-2-1).n_high)
 
 pub tree_leasts-leasts-requires : goal.tree_leasts-leasts-requires
 tree_leasts-leasts-requires c =
-    ((read (goal.at.tree_leasts-leasts-requires c).After-struct_known-2-1).n_high, rw c.words_64-helpands.ensures (array_tree start.args.sheet.now start.args.plan.now c.args.s c.requires))
+    ((read (goal.at.tree_leasts-leasts-requires c).After-struct_known-2-1).n_high, rw c.words_64-helpands.ensures (array_tree c.args.sheet.now c.args.plan.now c.args.s c.requires))
 
 pub returns : goal.returns
 returns c =
-    let x = ends_opened c.pre c.unpack-table.ensures c.totals-totals.ensures c.words_64-helpands.ensures
+    let x = ends_opened c.requires c.unpack-table.ensures c.totals-totals.ensures c.words_64-helpands.ensures
     c.tree_leasts-leasts.ensures c.lay_out.ensures in
     (rw (c.answer.ensures, c.holds-holds.ensures) x.0, x.1)
 

@@ -12,7 +12,7 @@ use Rattle.moves.specs.Moves.{sender, receiver, routes_of, counts_of}
 use Rattle.transfer.specs.Apply.{moved}
 use Rattle.transfer.proofs.Applied.{Entry, entry_read, moved_from, moved-from-none, moved-from_more, moved-from-here, plus-at}
 use Rattle.transfer.proofs.Counts.{moved-most}
-use Rattle.traffic.proofs.count_traffic.Goals.{After-receiver, After-sender, After-word_number-count, At-loop-i, In-loop-i, Start}
+use Rattle.traffic.proofs.count_traffic.Goals.{After-receiver, After-sender, After-word_number-count}
 use Rattle.traffic.proofs.count_traffic.Invariants.{Column}
 use Rattle.traffic.proofs.count_traffic.Goals as goal
 
@@ -49,58 +49,42 @@ loop-i-init c =
     let a = c.args in
     (omega arith, none sender a.moves.now a.e, none receiver a.moves.now a.e)
 
--- ---- the entry that was read
-module _ (c : After-word_number-count) where
-  abbrev turn : In-loop-i
-  turn = c.before
-  abbrev head : At-loop-i
-  head = turn.before
-  abbrev start : Start
-  start = head.before
-  abbrev route : ℕ
-  route = c.word_number-r.result
-  abbrev count : ℕ
-  count = c.word_number-count.result
-  read : Entry start.args.moves.now start.args.e head.loop-i.i route count
-  read =
-      entry_read _ _ _ start.pre.entries turn.loop-i-test.true _ _ c.word_number-r.ensures c.word_number-count.ensures
+read : (c : After-word_number-count) → Entry c.args.moves.now c.args.e c.loop-i.i c.word_number-r.result c.word_number-count.result
+read c =
+    entry_read _ _ _ c.requires.entries c.loop-i-test.true _ _ c.word_number-r.ensures c.word_number-count.ensures
 
--- the sender was taken from it
-module _ (c : After-sender) where
-  abbrev entry : After-word_number-count
-  entry = c.before
-  sender-lt : c.sender.result < 64
-  sender-lt = omega (arith, c.sender.ensures)
-  sent-fits : at (head entry).loop.sent c.sender.result + count entry ≤ max_total
-  sent-fits =
-      let l = (head entry).loop in
-      let a = (start entry).args in
-      fits sender a.moves.now a.e l.sent l.i l.inv.1 (route entry) (count entry) (read entry) (start entry).pre.small
-      c.sender.result c.sender.ensures
+sender-lt : (c : After-sender) → c.sender.result < 64
+sender-lt c = omega (arith, c.sender.ensures)
 
--- and the receiver
-module _ (c : After-receiver) where
-  abbrev before : After-sender
-  before = c.before
-  receiver-lt : c.receiver.result < 64
-  receiver-lt = omega (arith, c.receiver.ensures)
-  received-fits : at (head (entry before)).loop.received c.receiver.result + count (entry before) ≤ max_total
-  received-fits =
-      let w = entry before in
-      let l = (head w).loop in
-      let a = (start w).args in
-      fits receiver a.moves.now a.e l.received l.i l.inv.2 (route w) (count w) (read w) (start w).pre.small
-      c.receiver.result c.receiver.ensures
+sent-fits : (c : After-sender) → at c.loop-i.sent c.sender.result + c.word_number-count.result ≤ max_total
+sent-fits c =
+    let read' : Entry c.args.moves.now c.args.e c.loop-i.i c.word_number-r.result c.word_number-count.result =
+        entry_read _ _ _ c.requires.entries c.loop-i-test.true _ _ c.word_number-r.ensures c.word_number-count.ensures in
+    let l = c.loop-i in
+    let a = c.args in
+    fits sender a.moves.now a.e l.sent l.i l.inv.1 c.word_number-r.result c.word_number-count.result read' c.requires.small
+    c.sender.result c.sender.ensures
+
+receiver-lt : (c : After-receiver) → c.receiver.result < 64
+receiver-lt c = omega (arith, c.receiver.ensures)
+
+received-fits : (c : After-receiver) → at c.loop-i.received c.receiver.result + c.word_number-count.result ≤ max_total
+received-fits c =
+    let read' : Entry c.args.moves.now c.args.e c.loop-i.i c.word_number-r.result c.word_number-count.result =
+        entry_read _ _ _ c.requires.entries c.loop-i-test.true _ _ c.word_number-r.ensures c.word_number-count.ensures in
+    let l = c.loop-i in
+    let a = c.args in
+    fits receiver a.moves.now a.e l.received l.i l.inv.2 c.word_number-r.result c.word_number-count.result read' c.requires.small
+    c.receiver.result c.receiver.ensures
 
 pub loop-i-preserved : goal.loop-i-preserved
 loop-i-preserved c =
-    let w = entry (goal.at.loop-i-preserved c).After-sender in
-    let l = (head w).loop in
-    let a = (start w).args in (
-      omega (arith, (turn w).loop-test.taken),
-      after sender a.moves.now a.e l.sent l.i l.inv.1 (route w) (count w) (read w) c.sender.result
+    let l = c.loop-i in
+    let a = c.args in (
+      omega (arith, c.loop-i-test.true),
+      after sender a.moves.now a.e l.sent l.i l.inv.1 c.word_number-r.result c.word_number-count.result (read (goal.at.loop-i-preserved c).After-word_number-count) c.sender.result
           c.sender.ensures (omega arith),
-      after receiver a.moves.now a.e l.received l.i l.inv.2 (route w) (count w) (read w) c.receiver.result
+      after receiver a.moves.now a.e l.received l.i l.inv.2 c.word_number-r.result c.word_number-count.result (read (goal.at.loop-i-preserved c).After-word_number-count) c.receiver.result
           c.receiver.ensures (omega arith),
     )
 

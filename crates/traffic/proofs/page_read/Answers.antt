@@ -12,83 +12,59 @@ use Rattle.sheet.proofs.Accepted.{sheet_unpackable}
 use Rattle.carry.specs.Checks.{within_in}
 use Rattle.carry.proofs.Checks.{sheet_facts, ready, within-is}
 use Rattle.traffic.proofs.Printed.{countable, sums_fit, ends_sends, ends_short, ends_printed}
-use Rattle.traffic.proofs.page_read.Goals.{After-count_traffic-t, After-struct_known-3-1, After-subtract_sends, After-unpack-table, Else-not-subtract_sends, Else-page-size, Start}
+use Rattle.traffic.proofs.page_read.Goals.{After-struct_known-3-1, After-subtract_sends, After-unpack-table, Else-not-subtract_sends}
 use Rattle.traffic.proofs.page_read.Goals as goal
 
--- the table of the sheet
-module _ (c : After-unpack-table) where
-  abbrev start : Start
-  start = c.before
-  abbrev sheet : List ℕ
-  sheet = start.args.sheet.now
-  abbrev moves : List ℕ
-  moves = start.args.moves.now
-  abbrev page : List ℕ
-  page = start.args.page.now
-  n_high : start.args.s.n ≤ max_nodes
-  n_high = (sheet_facts start.pre).n_high
+n_high : (c : After-unpack-table) → c.args.s.n ≤ max_nodes
+n_high c = (sheet_facts c.requires).n_high
 
 pub subtract_sends-requires : goal.subtract_sends-requires
 subtract_sends-requires c =
     ready c.requires c.unpack-table.ensures
 
--- the sends were taken from it
-module _ (c : After-subtract_sends) where
-  abbrev read : After-unpack-table
-  read = c.before
-  within-here : c.subtract_sends.result ≡ within_in (sheet read) (moves read)
-  within-here = c.subtract_sends.ensures.0 ∙ within-is (start read).pre read.unpack-table.ensures
+within-here : (c : After-subtract_sends) → c.subtract_sends.result ≡ within_in c.args.sheet.now c.args.moves.now
+within-here c = c.subtract_sends.ensures.answer ∙ within-is c.requires c.unpack-table.ensures
 
 pub returns-then-not-subtract_sends : goal.returns-then-not-subtract_sends
 returns-then-not-subtract_sends c =
     let whole =
-        ends_sends (start (goal.at.returns-then-not-subtract_sends c).After-unpack-table).pre _ (sym (within-here (goal.at.returns-then-not-subtract_sends c).After-subtract_sends) ∙ c.if-not-subtract_sends.true) in
+        ends_sends c.requires _ (sym (within-here (goal.at.returns-then-not-subtract_sends c).After-subtract_sends) ∙ c.if-not-subtract_sends.true) in
     record { answer = whole.0; bytes = whole.1 }
 
--- past 42
-module _ (c : Else-not-subtract_sends) where
-  abbrev u₀ : After-unpack-table
-  u₀ = read c.before
-  within : within_in (sheet u₀) (moves u₀) ≡ true
-  within = sym (within-here c.before) ∙ c.if-not-subtract_sends.false
+within : (c : Else-not-subtract_sends) → within_in c.args.sheet.now c.args.moves.now ≡ true
+within c =
+    let within-here' : c.subtract_sends.result ≡ within_in c.args.sheet.now c.args.moves.now =
+        c.subtract_sends.ensures.answer ∙ within-is c.requires c.unpack-table.ensures in
+    sym within-here' ∙ c.if-not-subtract_sends.false
 
 pub returns-then-page-size : goal.returns-then-page-size
 returns-then-page-size c =
     let whole =
-        ends_short (start (u₀ (goal.at.returns-then-page-size c).Else-not-subtract_sends)).pre (page (u₀ (goal.at.returns-then-page-size c).Else-not-subtract_sends)) (within (goal.at.returns-then-page-size c).Else-not-subtract_sends) (omega (arith, c.if-page-size.true)) in
+        ends_short c.requires c.args.page.now (within (goal.at.returns-then-page-size c).Else-not-subtract_sends) (omega (arith, c.if-page-size.true)) in
     record { answer = whole.0; bytes = whole.1 }
 
 pub count_traffic-t-requires : goal.count_traffic-t-requires
 count_traffic-t-requires c =
-    countable (start (u₀ (goal.at.count_traffic-t-requires c).Else-not-subtract_sends)).pre (page (u₀ (goal.at.count_traffic-t-requires c).Else-not-subtract_sends)) (within (goal.at.count_traffic-t-requires c).Else-not-subtract_sends)
-
--- the buffer is long enough, and the traffic was added up
-module _ (c : After-count_traffic-t) where
-  abbrev long : Else-page-size
-  long = c.before
-  abbrev passed : Else-not-subtract_sends
-  passed = long.before
+    countable c.requires c.args.page.now (within (goal.at.count_traffic-t-requires c).Else-not-subtract_sends)
 
 pub put_page-requires : goal.put_page-requires
 put_page-requires c =
-    let p = long.before in
-    let r = (start (u₀ p)).pre in
-    let fit = sums_fit r (page (u₀ p)) (within p) c.count_traffic-t.ensures in
-    (n_high (u₀ p), fit.0, fit.1, omega (arith, c.if-page-size.false))
+    let r = c.requires in
+    let fit = sums_fit r c.args.page.now (within (goal.at.put_page-requires c).Else-not-subtract_sends) c.count_traffic-t.ensures in
+    (n_high (goal.at.put_page-requires c).After-unpack-table, fit.0, fit.1, omega (arith, c.if-page-size.false))
 
 pub returns : goal.returns
 returns c =
-    let p = long.before in
-    let x = ends_printed (start (u₀ p)).pre (page (u₀ p)) (within p) c.count_traffic-t.ensures
+    let x = ends_printed c.requires c.args.page.now (within (goal.at.returns c).Else-not-subtract_sends) c.count_traffic-t.ensures
     (omega (arith, c.if-page-size.false)) in
     record { answer = x.0; bytes = c.put_page.ensures ∙ x.1 }
 
 -- N is at most 64, so that the page's length fits
-size_fits : (c : After-struct_known-3-1) → (start (u₀ c.before)).args.s.n ≤ max_nodes
+size_fits : (c : After-struct_known-3-1) → c.args.s.n ≤ max_nodes
 size_fits c =
-    let u₀' : After-unpack-table =
-        read c.before in
-    n_high u₀'
+    let n_high' : c.args.s.n ≤ max_nodes =
+        (sheet_facts c.requires).n_high in
+    n_high'
 
 pub unpack-table-requires : goal.unpack-table-requires
 unpack-table-requires c = (_, sheet_unpackable _ _ (sheet_facts c.requires))
@@ -97,4 +73,4 @@ pub overflow_mul-size : goal.overflow_mul-size
 overflow_mul-size c = omega (arith, size_fits (goal.at.overflow_mul-size c).After-struct_known-3-1)
 
 pub overflow_cast-result : goal.overflow_cast-result
-overflow_cast-result c = omega (arith, size_fits (long (goal.at.overflow_cast-result c).After-count_traffic-t).before)
+overflow_cast-result c = omega (arith, size_fits (long c.before).before)

@@ -8,8 +8,7 @@ use Rattle.weigh.proofs.answer.Goals as goal
 
 pub returns-in-Weighed : goal.returns-in-Weighed
 returns-in-Weighed c =
-    let w = c.w-1.given in
-    ap (λ (x : ℕ). record { refusal = 0; holds = x }) (bool-number w.0.0) ∙ sym (ap answer_of w.1)
+    ap (λ (x : ℕ). record { refusal = 0; holds = x }) (bool-number c.in-Weighed.holds) ∙ sym (ap answer_of c.in-Weighed.is)
 
 pub returns-in-Refused : goal.returns-in-Refused
 returns-in-Refused c = ap refused c.number.ensures ∙ sym (ap answer_of c.in-Refused.is)

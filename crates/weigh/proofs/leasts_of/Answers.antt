@@ -9,36 +9,29 @@ use Rattle.sheet.proofs.Accepted.{Accepted, sheet_unpackable}
 use Rattle.plan.proofs.Accepted.{plan-accepted}
 use Rattle.weigh.proofs.Checks.{facts, sum-within, array_tree}
 use Rattle.weigh.proofs.Weighed.{leasts-read}
-use Rattle.weigh.proofs.leasts_of.Goals.{After-struct_known-2-1, Start}
+use Rattle.weigh.proofs.leasts_of.Goals.{After-struct_known-2-1}
 use Rattle.weigh.proofs.leasts_of.Goals as goal
 
-module _ (c : After-struct_known-2-1) where
-  abbrev start : Start
-  start = c.before
-  abbrev sheet : List ℕ
-  sheet = start.args.sheet.now
-  abbrev plan : List ℕ
-  plan = start.args.plan.now
-  read : let s = start.args.s in Accepted sheet (accepted s.n s.t s.e s.p s.limit)
-  read = facts sheet plan start.args.s start.pre
+read : (c : After-struct_known-2-1) → let s = c.args.s in Accepted c.args.sheet.now (accepted s.n s.t s.e s.p s.limit)
+read c = facts c.args.sheet.now c.args.plan.now c.args.s c.requires
 
 pub unpack-table-requires : goal.unpack-table-requires
 unpack-table-requires c = (_, sheet_unpackable _ _ (read (goal.at.unpack-table-requires c).After-struct_known-2-1))
 
 pub totals-totals-requires : goal.totals-totals-requires
 totals-totals-requires c =
-    ((read (goal.at.totals-totals-requires c).After-struct_known-2-1).n_high, rw c.unpack-table.ensures (sum-within start.args.sheet.now start.args.plan.now c.args.s c.requires))
+    ((read (goal.at.totals-totals-requires c).After-struct_known-2-1).n_high, rw c.unpack-table.ensures (sum-within c.args.sheet.now c.args.plan.now c.args.s c.requires))
 
 pub words_64-helpands-requires : goal.words_64-helpands-requires
 words_64-helpands-requires c =
     let w = c.requires in
-    (omega (arith, (plan-accepted start.args.plan.now w.plan).size, w.nodes), (read (goal.at.words_64-helpands-requires c).After-struct_known-2-1).n_high)
+    (omega (arith, (plan-accepted c.args.plan.now w.plan).size, w.nodes), (read (goal.at.words_64-helpands-requires c).After-struct_known-2-1).n_high)
 
 pub tree_leasts-requires : goal.tree_leasts-requires
 tree_leasts-requires c =
-    ((read (goal.at.tree_leasts-requires c).After-struct_known-2-1).n_high, rw c.words_64-helpands.ensures (array_tree start.args.sheet.now start.args.plan.now c.args.s c.requires))
+    ((read (goal.at.tree_leasts-requires c).After-struct_known-2-1).n_high, rw c.words_64-helpands.ensures (array_tree c.args.sheet.now c.args.plan.now c.args.s c.requires))
 
 pub returns : goal.returns
 returns c =
-    leasts-read start.args.sheet.now start.args.plan.now c.args.s c.requires c.unpack-table.result c.totals-totals.result c.words_64-helpands.result
+    leasts-read c.args.sheet.now c.args.plan.now c.args.s c.requires c.unpack-table.result c.totals-totals.result c.words_64-helpands.result
     c.tree_leasts.result c.unpack-table.ensures c.totals-totals.ensures c.words_64-helpands.ensures c.tree_leasts.ensures

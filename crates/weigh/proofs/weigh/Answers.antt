@@ -14,42 +14,27 @@ use Rattle.plan.proofs.Answers.{number_more as plan-more}
 use Rattle.weigh.specs.declared.check.CheckRefusal.TheVariants.{Sheet, Plan}
 use Rattle.weigh.proofs.Checks.{stops_sheet, stops_plan}
 use Rattle.weigh.proofs.Weighed.{ends_refused}
-use Rattle.weigh.proofs.weigh.Goals.{After-read_plan, After-read_sheet, In-Accepted, Start}
+use Rattle.weigh.proofs.weigh.Goals.{After-read_plan}
 use Rattle.weigh.proofs.weigh.Goals as goal
-
--- the sheet was read
-module _ (c : After-read_sheet) where
-  abbrev start : Start
-  start = c.before
-  abbrev sheet : List ℕ
-  sheet = start.args.sheet.now
 
 pub returns-in-Refused : goal.returns-in-Refused
 returns-in-Refused c =
     let whole =
-        let r = c.r-1.given in
-    ends_refused _ _ _ (Sheet r.0.0)
-    (stops_sheet _ _ (sheetNumber r.0.0)
-    (ap (λ (x : SheetAnswer). x.refusal) (ap sheetAnswer (sym r.1) ∙ c.read_sheet.ensures))
-    (λ z. omega (arith, sheet-more r.0.0))) in
+        ends_refused _ _ _ (Sheet c.in-Refused.r)
+    (stops_sheet _ _ (sheetNumber c.in-Refused.r)
+    (ap (λ (x : SheetAnswer). x.refusal) (ap sheetAnswer (sym c.in-Refused.is) ∙ c.read_sheet.ensures))
+    (λ z. omega (arith, sheet-more c.in-Refused.r))) in
     record { answer = whole.0; bytes = whole.1 }
 
--- it was accepted, and the plan was read
-module _ (c : After-read_plan) where
-  abbrev accepted : In-Accepted
-  accepted = c.before
-  abbrev first : After-read_sheet
-  first = accepted.before
-  sheet-read : sheetAnswer (sheet-way.Accepted accepted.in-Accepted.s) ≡ read_sheet (sheet first)
-  sheet-read = ap sheetAnswer (sym accepted.in-Accepted.is) ∙ first.read_sheet.ensures
+sheet-read : (c : After-read_plan) → sheetAnswer (sheet-way.Accepted c.in-Accepted.s) ≡ read_sheet c.args.sheet.now
+sheet-read c = ap sheetAnswer (sym c.in-Accepted.is) ∙ c.read_sheet.ensures
 
 pub returns-in-Refused-read_plan : goal.returns-in-Refused-read_plan
 returns-in-Refused-read_plan c =
     let whole =
-        let r = c.r-in-Refused-read_plan-1.given in
-    ends_refused _ _ _ (Plan r.0.0)
-    (stops_plan _ _ (ap (λ (x : SheetAnswer). x.refusal) (sheet-read (goal.at.returns-in-Refused-read_plan c).After-read_plan)) (planNumber r.0.0)
-    (ap (λ (x : PlanAnswer). x.refusal) (ap planAnswer (sym r.1) ∙ c.read_plan.ensures)) (λ z. omega (arith, plan-more r.0.0))) in
+        ends_refused _ _ _ (Plan c.in-Refused-read_plan.r)
+    (stops_plan _ _ (ap (λ (x : SheetAnswer). x.refusal) (sheet-read (goal.at.returns-in-Refused-read_plan c).After-read_plan)) (planNumber c.in-Refused-read_plan.r)
+    (ap (λ (x : PlanAnswer). x.refusal) (ap planAnswer (sym c.in-Refused-read_plan.is) ∙ c.read_plan.ensures)) (λ z. omega (arith, plan-more c.in-Refused-read_plan.r))) in
     record { answer = whole.0; bytes = whole.1 }
 
 pub weigh_read-requires : goal.weigh_read-requires

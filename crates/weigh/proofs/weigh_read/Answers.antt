@@ -14,44 +14,30 @@ use Rattle.weigh.specs.Weigh.{weighed, least_in}
 use Rattle.weigh.specs.Inner.{Weighable}
 use Rattle.weigh.proofs.Checks.{stops_differ, stops_primary, stops_nowhere, facts}
 use Rattle.weigh.proofs.Weighed.{ends_refused, ends_short, ends_weighed}
-use Rattle.weigh.proofs.weigh_read.Goals.{After-leasts_of-leasts, After-struct_known-2-1, Else-p-eq0, Start}
+use Rattle.weigh.proofs.weigh_read.Goals.{After-leasts_of-leasts, Else-p-eq0}
 use Rattle.weigh.proofs.weigh_read.Goals as goal
-
--- before the first check
-module _ (c : After-struct_known-2-1) where
-  abbrev start : Start
-  start = c.before
-  abbrev sheet : List ℕ
-  sheet = start.args.sheet.now
-  abbrev plan : List ℕ
-  plan = start.args.plan.now
-  abbrev head : Sheet
-  head = start.args.s
 
 pub returns-then-s-p : goal.returns-then-s-p
 returns-then-s-p c =
     let whole =
-        let r = c.pre in
+        let r = c.requires in
     ends_refused _ _ _ NodesDiffer (stops_differ _ _ r.sheet r.plan c.if-s-p.true) in
     record { answer = whole.0; bytes = whole.1 }
 
 pub returns-then-p-eq0 : goal.returns-then-p-eq0
 returns-then-p-eq0 c =
     let whole =
-        let r = c.pre in
+        let r = c.requires in
     ends_refused _ _ _ Primary (stops_primary _ _ r.sheet r.plan c.if-s-p.false c.if-p-eq0.true) in
     record { answer = whole.0; bytes = whole.1 }
 
--- past 24
-module _ (c : Else-p-eq0) where
-  abbrev begun : After-struct_known-2-1
-  begun = c.before
-  can_weigh : Weighable (sheet begun) (plan begun) (head begun)
-  can_weigh =
-      let r = (start begun).pre in
-      stops_nowhere _ _ r.sheet r.plan c.if-s-p.false c.if-p-eq0.false
-  few : (head begun).n ≤ max_nodes
-  few = (facts (sheet begun) (plan begun) (head begun) can_weigh).n_high
+can_weigh : (c : Else-p-eq0) → Weighable c.args.sheet.now c.args.plan.now c.args.s
+can_weigh c =
+    let r = c.requires in
+    stops_nowhere _ _ r.sheet r.plan c.if-s-p.false c.if-p-eq0.false
+
+few : (c : Else-p-eq0) → c.args.s.n ≤ max_nodes
+few c = (facts c.args.sheet.now c.args.plan.now c.args.s (can_weigh c)).n_high
 
 pub returns-then-least-nodes : goal.returns-then-least-nodes
 returns-then-least-nodes c =
@@ -62,18 +48,14 @@ returns-then-least-nodes c =
 -- the leasts were worked out
 long : (c : After-leasts_of-leasts) → length c.leasts_of-leasts.result ≡ 64
 long c =
-    let few' : (head c.before).n ≤ max_nodes =
-        (facts (sheet c.before) (plan c.before) (head c.before) can_weigh).n_high in
-    let t = c.before in
-    let b = begun t in
-    ap length c.leasts_of-leasts.ensures ∙ length-tabulate (head b).n (least_in (sheet b) (plan b)) few'
+    let few' : c.args.s.n ≤ max_nodes =
+        (facts c.args.sheet.now c.args.plan.now c.args.s (can_weigh c)).n_high in
+    ap length c.leasts_of-leasts.ensures ∙ length-tabulate c.args.s.n (least_in c.args.sheet.now c.args.plan.now) few'
 
 pub returns : goal.returns
 returns c =
-    let w = c.before in
-    let l = w in
-    let x = ends_weighed (can_weigh (tree l.before)) _ l.if-least-nodes.left l.leasts_of-leasts.ensures in
-    record { answer = ap weighed c.holds.ensures ∙ x.0; bytes = w.put_words.ensures ∙ x.1 }
+    let x = ends_weighed (can_weigh (goal.at.returns c).Else-p-eq0) _ c.if-least-nodes.false c.leasts_of-leasts.ensures in
+    record { answer = ap weighed c.holds.ensures ∙ x.0; bytes = c.put_words.ensures ∙ x.1 }
 
 pub leasts_of-leasts-requires : goal.leasts_of-leasts-requires
 leasts_of-leasts-requires c = can_weigh (tree c)

@@ -14,7 +14,7 @@ use Rattle.words.specs.declared.WrittenAnswer.{WrittenAnswer}
 use Rattle.archive.specs.Archive.{nodes_in, tolerance_in, sheet_from}
 use Rattle.archive.specs.Inner.{HeadRead}
 use Rattle.archive.proofs.Checks.{ends_length, ends_nodes, ends_tolerance, head-passes}
-use Rattle.archive.proofs.read.read_archive.Goals.{After-word_number-t, Else-archive-ne-ARCHIVE_SIZE, Else-not-one_to, Else-not-one_to-2, Start}
+use Rattle.archive.proofs.read.read_archive.Goals.{After-word_number-t, Else-not-one_to, Else-not-one_to-2}
 use Rattle.archive.proofs.read.read_archive.Goals as goal
 
 pub returns-then-archive-ne-ARCHIVE_SIZE : goal.returns-then-archive-ne-ARCHIVE_SIZE
@@ -23,58 +23,43 @@ returns-then-archive-ne-ARCHIVE_SIZE c =
         ends_length _ _ c.if-archive-ne-ARCHIVE_SIZE.true in
     record { answer = whole.0; bytes = whole.1 }
 
--- N and t were read
-module _ (c : After-word_number-t) where
-  abbrev long : Else-archive-ne-ARCHIVE_SIZE
-  long = c.before
-  abbrev start : Start
-  start = long.before
-  abbrev a₀ : List ℕ
-  a₀ = start.args.archive.now
-  abbrev out₀ : List ℕ
-  out₀ = start.args.sheet.now
-  nodes_are : c.word_number-n.result ≡ nodes_in a₀
-  nodes_are = c.word_number-n.ensures
-  tolerance-is : c.word_number-t.result ≡ tolerance_in a₀
-  tolerance-is = c.word_number-t.ensures
+nodes_are : (c : After-word_number-t) → c.word_number-n.result ≡ nodes_in c.args.archive.now
+nodes_are c = c.word_number-n.ensures
+
+tolerance-is : (c : After-word_number-t) → c.word_number-t.result ≡ tolerance_in c.args.archive.now
+tolerance-is c = c.word_number-t.ensures
 
 pub returns-then-not-one_to : goal.returns-then-not-one_to
 returns-then-not-one_to c =
     let whole =
-        ends_nodes start.args.archive.now start.args.sheet.now c.if-archive-ne-ARCHIVE_SIZE.false
+        ends_nodes c.args.archive.now c.args.sheet.now c.if-archive-ne-ARCHIVE_SIZE.false
     (ap (one_to max_nodes) (sym (nodes_are (goal.at.returns-then-not-one_to c).After-word_number-t)) ∙ sym c.one_to.ensures ∙ c.if-not-one_to.true) in
     record { answer = whole.0; bytes = whole.1 }
 
--- N is in its range
-module _ (c : Else-not-one_to) where
-  abbrev read : After-word_number-t
-  read = c.before
-  nodes_fine : one_to max_nodes read.word_number-n.result ≡ true
-  nodes_fine = sym c.one_to.ensures ∙ c.if-not-one_to.false
+nodes_fine : (c : Else-not-one_to) → one_to max_nodes c.word_number-n.result ≡ true
+nodes_fine c = sym c.one_to.ensures ∙ c.if-not-one_to.false
 
 pub returns-then-not-one_to-2 : goal.returns-then-not-one_to-2
 returns-then-not-one_to-2 c =
     let whole =
-        ends_tolerance (a₀ (goal.at.returns-then-not-one_to-2 c).After-word_number-t) (out₀ (goal.at.returns-then-not-one_to-2 c).After-word_number-t) (long (goal.at.returns-then-not-one_to-2 c).After-word_number-t).if1.left (ap (one_to max_nodes) (sym (nodes_are (goal.at.returns-then-not-one_to-2 c).After-word_number-t)) ∙ nodes_fine (goal.at.returns-then-not-one_to-2 c).Else-not-one_to)
+        ends_tolerance c.args.archive.now c.args.sheet.now c.if-archive-ne-ARCHIVE_SIZE.false (ap (one_to max_nodes) (sym (nodes_are (goal.at.returns-then-not-one_to-2 c).After-word_number-t)) ∙ nodes_fine (goal.at.returns-then-not-one_to-2 c).Else-not-one_to)
     (ap (one_to max_tolerance) (sym (tolerance-is (goal.at.returns-then-not-one_to-2 c).After-word_number-t)) ∙ sym c.one_to-2.ensures ∙ c.if-not-one_to-2.true) in
     record { answer = whole.0; bytes = whole.1 }
 
 -- and t too
 head_read : (c : Else-not-one_to-2) →
-    let w = c.before in
-    HeadRead (a₀ w) w.word_number-n.result w.word_number-t.result
+    HeadRead c.args.archive.now c.word_number-n.result c.word_number-t.result
 head_read c =
-    let nodes_are' : c.word_number-n.result ≡ nodes_in start.args.archive.now =
+    let nodes_are' : c.word_number-n.result ≡ nodes_in c.args.archive.now =
         c.word_number-n.ensures in
-    let tolerance-is' : c.word_number-t.result ≡ tolerance_in start.args.archive.now =
+    let tolerance-is' : c.word_number-t.result ≡ tolerance_in c.args.archive.now =
         c.word_number-t.ensures in
-    let nodes_fine' : one_to max_nodes read.word_number-n.result ≡ true =
+    let nodes_fine' : one_to max_nodes c.word_number-n.result ≡ true =
         sym c.one_to.ensures ∙ c.if-not-one_to.false in
-    let w = c.before in
-    let nodes = one-to-is max_nodes w.word_number-n.result nodes_fine' in
-    let tolerance = one-to-is max_tolerance w.word_number-t.result (sym c.one_to-2.ensures ∙ c.if-not-one_to-2.false) in
+    let nodes = one-to-is max_nodes c.word_number-n.result nodes_fine' in
+    let tolerance = one-to-is max_tolerance c.word_number-t.result (sym c.one_to-2.ensures ∙ c.if-not-one_to-2.false) in
     record {
-      size = (long w).if1.left;
+      size = c.if-archive-ne-ARCHIVE_SIZE.false;
       n_is = nodes_are';
       t_is = tolerance-is';
       n_low = nodes.0;
@@ -85,9 +70,9 @@ head_read c =
 
 pub returns : goal.returns
 returns c =
-    let e = sym (head-passes (a₀ (goal.at.returns c).After-word_number-t) (length (out₀ (goal.at.returns c).After-word_number-t)) (head_read (goal.at.returns c).Else-not-one_to-2)) in
+    let e = sym (head-passes c.args.archive.now (length c.args.sheet.now) (head_read (goal.at.returns c).Else-not-one_to-2)) in
     let x = c.read_counts.ensures in
-    record { answer = x.0 ∙ e; bytes = x.1 ∙ ap (λ (k : WrittenAnswer). after_call k.refusal (sheet_from (a₀ (goal.at.returns c).After-word_number-t)) (out₀ (goal.at.returns c).After-word_number-t)) e }
+    record { answer = x.0 ∙ e; bytes = x.1 ∙ ap (λ (k : WrittenAnswer). after_call k.refusal (sheet_from c.args.archive.now) c.args.sheet.now) e }
 
 pub read_counts-requires : goal.read_counts-requires
 read_counts-requires c = head_read (goal.at.read_counts-requires c).Else-not-one_to-2

@@ -18,13 +18,14 @@ pub loop-c-init : goal.loop-c-init
 loop-c-init c = (omega arith, c.requires.1, length-replicate {A = ℕ} 4096 0, λ k h. absurd (omega arith))
 
 -- what is read from the array is the cell's position
-module _ (c : In-loop-c) where
-  abbrev p : ℕ
-  p = at c.args.positions.now c.loop-c.c
-  is : p ≡ position_of c.loop-c.c
-  is = c.loop-c.invariant.1 c.loop-c.c c.loop-c-test.true
-  below : p < table_size
-  below = omega (arith, is, position-below c.loop-c.c)
+abbrev p : (c : In-loop-c) → ℕ
+p c = at c.args.positions.now c.loop-c.c
+
+is : (c : In-loop-c) → (p c) ≡ position_of c.loop-c.c
+is c = c.loop-c.invariant.1 c.loop-c.c c.loop-c-test.true
+
+below : (c : In-loop-c) → (p c) < table_size
+below c = omega (arith, (is c), position-below c.loop-c.c)
 
 pub loop-c-preserved : goal.loop-c-preserved
 loop-c-preserved c =

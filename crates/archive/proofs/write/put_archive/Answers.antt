@@ -14,7 +14,7 @@ use Rattle.archive.specs.ZOrder.{position_of, Positions}
 use Rattle.archive.specs.Archive.{archive_size, no_counts, archive_bytes}
 use Rattle.archive.proofs.Bits.{position-below}
 use Rattle.archive.proofs.Storing.{Storing, begin, end, index_below, again, put_count}
-use Rattle.archive.proofs.write.put_archive.Goals.{After-put_word, After-word_number, After-word_number-c, At-loop-i, Start}
+use Rattle.archive.proofs.write.put_archive.Goals.{After-put_word, After-word_number-c}
 use Rattle.archive.proofs.write.put_archive.Goals as goal
 
 pub loop-i-init : goal.loop-i-init
@@ -23,57 +23,47 @@ loop-i-init c =
     let a = c.args in
     (no_counts, p, c.positions-positions.ensures, omega arith, refl, begin a.s.now a.n a.e p, λ base e. e)
 
--- ---- a turn: the cell that was read, and its position
-module _ (c : After-word_number-c) where
-  abbrev head : At-loop-i
-  head = c.before
-  abbrev begun : Start
-  begun = start head.before
-  abbrev x : ℕ
-  x = c.word_number-c.result
-  -- all entries are there
-  long : 4 * (3 + 2 * begun.args.e) ≤ length begun.args.s.now
-  long = begun.pre.0.long
-  below : x < table_size
-  below =
-      let a = begun.args in
-      let v = head.loop-i.inv in
-      index_below a.s.now a.n a.e v.1 v.0 head.loop-i.i v.5 c.loop-i-test.true x
-      (get_or (words a.s.now) (3 + a.e + head.loop-i.i) 0) c.word_number-c.ensures refl
-  abbrev p : ℕ
-  p = at head.positions-positions.result x
-  p-is : p ≡ position_of x
-  p-is = head.loop-i.inv.2 x below
-  p-below : p < table_size
-  p-below = omega (arith, p-is, position-below x)
+-- all entries are there
+long : (c : After-word_number-c) → 4 * (3 + 2 * c.args.e) ≤ length c.args.s.now
+long c = c.requires.0.long
 
--- its count was read and stored there
-module _ (c : After-put_word) where
-  abbrev counted : After-word_number
-  counted = c.before
-  abbrev cell-read : After-word_number-c
-  cell-read = counted.before
-  abbrev k : ℕ
-  k = counted.word_number.result
-  stored : c.put_word.new.0 ≡ put_word (head cell-read).loop.out (4 * (2 + position_of (x cell-read))) k
-  stored = c.put_word.ensures ∙ ap (λ (q : ℕ). put_word (head cell-read).loop.out (4 * (2 + q)) k) (p-is cell-read)
+below : (c : After-word_number-c) → c.word_number-c.result < table_size
+below c =
+    let a = c.args in
+    let v = c.loop-i.inv in
+    index_below a.s.now a.n a.e v.1 v.0 c.loop-i.i v.5 c.loop-i-test.true c.word_number-c.result
+    (get_or (words a.s.now) (3 + a.e + c.loop-i.i) 0) c.word_number-c.ensures refl
+
+abbrev p : (c : After-word_number-c) → ℕ
+p c = at c.positions-positions.result c.word_number-c.result
+
+p-is : (c : After-word_number-c) → (p c) ≡ position_of c.word_number-c.result
+p-is c = c.loop-i.inv.2 c.word_number-c.result (below c)
+
+p-below : (c : After-word_number-c) → (p c) < table_size
+p-below c = omega (arith, (p-is c), position-below c.word_number-c.result)
+
+stored : (c : After-put_word) → c.put_word.new.0 ≡ put_word c.loop-i.out-1 (4 * (2 + position_of c.word_number-c.result)) c.word_number.result
+stored c =
+    let p-is' : (p c) ≡ position_of c.word_number-c.result =
+        c.loop-i.inv.2 c.word_number-c.result (below c) in
+    c.put_word.ensures ∙ ap (λ (q : ℕ). put_word c.loop-i.out-1 (4 * (2 + q)) c.word_number.result) p-is'
 
 pub loop-i-preserved : goal.loop-i-preserved
 loop-i-preserved c =
-    let r = counted.before in
-    let a = (begun r).args in
-    let l = (head r).loop in
+    let a = c.args in
+    let l = c.loop-i in
     let v = l.inv in
-    let size = ap length (stored (goal.at.loop-i-preserved c).After-put_word) ∙ length_put l.out (4 * (2 + position_of (x r))) counted.word_number.result in (
-      set v.0 (position_of (x r)) counted.word_number.result,
+    let size = ap length (stored (goal.at.loop-i-preserved c).After-put_word) ∙ length_put l.out (4 * (2 + position_of c.word_number-c.result)) c.word_number.result in (
+      set v.0 (position_of c.word_number-c.result) c.word_number.result,
       v.1,
       v.2,
       omega (arith, size, v.3),
       size ∙ v.4,
-      again a.s.now a.n a.e v.1 v.0 l.i v.5 r.loop-i-test.true (x r) counted.word_number.result r.word_number-c.ensures
+      again a.s.now a.n a.e v.1 v.0 l.i v.5 c.loop-i-test.true c.word_number-c.result c.word_number.result c.word_number-c.ensures
           c.word_number.ensures,
-      λ base e. stored (goal.at.loop-i-preserved c).After-put_word ∙ ap (λ (o : List ℕ). put_word o (4 * (2 + position_of (x r))) counted.word_number.result) (v.6 base e)
-          ∙ put_count base a.n a.t v.0 (x r) counted.word_number.result v.5.size,
+      λ base e. stored (goal.at.loop-i-preserved c).After-put_word ∙ ap (λ (o : List ℕ). put_word o (4 * (2 + position_of c.word_number-c.result)) c.word_number.result) (v.6 base e)
+          ∙ put_count base a.n a.t v.0 c.word_number-c.result c.word_number.result v.5.size,
     )
 
 pub returns : goal.returns
@@ -105,4 +95,4 @@ pub word_number-requires : goal.word_number-requires
 word_number-requires c = omega (arith, long (goal.at.word_number-requires c).After-word_number-c)
 
 pub put_word-requires : goal.put_word-requires
-put_word-requires c = omega (arith, p-below (goal.at.put_word-requires c).After-word_number-c, (head (goal.at.put_word-requires c).After-word_number-c).loop.inv.3)
+put_word-requires c = omega (arith, p-below (goal.at.put_word-requires c).After-word_number-c, (head c.before).loop.inv.3)

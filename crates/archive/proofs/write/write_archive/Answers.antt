@@ -11,10 +11,9 @@ use Rattle.archive.proofs.write.write_archive.Goals as goal
 pub returns-in-Refused : goal.returns-in-Refused
 returns-in-Refused c =
     let whole =
-        let r = c.r-1.given in
-    ends_sheet _ _ (refusal_number r.0.0)
-    (ap (λ (x : SheetAnswer). x.refusal) (ap answer_of (sym r.1) ∙ c.read_sheet.ensures))
-    (λ z. omega (arith, number_more r.0.0)) in
+        ends_sheet _ _ (refusal_number c.in-Refused.r)
+    (ap (λ (x : SheetAnswer). x.refusal) (ap answer_of (sym c.in-Refused.is) ∙ c.read_sheet.ensures))
+    (λ z. omega (arith, number_more c.in-Refused.r)) in
     record { answer = whole.0; bytes = whole.1 }
 
 pub write_read-requires : goal.write_read-requires

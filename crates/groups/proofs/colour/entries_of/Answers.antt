@@ -17,28 +17,27 @@ use Rattle.groups.proofs.colour.entries_of.Goals as goal
 node : (c : Start) → c.args.k < 64
 node c = omega (arith, c.requires.1, c.requires.0.rooted.few)
 
-module _ (c : After-family_colour) where
-  abbrev start : Start
-  start = c.before
-  abbrev h : ℕ → ℕ
-  h = at start.args.helpands.now
-  abbrev k : ℕ
-  k = start.args.k
-  abbrev d : ℕ
-  d = distance start.args.nodes h k
-  -- the colour that was found
-  found : (x : Colour) → c.family_colour.result ≡ x → coloured x d ≡ true
-  found x e =
-      ap (coloured x) (sym (start.pre.0.each_distance k start.pre.1))
-      ∙ ap (λ (y : Colour). coloured y (at start.args.distances.now k)) (sym e)
-      ∙ c.family_colour.ensures
-  -- the group of the own family, and that of the helpand's
-  own : (x : Colour) → c.family_colour.result ≡ x → at start.args.own.now k ≡ group_in start.args.nodes h x k
-  own x e =
-      let p = start.pre.0 in
-      p.each_own k start.pre.1 ∙ sym (entry-own p.rooted x k start.pre.1 (found x e))
-  helped : (x : Colour) → coloured x d ≡ false → c.helped_group-as_helper.result ≡ group_in start.args.nodes h x k
-  helped x e = c.helped_group-as_helper.ensures ∙ sym (entry_helped start.pre.0.rooted x k start.pre.1 e)
+abbrev h : (c : After-family_colour) → ℕ → ℕ
+h c = at c.args.helpands.now
+
+abbrev d : (c : After-family_colour) → ℕ
+d c = distance c.args.nodes (h c) c.args.k
+
+-- the colour that was found
+found : (c : After-family_colour) → (x : Colour) → c.family_colour.result ≡ x → coloured x (d c) ≡ true
+found c x e =
+    ap (coloured x) (sym (c.requires.0.each_distance c.args.k c.requires.1))
+    ∙ ap (λ (y : Colour). coloured y (at c.args.distances.now c.args.k)) (sym e)
+    ∙ c.family_colour.ensures
+
+-- the group of the own family, and that of the helpand's
+own : (c : After-family_colour) → (x : Colour) → c.family_colour.result ≡ x → at c.args.own.now c.args.k ≡ group_in c.args.nodes (h c) x c.args.k
+own c x e =
+    let p = c.requires.0 in
+    p.each_own c.args.k c.requires.1 ∙ sym (entry-own p.rooted x c.args.k c.requires.1 ((found c) x e))
+
+helped : (c : After-family_colour) → (x : Colour) → coloured x (d c) ≡ false → c.helped_group-as_helper.result ≡ group_in c.args.nodes (h c) x c.args.k
+helped c x e = c.helped_group-as_helper.ensures ∙ sym (entry_helped c.requires.0.rooted x c.args.k c.requires.1 e)
 
 pub returns-in-Even : goal.returns-in-Even
 returns-in-Even c =

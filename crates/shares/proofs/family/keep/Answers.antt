@@ -17,20 +17,21 @@ use Rattle.shares.proofs.Spaces.{space-own, space-helper}
 use Rattle.shares.proofs.Amounts.{kept-sum, kept-left}
 use Rattle.shares.proofs.Raising.{somewhere_larger}
 use Rattle.shares.proofs.Noting.{NotedSoFar, so_far-none, so_far_more, so_far-all}
-use Rattle.shares.proofs.family.keep.Goals.{After-keeps-amount, After-keeps-own, At-loop-k, Start}
+use Rattle.shares.proofs.family.keep.Goals.{After-keeps-amount, After-keeps-own, Start}
 use Rattle.shares.proofs.family.keep.Goals as goal
 
 -- ---- the owner
-module _ (c : Start) where
-  abbrev holding : ℕ → ℕ
-  holding k = held c.args.table.now k c.args.n
-  abbrev keeps : ℕ → ℕ
-  keeps = keeps_in c.args.limit c.args.helpands.now c.args.reserves.now c.args.table.now c.args.share c.args.n
-  -- the total is the table's
-  total_is : at c.args.totals.now c.args.n ≡ total_of c.args.nodes c.args.table.now c.args.n
-  total_is =
-      ap (λ (xs : List ℕ). at xs c.args.n) c.requires.2
-      ∙ tabulate-at c.args.nodes (total_of c.args.nodes c.args.table.now) c.args.n c.requires.1
+abbrev holding : (c : Start) → ℕ → ℕ
+holding c k = held c.args.table.now k c.args.n
+
+abbrev keeps : (c : Start) → ℕ → ℕ
+keeps c = keeps_in c.args.limit c.args.helpands.now c.args.reserves.now c.args.table.now c.args.share c.args.n
+
+-- the total is the table's
+total_is : (c : Start) → at c.args.totals.now c.args.n ≡ total_of c.args.nodes c.args.table.now c.args.n
+total_is c =
+    ap (λ (xs : List ℕ). at xs c.args.n) c.requires.2
+    ∙ tabulate-at c.args.nodes (total_of c.args.nodes c.args.table.now) c.args.n c.requires.1
 
 own_keeps : (c : After-keeps-own) → c.keeps-own.result ≡ keeps c.before c.args.n
 own_keeps c =
@@ -59,44 +60,43 @@ loop-k-init c =
       },
     )
 
--- ---- a turn, whose helper is k
-module _ (c : After-keeps-amount) where
-  abbrev loop : At-loop-k
-  loop = c.before
-  abbrev start : Start
-  start = loop.before
-  abbrev k : ℕ
-  k = loop.loop-k.k
-  k_lt : k < start.args.nodes
-  k_lt = c.loop-k-test.true
-  helps-n : helps (at start.args.helpands.now) start.args.n k ≡ true
-  helps-n = loop.loop-k.inv.0.true.helper k_lt
-  keeps-is : c.keeps-amount.result ≡ keeps start k
-  keeps-is =
-      let a = start.args in
-      let e = space-helper (at a.helpands.now) a.limit (at a.reserves.now) a.share a.n k helps-n in
-      c.keeps-amount.ensures ∙ ap (λ (x : ℕ). min x (holding start k)) (sym e)
-  still_there : c.keeps-amount.result ≤ loop.loop-k.rest-1
-  still_there =
-      let a = start.args in
-      omega (
-        arith,
-        keeps-is,
-        total_is start,
-        loop.loop-k.inv.0.true.left_is,
-        kept-left (at a.helpands.now) a.limit (at a.reserves.now) (holding start) a.share a.n a.nodes k
-            start.pre.1 k_lt helps-n,
-      )
-  next-first : {to : ℕ} →
-      let a = start.args in
-      to ≡ at a.links.now (64 + k) → FirstFrom a.nodes (helps (at a.helpands.now) a.n) (k + 1) to
-  next-first e = link_next start.pre.0.linked start.args.n k_lt helps-n e
+k_lt : (c : After-keeps-amount) → c.loop-k.k < c.args.nodes
+k_lt c = c.loop-k-test.true
+
+helps-n : (c : After-keeps-amount) → helps (at c.args.helpands.now) c.args.n c.loop-k.k ≡ true
+helps-n c = c.loop-k.inv.0.true.helper (k_lt c)
+
+keeps-is : (c : After-keeps-amount) → c.keeps-amount.result ≡ keeps c c.loop-k.k
+keeps-is c =
+    let a = c.args in
+    let e = space-helper (at a.helpands.now) a.limit (at a.reserves.now) a.share a.n c.loop-k.k (helps-n c) in
+    c.keeps-amount.ensures ∙ ap (λ (x : ℕ). min x (holding c c.loop-k.k)) (sym e)
+
+still_there : (c : After-keeps-amount) → c.keeps-amount.result ≤ c.loop-k.rest-1
+still_there c =
+    let total_is' : at c.args.totals.now c.args.n ≡ total_of c.args.nodes c.args.table.now c.args.n =
+        ap (λ (xs : List ℕ). at xs c.args.n) c.requires.2
+    ∙ tabulate-at c.args.nodes (total_of c.args.nodes c.args.table.now) c.args.n c.requires.1 in
+    let a = c.args in
+    omega (
+      arith,
+      (keeps-is c),
+      total_is',
+      c.loop-k.inv.0.true.left_is,
+      kept-left (at a.helpands.now) a.limit (at a.reserves.now) (holding c) a.share a.n a.nodes c.loop-k.k
+          c.requires.1 (k_lt c) (helps-n c),
+    )
+
+next-first : (c : After-keeps-amount) → {to : ℕ} →
+    let a = c.args in
+    to ≡ at a.links.now (64 + c.loop-k.k) → FirstFrom a.nodes (helps (at a.helpands.now) a.n) (c.loop-k.k + 1) to
+next-first c e = link_next c.requires.0.linked c.args.n (k_lt c) (helps-n c) e
 
 pub loop-k-preserved : goal.loop-k-preserved
 loop-k-preserved c =
-    let a = loop.args in
-    let e = space-helper (at a.helpands.now) a.limit (at a.reserves.now) a.share a.n loop.loop-k.k (helps-n (goal.at.loop-k-preserved c).After-keeps-amount) in (
-      so_far_more c.loop-k.invariant.0 loop.requires.0.few (k_lt (goal.at.loop-k-preserved c).After-keeps-amount) (keeps-is (goal.at.loop-k-preserved c).After-keeps-amount)
+    let a = c.args in
+    let e = space-helper (at a.helpands.now) a.limit (at a.reserves.now) a.share a.n c.loop-k.k (helps-n (goal.at.loop-k-preserved c).After-keeps-amount) in (
+      so_far_more c.loop-k.invariant.0 c.requires.0.few (k_lt (goal.at.loop-k-preserved c).After-keeps-amount) (keeps-is (goal.at.loop-k-preserved c).After-keeps-amount)
           (ap (λ (x : ℕ). c.loop-k.rest-1 - x) (keeps-is (goal.at.loop-k-preserved c).After-keeps-amount)) (next-first (goal.at.loop-k-preserved c).After-keeps-amount c.next-k.ensures),
       rw c.larger-most.ensures
           (somewhere_larger c.loop-k.invariant.1 (k_lt (goal.at.loop-k-preserved c).After-keeps-amount) (omega (arith, c.room.ensures.0, keeps-is (goal.at.loop-k-preserved c).After-keeps-amount, e))),

@@ -15,21 +15,23 @@ use Rattle.shares.proofs.LevelForm.{gets-turn}
 use Rattle.shares.proofs.Spaces.{family_own, family_helper, family_other}
 use Rattle.shares.proofs.Summing.{left_below}
 use Rattle.shares.proofs.Noting.{NotedSoFar, so_far-none, so_far_more, so_far-all, so_far_before}
-use Rattle.shares.proofs.fill.spread.Goals.{After-min-extra, After-next-k, After-raised-arg-1, After-unit-one, After-unit-owner, At-loop-k, In-loop-k, Start}
+use Rattle.shares.proofs.fill.spread.Goals.{After-next-k, After-raised-arg-1, After-unit-owner, Start}
 use Rattle.shares.proofs.fill.spread.Goals as goal
 
-module _ (c : Start) where
-  abbrev h : ℕ → ℕ
-  h = at c.args.helpands.now
-  abbrev room : ℕ → ℕ
-  room k = c.args.limit - at c.args.reserves.now k - at c.args.shares.now k
-  abbrev rooms : ℕ → ℕ
-  rooms =
-      let a = c.args in
-      rooms_now a.limit a.helpands.now a.reserves.now a.n a.own a.shares.now
-  -- nobody else reaches a level above 0
-  none_other : (j : ℕ) → j ≢ c.args.n → helps h c.args.n j ≡ false → unit rooms c.args.level j ≡ 0
-  none_other j d y = omega (arith, family_other h c.args.n c.args.own room j d y)
+abbrev h : (c : Start) → ℕ → ℕ
+h c = at c.args.helpands.now
+
+abbrev room : (c : Start) → ℕ → ℕ
+room c k = c.args.limit - at c.args.reserves.now k - at c.args.shares.now k
+
+abbrev rooms : (c : Start) → ℕ → ℕ
+rooms c =
+    let a = c.args in
+    rooms_now a.limit a.helpands.now a.reserves.now a.n a.own a.shares.now
+
+-- nobody else reaches a level above 0
+none_other : (c : Start) → (j : ℕ) → j ≢ c.args.n → helps (h c) c.args.n j ≡ false → unit (rooms c) c.args.level j ≡ 0
+none_other c j d y = omega (arith, family_other (h c) c.args.n c.args.own (room c) j d y)
 
 owner-is : (c : After-unit-owner) → c.unit-owner.result ≡ unit (rooms c.before) c.args.level c.args.n
 owner-is c =
@@ -43,66 +45,72 @@ pub loop-k-init : goal.loop-k-init
 loop-k-init c =
     so_far-none c.requires.2 refl (link_first c.requires.0.linked c.args.n c.requires.1 c.first-k.ensures)
 
--- ---- a turn, whose helper is k
-module _ (c : After-raised-arg-1) where
-  abbrev smaller : After-min-extra
-  smaller = c.before
-  abbrev one : After-unit-one
-  one = smaller.before
-  abbrev turn : In-loop-k
-  turn = one.before
-  abbrev loop : At-loop-k
-  loop = turn.before
-  abbrev start : Start
-  start = loop.before
-  abbrev k : ℕ
-  k = loop.loop-k.k
-  k_lt : k < start.args.nodes
-  k_lt = turn.loop-k-test.true
-  helps-n : helps (h start) start.args.n k ≡ true
-  helps-n = loop.loop-k.inv.true.helper k_lt
-  amount-is : at loop.loop-k.shares k ≡ at start.args.shares.now k
-  amount-is = so_far_before loop.loop-k.inv
-  room-is : one.room-room.result ≡ rooms start k
-  room-is =
-      one.room-room.ensures.0
-      ∙ ap (λ (x : ℕ). start.args.limit - at start.args.reserves.now k - x) amount-is
-      ∙ sym (family_helper (h start) start.args.n start.args.own (room start) k helps-n)
-  one-is : one.unit-one.result ≡ unit (rooms start) start.args.level k
-  one-is = one.unit-one.ensures ∙ ap (λ (x : ℕ). x - (start.args.level - 1) - (x - start.args.level)) room-is
-  -- what is left for helper k
-  left_is : smaller.left_for.result ≡ start.args.left - sum k (unit (rooms start) start.args.level)
-  left_is =
-      left_below (h start) start.args.n (unit (rooms start) start.args.level) (none_other start) start.args.left k
-      loop.loop-k.inv.true.left_is
-      (smaller.left_for.ensures
-      ∙ ap (λ (x : ℕ). loop.loop-k.some - only (ltb start.args.n k) x) (owner-is loop.before))
-  extra-most : smaller.min-extra.result ≤ one.unit-one.result
-  extra-most = omega (arith, smaller.min-extra.ensures)
+k_lt : (c : After-raised-arg-1) → c.loop-k.k < c.args.nodes
+k_lt c = c.loop-k-test.true
+
+helps-n : (c : After-raised-arg-1) → helps (h c) c.args.n c.loop-k.k ≡ true
+helps-n c = c.loop-k.inv.true.helper (k_lt c)
+
+amount-is : (c : After-raised-arg-1) → at c.loop-k.shares c.loop-k.k ≡ at c.args.shares.now c.loop-k.k
+amount-is c = so_far_before c.loop-k.inv
+
+room-is : (c : After-raised-arg-1) → c.room-room.result ≡ rooms c c.loop-k.k
+room-is c =
+    let h' : ℕ → ℕ =
+        at c.args.helpands.now in
+    c.room-room.ensures.0
+    ∙ ap (λ (x : ℕ). c.args.limit - at c.args.reserves.now c.loop-k.k - x) (amount-is c)
+    ∙ sym (family_helper h' c.args.n c.args.own (room c) c.loop-k.k (helps-n c))
+
+one-is : (c : After-raised-arg-1) → c.unit-one.result ≡ unit (rooms c) c.args.level c.loop-k.k
+one-is c = c.unit-one.ensures ∙ ap (λ (x : ℕ). x - (c.args.level - 1) - (x - c.args.level)) (room-is c)
+
+-- what is left for helper k
+left_is : (c : After-raised-arg-1) → c.left_for.result ≡ c.args.left - sum c.loop-k.k (unit (rooms c) c.args.level)
+left_is c =
+    let h' : ℕ → ℕ =
+        at c.args.helpands.now in
+    let rooms' : ℕ → ℕ =
+        let a = c.args in
+    rooms_now a.limit a.helpands.now a.reserves.now a.n a.own a.shares.now in
+    let owner-is' : c.unit-owner.result ≡ unit (rooms c.before) c.args.level c.args.n =
+        let h' : ℕ → ℕ =
+        at c.args.helpands.now in
+    let a = c.args in
+    c.unit-owner.ensures
+    ∙ ap (λ (x : ℕ). x - (a.level - 1) - (x - a.level)) (sym (family_own h' a.n a.own (room c.before))) in
+    left_below h' c.args.n (unit rooms' c.args.level) (none_other c) c.args.left c.loop-k.k
+    c.loop-k.inv.true.left_is
+    (c.left_for.ensures
+    ∙ ap (λ (x : ℕ). c.loop-k.some - only (ltb c.args.n c.loop-k.k) x) owner-is')
+
+extra-most : (c : After-raised-arg-1) → c.min-extra.result ≤ c.unit-one.result
+extra-most c = omega (arith, c.min-extra.ensures)
 
 pub raised-requires : goal.raised-requires
-raised-requires c = (omega (arith, extra-most (goal.at.raised-requires c).After-raised-arg-1, smaller.unit-one.ensures), smaller.room-room.ensures.1)
+raised-requires c = (omega (arith, extra-most (goal.at.raised-requires c).After-raised-arg-1, c.unit-one.ensures), c.room-room.ensures.1)
 
 next-first : (c : After-next-k) →
-    let a = loop.args in
-    FirstFrom a.nodes (helps (h loop.before) a.n) (loop.loop-k.k + 1) c.next-k.result
+    let r = c.before in
+    let a = r.args in
+    FirstFrom a.nodes (helps (h r) a.n) (r.loop-k.k + 1) c.next-k.result
 next-first c =
-    let k_lt' : loop.loop-k.k < start.args.nodes =
-        turn.loop-k-test.true in
-    let helps-n' : helps (h loop.before) start.args.n loop.loop-k.k ≡ true =
-        loop.loop-k.inv.true.helper k_lt in
-    link_next loop.requires.0.linked loop.args.n k_lt' helps-n' c.next-k.ensures
+    let k_lt' : c.loop-k.k < c.args.nodes =
+        c.loop-k-test.true in
+    let helps-n' : helps (h c) c.args.n c.loop-k.k ≡ true =
+        c.loop-k.inv.true.helper (k_lt c) in
+    link_next c.requires.0.linked c.args.n k_lt' helps-n' c.next-k.ensures
 
 pub loop-k-preserved : goal.loop-k-preserved
 loop-k-preserved c =
-    let level = loop.args.level in
+    let level = c.args.level in
     let e = c.min-extra.result in
-    so_far_more turn.loop-k.invariant loop.requires.0.few (k_lt (goal.at.loop-k-preserved c).After-raised-arg-1)
+    so_far_more c.loop-k.invariant c.requires.0.few (k_lt (goal.at.loop-k-preserved c).After-raised-arg-1)
     (c.raised.ensures
     ∙ ap₂ (λ (x y : ℕ). x + (y - level + e)) (amount-is (goal.at.loop-k-preserved c).After-raised-arg-1) (room-is (goal.at.loop-k-preserved c).After-raised-arg-1)
-    ∙ ap (λ (x : ℕ). at loop.args.shares.now loop.loop-k.k + x)
-    (gets-turn (rooms loop.before) level loop.args.left loop.loop-k.k (left_is (goal.at.loop-k-preserved c).After-raised-arg-1) (one-is (goal.at.loop-k-preserved c).After-raised-arg-1) c.min-extra.ensures))
-    (c.saturating_sub-some.ensures ∙ ap (λ (x : ℕ). turn.loop-k.some - x) (one-is (goal.at.loop-k-preserved c).After-raised-arg-1))
+    ∙ ap (λ (x : ℕ). at c.args.shares.now c.loop-k.k + x)
+    (gets-turn (rooms (goal.at.loop-k-preserved c).Start) level c.args.left c.loop-k.k (left_is (goal.at.loop-k-preserved c).After-raised-arg-1) (one-is (goal.at.loop-k-preserved c).After-raised-arg-1) c.min-extra.ensures))
+    (c.saturating_sub-some.ensures ∙ ap (λ (x : ℕ). c.loop-k.some - x) (one-is (goal.at.loop-k-preserved c).After-raised-arg-1))
     (next-first (goal.at.loop-k-preserved c).After-next-k)
 
 pub returns : goal.returns

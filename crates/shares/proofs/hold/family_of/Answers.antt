@@ -7,25 +7,19 @@ use Rattle.arrays.specs.Arrays.{at}
 use Rattle.tree.specs.Family.{helps}
 use Rattle.tree.proofs.Linking.{link_first, link_next}
 use Rattle.shares.proofs.Summing.{Summed, summed_first, summed_next, summed_end}
-use Rattle.shares.proofs.hold.family_of.Goals.{At-loop-k, In-loop-k, Start}
+use Rattle.shares.proofs.hold.family_of.Goals.{In-loop-k}
 use Rattle.shares.proofs.hold.family_of.Goals as goal
 
--- ---- a turn, whose helper is k
-module _ (c : In-loop-k) where
-  abbrev loop : At-loop-k
-  loop = c.before
-  abbrev start : Start
-  start = loop.before
-  abbrev k : ℕ
-  k = loop.loop-k.k
-  k_lt : k < start.args.nodes
-  k_lt = c.loop-k-test.true
-  k-few : k < 64
-  k-few = omega (arith, k_lt, start.pre.0.few)
-  onward : {to : ℕ} →
-      let a = start.args in
-      to ≡ at a.links.now (64 + k) → FirstFrom a.nodes (helps (at a.helpands.now) a.n) (k + 1) to
-  onward e = link_next start.pre.0.linked start.args.n k_lt (loop.loop-k.inv.0.helper k_lt) e
+k_lt : (c : In-loop-k) → c.loop-k.k < c.args.nodes
+k_lt c = c.loop-k-test.true
+
+k-few : (c : In-loop-k) → c.loop-k.k < 64
+k-few c = omega (arith, (k_lt c), c.requires.0.few)
+
+onward : (c : In-loop-k) → {to : ℕ} →
+    let a = c.args in
+    to ≡ at a.links.now (64 + c.loop-k.k) → FirstFrom a.nodes (helps (at a.helpands.now) a.n) (c.loop-k.k + 1) to
+onward c e = link_next c.requires.0.linked c.args.n (k_lt c) (c.loop-k.inv.0.helper (k_lt c)) e
 
 pub loop-k-init : goal.loop-k-init
 loop-k-init c =
@@ -53,10 +47,10 @@ returns c =
     )
 
 pub overflow_add-sum : goal.overflow_add-sum
-overflow_add-sum c = omega (arith, (loop (goal.at.overflow_add-sum c).In-loop-k).loop.inv.2, k-few (goal.at.overflow_add-sum c).In-loop-k, c.wide-sum.ensures.1)
+overflow_add-sum c = omega (arith, (loop c.before).loop.inv.2, k-few (goal.at.overflow_add-sum c).In-loop-k, c.wide-sum.ensures.1)
 
 pub overflow_add-size : goal.overflow_add-size
-overflow_add-size c = omega (arith, (loop (goal.at.overflow_add-size c).In-loop-k).loop.inv.3, k-few (goal.at.overflow_add-size c).In-loop-k)
+overflow_add-size c = omega (arith, (loop c.before).loop.inv.3, k-few (goal.at.overflow_add-size c).In-loop-k)
 
 pub loop-k-smaller : goal.loop-k-smaller
 loop-k-smaller c = omega (arith, (onward (goal.at.loop-k-smaller c).In-loop-k c.next-k.ensures).from_le, k_lt (goal.at.loop-k-smaller c).In-loop-k)

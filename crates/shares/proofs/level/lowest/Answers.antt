@@ -9,16 +9,16 @@ use Rattle.shares.proofs.Raising.{start-lowest, turns_left, Counted, turn-some, 
 use Rattle.shares.proofs.level.lowest.Goals.{After-above-high, After-rise, After-struct_known-in-loop-high-1, Start}
 use Rattle.shares.proofs.level.lowest.Goals as goal
 
-module _ (c : Start) where
-  abbrev rooms : ℕ → ℕ
-  rooms =
-      let a = c.args in
-      rooms_now a.limit a.helpands.now a.reserves.now a.n a.own a.noted.now
-  bound : (k : ℕ) → k < c.args.nodes → rooms k ≤ 4294967295
-  bound k l =
-      let a = c.args in
-      rooms-most a.limit a.helpands.now a.reserves.now a.n a.own a.noted.now 4294967295
-      (search rules) (search rules) k
+abbrev rooms : (c : Start) → ℕ → ℕ
+rooms c =
+    let a = c.args in
+    rooms_now a.limit a.helpands.now a.reserves.now a.n a.own a.noted.now
+
+bound : (c : Start) → (k : ℕ) → k < c.args.nodes → (rooms c) k ≤ 4294967295
+bound c k l =
+    let a = c.args in
+    rooms-most a.limit a.helpands.now a.reserves.now a.n a.own a.noted.now 4294967295
+    (search rules) (search rules) k
 
 pub loop-high-init : goal.loop-high-init
 loop-high-init c = rw c.saturating_sub-level.ensures (start-lowest c.args.rest c.requires.2)
@@ -36,23 +36,17 @@ returns-then-high-rest c =
       ap (λ (x : ℕ). c.args.rest - x) c.above-high.ensures.0,
     )
 
--- ---- it does not
-module _ (c : After-struct_known-in-loop-high-1) where
-  abbrev up : After-above-high
-  up = c.before
-  abbrev start : Start
-  start = up.before
-  short : start.args.rest < up.above-high.result.particles
-  short = c.if-high-rest.false
+short : (c : After-struct_known-in-loop-high-1) → c.args.rest < c.above-high.result.particles
+short c = c.if-high-rest.false
 
 level-most : (c : After-rise) → c.loop-high.level + c.rise.result ≤ 4294967295
 level-most c =
     let counted' : let s = c.before in
     Counted s.args.nodes (rooms s) c.loop-high.level c.above-high.result.particles c.above-high.result.members =
         record { particles_are = c.above-high.ensures.0; members_are = c.above-high.ensures.1 } in
-    let short' : start.args.rest < up.above-high.result.particles =
+    let short' : c.args.rest < c.above-high.result.particles =
         c.if-high-rest.false in
-    turn-most (bound up.before) counted' short' c.rise.ensures
+    turn-most (bound c.before) counted' short' c.rise.ensures
 
 pub overflow_cast-left : goal.overflow_cast-left
 overflow_cast-left c = omega (arith, c.if-high-rest.true)
@@ -64,7 +58,7 @@ pub overflow_sub-high : goal.overflow_sub-high
 overflow_sub-high c = omega (arith, short (goal.at.overflow_sub-high c).After-struct_known-in-loop-high-1)
 
 pub rise-requires : goal.rise-requires
-rise-requires c = (omega (arith, short (goal.at.rise-requires c).After-struct_known-in-loop-high-1), turn-some (bound (start (goal.at.rise-requires c).After-struct_known-in-loop-high-1)) (counted (up (goal.at.rise-requires c).After-struct_known-in-loop-high-1)) (short (goal.at.rise-requires c).After-struct_known-in-loop-high-1))
+rise-requires c = (omega (arith, short (goal.at.rise-requires c).After-struct_known-in-loop-high-1), turn-some (bound (start c)) (counted (up c)) (short (goal.at.rise-requires c).After-struct_known-in-loop-high-1))
 
 pub overflow_cast-level : goal.overflow_cast-level
 overflow_cast-level c = omega (arith, level-most (goal.at.overflow_cast-level c).After-rise)
@@ -73,7 +67,7 @@ pub overflow_add-level : goal.overflow_add-level
 overflow_add-level c = omega (arith, level-most (goal.at.overflow_add-level c).After-rise)
 
 pub loop-high-smaller : goal.loop-high-smaller
-loop-high-smaller c = turn_fewer (bound (start (goal.at.loop-high-smaller c).After-struct_known-in-loop-high-1)) (counted (up (goal.at.loop-high-smaller c).After-struct_known-in-loop-high-1)) (short (goal.at.loop-high-smaller c).After-struct_known-in-loop-high-1) c.rise.ensures
+loop-high-smaller c = turn_fewer (bound (start c.before)) (counted (up c.before)) (short (goal.at.loop-high-smaller c).After-struct_known-in-loop-high-1) c.rise.ensures
 
 pub loop-high-preserved : goal.loop-high-preserved
-loop-high-preserved c = inr (turn-lowest (bound (start (goal.at.loop-high-preserved c).After-struct_known-in-loop-high-1)) (counted (up (goal.at.loop-high-preserved c).After-struct_known-in-loop-high-1)) (short (goal.at.loop-high-preserved c).After-struct_known-in-loop-high-1) c.rise.ensures)
+loop-high-preserved c = inr (turn-lowest (bound (start c.before)) (counted (up c.before)) (short (goal.at.loop-high-preserved c).After-struct_known-in-loop-high-1) c.rise.ensures)

@@ -7,20 +7,14 @@ use Rattle.arrays.specs.Arrays.{at}
 use Rattle.tree.specs.Family.{helps}
 use Rattle.tree.proofs.Linking.{link_first, link_next, Left, left-first, left-next, left-all}
 use Rattle.tally.specs.Layout.{total_at, least_at}
-use Rattle.tally.proofs.renew.least_from.Goals.{In-loop-k, Start}
+use Rattle.tally.proofs.renew.least_from.Goals.{In-loop-k}
 use Rattle.tally.proofs.renew.least_from.Goals as goal
 
--- a turn begins
-module _ (c : In-loop-k) where
-  abbrev start : Start
-  start = c.before
-  abbrev k : ℕ
-  k = c.loop-k.k
-  onward : {to : ℕ} →
-      let a = start.args in
-      to ≡ at a.links.now (64 + k) → FirstFrom a.nodes (helps (at a.helpands.now) a.n) (k + 1) to
-  onward e =
-      link_next start.pre.0.linked start.args.n c.loop-k-test.true (c.loop-k.invariant.helper c.loop-k-test.true) e
+onward : (c : In-loop-k) → {to : ℕ} →
+    let a = c.args in
+    to ≡ at a.links.now (64 + c.loop-k.k) → FirstFrom a.nodes (helps (at a.helpands.now) a.n) (c.loop-k.k + 1) to
+onward c e =
+    link_next c.requires.0.linked c.args.n c.loop-k-test.true (c.loop-k.invariant.helper c.loop-k-test.true) e
 
 -- what helper k spares is taken
 pub loop-k-preserved : goal.loop-k-preserved

@@ -7,15 +7,11 @@ use Rattle.traffic.proofs.page.put_page.Goals as goal
 
 pub put_last-requires : goal.put_last-requires
 put_last-requires c =
-    let lines = c.before in
-    let s = lines in
-    let a = s.args in
-    omega (arith, lines.put_nodes-last.ensures.index, length-nodes a.nodes (at a.sent) (at a.received) s.pre.0, s.pre.3)
+    let a = c.args in
+    omega (arith, c.put_nodes-last.ensures.index, length-nodes a.nodes (at a.sent) (at a.received) c.requires.0, c.requires.3)
 
 pub returns : goal.returns
 returns c =
-    let lines = c.before in
-    let s = lines in
-    let a = s.args in
+    let a = c.args in
     page_put a.nodes (at a.sent) (at a.received) c.column_sum-s.ensures c.column_sum-r.ensures
-    lines.put_nodes-last.ensures c.put_last.ensures s.pre.0 s.pre.3
+    c.put_nodes-last.ensures c.put_last.ensures c.requires.0 c.requires.3

@@ -10,7 +10,7 @@ use Rattle.moves.specs.Moves.{routes_of, counts_of}
 use Rattle.transfer.specs.Apply.{into_cell, receives}
 use Rattle.transfer.specs.Inner.{Room}
 use Rattle.transfer.proofs.Applied.{into-below, Entry, entry_read, moved_from, moved-from-none, moved-from_more, moved-from-here, each-is, plus-at}
-use Rattle.transfer.proofs.apply.add_receipts.Goals.{After-word_number, After-word_number-received, In-loop-i, Start}
+use Rattle.transfer.proofs.apply.add_receipts.Goals.{After-word_number-received}
 use Rattle.transfer.proofs.apply.add_receipts.Invariants.{Adding}
 use Rattle.transfer.proofs.apply.add_receipts.Goals as goal
 
@@ -34,36 +34,30 @@ module _ (old moves : List ℕ) (e : ℕ) (table : List ℕ) (i : ℕ) (s : Addi
         added = λ c. omega (arith, s.added c, moved-from_more into_cell moves e i route count entry c, plus-at table cell count b c);
       }
 
--- ---- at the cell that was computed
-module _ (c : After-word_number-received) where
-  abbrev route-read : After-word_number
-  route-read = c.before
-  abbrev turn : In-loop-i
-  turn = route-read.before
-  abbrev start : Start
-  start = turn.before
-  read : let a = start.args in
-      Entry a.moves.now a.e turn.loop-i.i route-read.word_number.result c.word_number-received.result
-  read =
-      entry_read _ _ _ start.pre.0.entries turn.loop-i-test.true _ _ route-read.word_number.ensures c.word_number-received.ensures
-  into-lt : c.into_cell-into.result < table_size
-  into-lt = omega (arith, c.into_cell-into.ensures, read.below)
-  fits-here : at turn.loop-i.table-1 c.into_cell-into.result + c.word_number-received.result ≤ max_total
-  fits-here =
-      let a = start.args in
-      let l = turn.loop-i in
-      fits a.table.now a.moves.now a.e l.table l.i l.inv turn.loop-i-test.true _ _ read start.pre.1
-      c.into_cell-into.result c.into_cell-into.ensures
+read : (c : After-word_number-received) → let a = c.args in
+    Entry a.moves.now a.e c.loop-i.i c.word_number.result c.word_number-received.result
+read c =
+    entry_read _ _ _ c.requires.0.entries c.loop-i-test.true _ _ c.word_number.ensures c.word_number-received.ensures
+
+into-lt : (c : After-word_number-received) → c.into_cell-into.result < table_size
+into-lt c = omega (arith, c.into_cell-into.ensures, (read c).below)
+
+fits-here : (c : After-word_number-received) → at c.loop-i.table-1 c.into_cell-into.result + c.word_number-received.result ≤ max_total
+fits-here c =
+    let a = c.args in
+    let l = c.loop-i in
+    fits a.table.now a.moves.now a.e l.table l.i l.inv c.loop-i-test.true _ _ (read c) c.requires.1
+    c.into_cell-into.result c.into_cell-into.ensures
 
 pub loop-i-init : goal.loop-i-init
 loop-i-init c = record { i_le = omega arith; size = c.requires.0.size; added = λ j. refl }
 
 pub loop-i-preserved : goal.loop-i-preserved
 loop-i-preserved c =
-    let a = turn.args in
-    let l = route-read.loop-i in
+    let a = c.args in
+    let l = c.loop-i in
     rw c.into_cell-into.ensures
-    (after a.table.now a.moves.now a.e l.table l.i l.inv route-read.loop-i-test.true _ _ (read (goal.at.loop-i-preserved c).After-word_number-received))
+    (after a.table.now a.moves.now a.e l.table l.i l.inv c.loop-i-test.true _ _ (read (goal.at.loop-i-preserved c).After-word_number-received))
 
 pub returns : goal.returns
 returns c =

@@ -18,7 +18,7 @@ use Rattle.transfer.specs.Apply.{sends_within, less_sends, carried}
 use Rattle.transfer.specs.Inner.{Ready, Room}
 use Rattle.transfer.proofs.Applied.{length-less, carried_from}
 use Rattle.transfer.proofs.Kept.{sum_kept}
-use Rattle.transfer.proofs.apply.apply_moves.Goals.{Else-not-subtract_sends, Start}
+use Rattle.transfer.proofs.apply.apply_moves.Goals.{Else-not-subtract_sends}
 use Rattle.transfer.proofs.apply.apply_moves.Goals as goal
 
 -- once no cell is short, what arrives fits what is left
@@ -46,20 +46,18 @@ module _ (table moves : List ℕ) (e : ℕ) (ready : Ready table moves e) where
 
 pub returns-then-not-subtract_sends : goal.returns-then-not-subtract_sends
 returns-then-not-subtract_sends c =
-    record { answer = sym (c.if-not-subtract_sends.true) ∙ c.subtract_sends.ensures.0; next = λ z. absurd (true≢false (sym z)) }
+    record { answer = sym (c.if-not-subtract_sends.true) ∙ c.subtract_sends.ensures.answer; next = λ z. absurd (true≢false (sym z)) }
 
--- no cell was short
-module _ (c : Else-not-subtract_sends) where
-  abbrev start : Start
-  start = c.before
-  all_had : c.subtract_sends.result ≡ true
-  all_had = c.if-not-subtract_sends.false
-  within-here : let a = start.args in
-      sends_within a.table.now (routes_of a.moves.now a.e) (counts_of a.moves.now a.e) ≡ true
-  within-here = sym c.subtract_sends.ensures.0 ∙ all_had
-  left_is : let a = start.args in
-      c.subtract_sends.new.0 ≡ less_sends a.table.now (routes_of a.moves.now a.e) (counts_of a.moves.now a.e)
-  left_is = c.subtract_sends.ensures.1 all_had
+all_had : (c : Else-not-subtract_sends) → c.subtract_sends.result ≡ true
+all_had c = c.if-not-subtract_sends.false
+
+within-here : (c : Else-not-subtract_sends) → let a = c.args in
+    sends_within a.table.now (routes_of a.moves.now a.e) (counts_of a.moves.now a.e) ≡ true
+within-here c = sym c.subtract_sends.ensures.answer ∙ (all_had c)
+
+left_is : (c : Else-not-subtract_sends) → let a = c.args in
+    c.subtract_sends.new.0 ≡ less_sends a.table.now (routes_of a.moves.now a.e) (counts_of a.moves.now a.e)
+left_is c = c.subtract_sends.ensures.left (all_had c)
 
 pub add_receipts-requires : goal.add_receipts-requires
 add_receipts-requires c =

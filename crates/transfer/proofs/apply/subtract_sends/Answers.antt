@@ -10,7 +10,7 @@ use Rattle.arrays.specs.Arrays.{at}
 use Rattle.moves.specs.Moves.{routes_of, counts_of}
 use Rattle.transfer.specs.Apply.{from_cell, sends, sends_within, less_sends}
 use Rattle.transfer.proofs.Applied.{from-below, Entry, entry_read, moved_from, moved-from-none, moved-from_more, moved-from-here, each-is, within_of, within-false, less-at}
-use Rattle.transfer.proofs.apply.subtract_sends.Goals.{After-word_number, After-word_number-sent, In-loop-i, Start}
+use Rattle.transfer.proofs.apply.subtract_sends.Goals.{After-word_number-sent}
 use Rattle.transfer.proofs.apply.subtract_sends.Invariants.{Subtracting}
 use Rattle.transfer.proofs.apply.subtract_sends.Goals as goal
 
@@ -45,37 +45,28 @@ module _ (old moves : List ℕ) (e : ℕ) (table : List ℕ) (i : ℕ) (s : Subt
   left_is =
       each-is (λ c x. x - sends (routes_of moves e) (counts_of moves e) c) old table (s.size ∙ sym same) (λ c l. omega (arith, left-all c))
 
--- ---- at the cell that was computed
-module _ (c : After-word_number-sent) where
-  abbrev route-read : After-word_number
-  route-read = c.before
-  abbrev turn : In-loop-i
-  turn = route-read.before
-  abbrev start : Start
-  start = turn.before
-  abbrev from : ℕ
-  from = c.from_cell-from.result
-  read : let a = start.args in
-      Entry a.moves.now a.e turn.loop-i.i route-read.word_number.result c.word_number-sent.result
-  read = entry_read _ _ _ start.pre.entries turn.loop-i-test.true _ _ route-read.word_number.ensures c.word_number-sent.ensures
-  from-lt : from < table_size
-  from-lt = omega (arith, c.from_cell-from.ensures, read.below)
+read : (c : After-word_number-sent) → let a = c.args in
+    Entry a.moves.now a.e c.loop-i.i c.word_number.result c.word_number-sent.result
+read c = entry_read _ _ _ c.requires.entries c.loop-i-test.true _ _ c.word_number.ensures c.word_number-sent.ensures
+
+from-lt : (c : After-word_number-sent) → c.from_cell-from.result < table_size
+from-lt c = omega (arith, c.from_cell-from.ensures, (read c).below)
 
 pub loop-i-init : goal.loop-i-init
 loop-i-init c = record { i_le = omega arith; size = c.requires.size; left = λ j. refl }
 
 pub returns-then-table-from : goal.returns-then-table-from
 returns-then-table-from c =
-    let a = turn.args in
-    let l = route-read.loop-i in record { answer = sym (fails a.table.now a.moves.now a.e l.table l.i l.inv route-read.loop-i-test.true _ _ (read (goal.at.returns-then-table-from c).After-word_number-sent)
-          turn.requires.size (rw (← c.from_cell-from.ensures) c.if-table-from.true)); left = λ z. absurd (true≢false (sym z)) }
+    let a = c.args in
+    let l = c.loop-i in record { answer = sym (fails a.table.now a.moves.now a.e l.table l.i l.inv c.loop-i-test.true _ _ (read (goal.at.returns-then-table-from c).After-word_number-sent)
+          c.requires.size (rw (← c.from_cell-from.ensures) c.if-table-from.true)); left = λ z. absurd (true≢false (sym z)) }
 
 pub loop-i-preserved : goal.loop-i-preserved
 loop-i-preserved c =
-    let a = turn.args in
-    let l = route-read.loop-i in
+    let a = c.args in
+    let l = c.loop-i in
     rw c.from_cell-from.ensures
-    (after a.table.now a.moves.now a.e l.table l.i l.inv route-read.loop-i-test.true _ _ (read (goal.at.loop-i-preserved c).After-word_number-sent)
+    (after a.table.now a.moves.now a.e l.table l.i l.inv c.loop-i-test.true _ _ (read (goal.at.loop-i-preserved c).After-word_number-sent)
     (rw (← c.from_cell-from.ensures) c.if-table-from.false))
 
 pub returns : goal.returns

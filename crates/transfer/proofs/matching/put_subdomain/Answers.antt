@@ -12,8 +12,8 @@ use Rattle.transfer.specs.Inner.{NextFrom}
 use Rattle.transfer.proofs.Entries.{Pending, begin, finish, room, sender-next, receiver-next}
 use Rattle.transfer.proofs.Next.{next-eq}
 use Rattle.transfer.proofs.Matched.{moves-few}
-use Rattle.transfer.proofs.matching.put_subdomain.Goals.{After-min-count, At-loop-s, Start}
-use Rattle.transfer.proofs.matching.put_subdomain.Invariants.{above, lacks, whole}
+use Rattle.transfer.proofs.matching.put_subdomain.Goals.{After-min-count}
+use Rattle.transfer.proofs.matching.put_subdomain.Invariants.{whole, lacks, above}
 use Rattle.transfer.proofs.matching.put_subdomain.Goals as goal
 
 -- both are what the one amount is above the other
@@ -29,37 +29,37 @@ receiver holding due x = next-eq (lacks holding due) (λ k. omega arith) x
 within : (p e w few long long₀ : ℕ) → p ≤ e + w → w ≤ few → e + few ≤ long₀ → long ≡ long₀ → p ≤ long
 within p e w few long long₀ a b c d = omega arith
 
-module _ (c : After-min-count) where
-  abbrev head : At-loop-s
-  head = c.before
-  abbrev start : Start
-  start = head.before
-  abbrev surplus : ℕ → ℕ
-  surplus = let a = start.args in above a.holding.now a.due.now
-  abbrev shortage : ℕ → ℕ
-  shortage = let a = start.args in lacks a.holding.now a.due.now
-  abbrev all : List Move
-  all = let a = start.args in whole a.nodes a.holding.now a.due.now
-  -- both are nodes
-  sender-lt : head.loop-s.s.node < start.args.nodes
-  sender-lt = c.loop-s-test.true
-  receiver-lt : head.loop-s.r.node < start.args.nodes
-  receiver-lt = ltb-true head.loop-s.r.node start.args.nodes c.if-r-nodes.true
-  has_room : let k = head.loop-s.entries + length (move_of head.loop-s.s.node head.loop-s.r.node c.min-count.result) in
-      (k ≤ length head.loop-s.routes-1) × (k ≤ length head.loop-s.counts-1)
-  has_room =
-      let l = head.loop-s in
-      let a = start.args in
-      let p = start.pre in
-      let k = l.entries + length (move_of l.s.node l.r.node c.min-count.result) in
-      let b : k ≤ a.e + length all =
-      room a.nodes surplus shortage a.n a.routes.now a.counts.now a.e all l.routes l.counts l.entries
-      l.s.node l.s.count l.r.node l.r.count
-      l.inv sender-lt receiver-lt c.min-count.result c.min-count.ensures in
-      let f : length all ≤ a.nodes - 1 = moves-few a.nodes (at a.holding.now) (at a.due.now) in (
-        within k a.e (length all) (a.nodes - 1) (length l.routes) (length a.routes.now) b f p.2 l.inv.moves.routes_long,
-        within k a.e (length all) (a.nodes - 1) (length l.counts) (length a.counts.now) b f p.3 l.inv.moves.counts_long,
-      )
+abbrev surplus : (c : After-min-count) → ℕ → ℕ
+surplus c = let a = c.args in above a.holding.now a.due.now
+
+abbrev shortage : (c : After-min-count) → ℕ → ℕ
+shortage c = let a = c.args in lacks a.holding.now a.due.now
+
+abbrev all : (c : After-min-count) → List Move
+all c = let a = c.args in whole a.nodes a.holding.now a.due.now
+
+-- both are nodes
+sender-lt : (c : After-min-count) → c.loop-s.s.node < c.args.nodes
+sender-lt c = c.loop-s-test.true
+
+receiver-lt : (c : After-min-count) → c.loop-s.r.node < c.args.nodes
+receiver-lt c = ltb-true c.loop-s.r.node c.args.nodes c.if-r-nodes.true
+
+has_room : (c : After-min-count) → let k = c.loop-s.entries + length (move_of c.loop-s.s.node c.loop-s.r.node c.min-count.result) in
+    (k ≤ length c.loop-s.routes-1) × (k ≤ length c.loop-s.counts-1)
+has_room c =
+    let l = c.loop-s in
+    let a = c.args in
+    let p = c.requires in
+    let k = l.entries + length (move_of l.s.node l.r.node c.min-count.result) in
+    let b : k ≤ a.e + length (all c) =
+    room a.nodes (surplus c) (shortage c) a.n a.routes.now a.counts.now a.e (all c) l.routes l.counts l.entries
+    l.s.node l.s.count l.r.node l.r.count
+    l.inv (sender-lt c) (receiver-lt c) c.min-count.result c.min-count.ensures in
+    let f : length (all c) ≤ a.nodes - 1 = moves-few a.nodes (at a.holding.now) (at a.due.now) in (
+      within k a.e (length (all c)) (a.nodes - 1) (length l.routes) (length a.routes.now) b f p.2 l.inv.moves.routes_long,
+      within k a.e (length (all c)) (a.nodes - 1) (length l.counts) (length a.counts.now) b f p.3 l.inv.moves.counts_long,
+    )
 
 pub put_move-entries-requires : goal.put_move-entries-requires
 put_move-entries-requires c =
@@ -67,11 +67,11 @@ put_move-entries-requires c =
 
 pub next_above-s-requires-then-s-r : goal.next_above-s-requires-then-s-r
 next_above-s-requires-then-s-r c =
-    ((start (goal.at.next_above-s-requires-then-s-r c).After-min-count).pre.0, omega (arith, sender-lt (goal.at.next_above-s-requires-then-s-r c).After-min-count, receiver-lt (goal.at.next_above-s-requires-then-s-r c).After-min-count))
+    (c.requires.0, omega (arith, sender-lt (goal.at.next_above-s-requires-then-s-r c).After-min-count, receiver-lt (goal.at.next_above-s-requires-then-s-r c).After-min-count))
 
 pub next_above-r-requires-else-s-r : goal.next_above-r-requires-else-s-r
 next_above-r-requires-else-s-r c =
-    ((start (goal.at.next_above-r-requires-else-s-r c).After-min-count).pre.0, omega (arith, sender-lt (goal.at.next_above-r-requires-else-s-r c).After-min-count, receiver-lt (goal.at.next_above-r-requires-else-s-r c).After-min-count))
+    (c.requires.0, omega (arith, sender-lt (goal.at.next_above-r-requires-else-s-r c).After-min-count, receiver-lt (goal.at.next_above-r-requires-else-s-r c).After-min-count))
 
 -- ---- what holds at the loop's head
 pub loop-s-init : goal.loop-s-init
@@ -85,25 +85,25 @@ loop-s-init c =
 
 pub loop-s-preserved-then-s-r : goal.loop-s-preserved-then-s-r
 loop-s-preserved-then-s-r c =
-    let l = (head (goal.at.loop-s-preserved-then-s-r c).After-min-count).loop in
-    let a = (start (goal.at.loop-s-preserved-then-s-r c).After-min-count).args in
+    let l = c.loop-s in
+    let a = c.args in
     sender-next a.nodes (surplus (goal.at.loop-s-preserved-then-s-r c).After-min-count) (shortage (goal.at.loop-s-preserved-then-s-r c).After-min-count) a.n a.routes.now a.counts.now a.e (all (goal.at.loop-s-preserved-then-s-r c).After-min-count) l.routes l.counts
     l.entries l.s.node l.s.count l.r.node l.r.count
     l.inv (sender-lt (goal.at.loop-s-preserved-then-s-r c).After-min-count) (receiver-lt (goal.at.loop-s-preserved-then-s-r c).After-min-count) c.min-count.result c.min-count.ensures
-    c.put_move-entries.last.0 c.put_move-entries.last.1.0 c.put_move-entries.result c.put_move-entries.ensures.0 c.put_move-entries.ensures.1.0
-    c.put_move-entries.ensures.1.1
+    c.put_move-entries.last.0 c.put_move-entries.last.1.0 c.put_move-entries.result c.put_move-entries.ensures.entries c.put_move-entries.ensures.routes.0
+    c.put_move-entries.ensures.routes.1
     c.if-s-r.true c.next_above-s-then-s-r.result.node c.next_above-s-then-s-r.result.count
     (sender a.holding.now a.due.now c.next_above-s-then-s-r.ensures)
 
 pub loop-s-preserved : goal.loop-s-preserved
 loop-s-preserved c =
-    let l = (head (goal.at.loop-s-preserved c).After-min-count).loop in
-    let a = (start (goal.at.loop-s-preserved c).After-min-count).args in
+    let l = c.loop-s in
+    let a = c.args in
     receiver-next a.nodes (surplus (goal.at.loop-s-preserved c).After-min-count) (shortage (goal.at.loop-s-preserved c).After-min-count) a.n a.routes.now a.counts.now a.e (all (goal.at.loop-s-preserved c).After-min-count) l.routes l.counts
     l.entries l.s.node l.s.count l.r.node l.r.count
     l.inv (sender-lt (goal.at.loop-s-preserved c).After-min-count) (receiver-lt (goal.at.loop-s-preserved c).After-min-count) c.min-count.result c.min-count.ensures
-    c.put_move-entries.last.0 c.put_move-entries.last.1.0 c.put_move-entries.result c.put_move-entries.ensures.0 c.put_move-entries.ensures.1.0
-    c.put_move-entries.ensures.1.1
+    c.put_move-entries.last.0 c.put_move-entries.last.1.0 c.put_move-entries.result c.put_move-entries.ensures.entries c.put_move-entries.ensures.routes.0
+    c.put_move-entries.ensures.routes.1
     c.if-s-r.false c.next_above-r-else-s-r.result.node c.next_above-r-else-s-r.result.count
     (receiver a.holding.now a.due.now c.next_above-r-else-s-r.ensures)
 
