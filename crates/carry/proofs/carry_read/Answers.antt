@@ -71,4 +71,4 @@ pub unpack-table-requires : goal.unpack-table-requires
 unpack-table-requires c = (_, sheet_unpackable _ _ (sheet_facts c.requires))
 
 pub write_sheet-requires : goal.write_sheet-requires
-write_sheet-requires c = n_high (u₀ c.before)
+write_sheet-requires c = n_high (goal.at.write_sheet-requires c).After-unpack-table

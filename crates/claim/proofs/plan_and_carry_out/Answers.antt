@@ -37,7 +37,7 @@ returns c =
     record { step = whole.0; plan = whole.1; moves = whole.2; carry = whole.3; next = whole.4; demand = whole.5 }
 
 pub slice_bounds-firrozka_carry_out-end : goal.slice_bounds-firrozka_carry_out-end
-slice_bounds-firrozka_carry_out-end c = omega (arith, size-inside (stepped c))
+slice_bounds-firrozka_carry_out-end c = omega (arith, size-inside (goal.at.slice_bounds-firrozka_carry_out-end c).After-firrozka_plan_step-step)
 
 pub slice_bounds-firrozka_carry_out-end-2 : goal.slice_bounds-firrozka_carry_out-end-2
-slice_bounds-firrozka_carry_out-end-2 c = sym (length-take-le _ _ (omega (arith, size-inside (stepped c.before))))
+slice_bounds-firrozka_carry_out-end-2 c = sym (length-take-le _ _ (omega (arith, size-inside (goal.at.slice_bounds-firrozka_carry_out-end-2 c).After-firrozka_plan_step-step)))

@@ -23,4 +23,4 @@ pub helper_links-links-requires : goal.helper_links-links-requires
 helper_links-links-requires c = (c.requires.1, c.find_root-root.ensures.inside)
 
 pub rebuilt_plan-requires : goal.rebuilt_plan-requires
-rebuilt_plan-requires c = let s = (start c.before).pre in (s.0, s.1, tree-below s.5.1, s.3, s.4)
+rebuilt_plan-requires c = let s = c.requires in (s.0, s.1, tree-below s.5.1, s.3, s.4)

@@ -69,10 +69,10 @@ shape_of-groups c =
     ap length (written (goal.at.shape_of-groups c).Joined-p-eq0) ∙ length-append rec (drop (length rec) out) ∙ simp length-drop (omega arith)
 
 pub overflow_mul-result : goal.overflow_mul-result
-overflow_mul-result c = omega (arith, (facts (read c.before)).n_high)
+overflow_mul-result c = omega (arith, (facts (goal.at.overflow_mul-result c).After-struct_known-1).n_high)
 
 pub overflow_add-result : goal.overflow_add-result
-overflow_add-result c = omega (arith, (facts (read c.before)).n_high)
+overflow_add-result c = omega (arith, (facts (goal.at.overflow_add-result c).After-struct_known-1).n_high)
 
 pub overflow_mul-result-2 : goal.overflow_mul-result-2
-overflow_mul-result-2 c = omega (arith, (facts (read c.before)).n_high)
+overflow_mul-result-2 c = omega (arith, (facts (goal.at.overflow_mul-result-2 c).After-struct_known-1).n_high)

@@ -70,10 +70,10 @@ add_counts-requires c =
     (_, addable c.requires c.unpack-table.ensures c.if-a-b-gt-MAX_TOTAL.false)
 
 pub overflow_add-a : goal.overflow_add-a
-overflow_add-a c = omega (arith, (facts (begun c)).sum.within, (others (begun c)).sum.within)
+overflow_add-a c = omega (arith, (facts (goal.at.overflow_add-a c).After-struct_known-2-1).sum.within, (others (goal.at.overflow_add-a c).After-struct_known-2-1).sum.within)
 
 pub unpack-table-requires : goal.unpack-table-requires
-unpack-table-requires c = (_, sheet_unpackable _ _ (facts (begun c.before)))
+unpack-table-requires c = (_, sheet_unpackable _ _ (facts (goal.at.unpack-table-requires c).After-struct_known-2-1))
 
 pub write_sheet-requires : goal.write_sheet-requires
-write_sheet-requires c = (facts (b₁ c.before)).n_high
+write_sheet-requires c = (facts (goal.at.write_sheet-requires c).After-struct_known-2-1).n_high

@@ -28,7 +28,7 @@ loop-k-preserved c =
     let l = c.before in
     let s = (begun l).args.t1 in
     let k = l.loop-k.k in
-    let v = l.loop-k.inv in
+    let v = l.loop-k.invariant in
     let o = sym c.in_b.ensures in
     let root = l.in-At.root in
     let h : k < 64 = omega arith in
@@ -65,4 +65,4 @@ loop-k-init c =
     )
 
 pub overflow_cast-helpands : goal.overflow_cast-helpands
-overflow_cast-helpands c = omega (arith, (best-found _ _ _ _ (turn-of c.before).before.loop.inv.1).0)
+overflow_cast-helpands c = omega (arith, (best-found _ _ _ _ c.loop-k.invariant.1).0)

@@ -83,4 +83,4 @@ pub slice_bounds-moves-end : goal.slice_bounds-moves-end
 slice_bounds-moves-end c = moves-within (goal.at.slice_bounds-moves-end c).Else-answer-ne0
 
 pub slice_bounds-write_records-end-2 : goal.slice_bounds-write_records-end-2
-slice_bounds-write_records-end-2 c = sym (length-take-le _ _ (moves-within (accepted c)))
+slice_bounds-write_records-end-2 c = sym (length-take-le _ _ (moves-within (goal.at.slice_bounds-write_records-end-2 c).Else-answer-ne0))

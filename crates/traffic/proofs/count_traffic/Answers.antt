@@ -62,7 +62,7 @@ sent-fits c =
         entry_read _ _ _ c.requires.entries c.loop-i-test.true _ _ c.word_number-r.ensures c.word_number-count.ensures in
     let l = c.loop-i in
     let a = c.args in
-    fits sender a.moves.now a.e l.sent l.i l.inv.1 c.word_number-r.result c.word_number-count.result read' c.requires.small
+    fits sender a.moves.now a.e l.sent l.i l.invariant.1 c.word_number-r.result c.word_number-count.result read' c.requires.small
     c.sender.result c.sender.ensures
 
 receiver-lt : (c : After-receiver) → c.receiver.result < 64
@@ -74,7 +74,7 @@ received-fits c =
         entry_read _ _ _ c.requires.entries c.loop-i-test.true _ _ c.word_number-r.ensures c.word_number-count.ensures in
     let l = c.loop-i in
     let a = c.args in
-    fits receiver a.moves.now a.e l.received l.i l.inv.2 c.word_number-r.result c.word_number-count.result read' c.requires.small
+    fits receiver a.moves.now a.e l.received l.i l.invariant.2 c.word_number-r.result c.word_number-count.result read' c.requires.small
     c.receiver.result c.receiver.ensures
 
 pub loop-i-preserved : goal.loop-i-preserved
@@ -82,9 +82,9 @@ loop-i-preserved c =
     let l = c.loop-i in
     let a = c.args in (
       omega (arith, c.loop-i-test.true),
-      after sender a.moves.now a.e l.sent l.i l.inv.1 c.word_number-r.result c.word_number-count.result (read (goal.at.loop-i-preserved c).After-word_number-count) c.sender.result
+      after sender a.moves.now a.e l.sent l.i l.invariant.1 c.word_number-r.result c.word_number-count.result (read (goal.at.loop-i-preserved c).After-word_number-count) c.sender.result
           c.sender.ensures (omega arith),
-      after receiver a.moves.now a.e l.received l.i l.inv.2 c.word_number-r.result c.word_number-count.result (read (goal.at.loop-i-preserved c).After-word_number-count) c.receiver.result
+      after receiver a.moves.now a.e l.received l.i l.invariant.2 c.word_number-r.result c.word_number-count.result (read (goal.at.loop-i-preserved c).After-word_number-count) c.receiver.result
           c.receiver.ensures (omega arith),
     )
 

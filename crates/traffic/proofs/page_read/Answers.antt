@@ -73,4 +73,4 @@ pub overflow_mul-size : goal.overflow_mul-size
 overflow_mul-size c = omega (arith, size_fits (goal.at.overflow_mul-size c).After-struct_known-3-1)
 
 pub overflow_cast-result : goal.overflow_cast-result
-overflow_cast-result c = omega (arith, size_fits (long c.before).before)
+overflow_cast-result c = omega (arith, size_fits (goal.at.overflow_cast-result c).After-struct_known-3-1)

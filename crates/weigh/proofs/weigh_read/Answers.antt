@@ -58,10 +58,10 @@ returns c =
     record { answer = ap weighed c.holds.ensures ∙ x.0; bytes = c.put_words.ensures ∙ x.1 }
 
 pub leasts_of-leasts-requires : goal.leasts_of-leasts-requires
-leasts_of-leasts-requires c = can_weigh (tree c)
+leasts_of-leasts-requires c = can_weigh (goal.at.leasts_of-leasts-requires c).Else-p-eq0
 
 pub put_words-requires : goal.put_words-requires
-put_words-requires c =     omega (arith, long (goal.at.put_words-requires c).After-leasts_of-leasts, few (tree c.before), c.if-least-nodes.false)
+put_words-requires c =     omega (arith, long (goal.at.put_words-requires c).After-leasts_of-leasts, few (goal.at.put_words-requires c).Else-p-eq0, c.if-least-nodes.false)
 
 pub holds-requires : goal.holds-requires
-holds-requires c = few (tree (written c.before).before)
+holds-requires c = few (goal.at.holds-requires c).Else-p-eq0

@@ -77,4 +77,4 @@ pub unpack-table-requires : goal.unpack-table-requires
 unpack-table-requires c = (omega (arith, c.requires.size), c.positions-positions.ensures)
 
 pub write_sheet-requires : goal.write_sheet-requires
-write_sheet-requires c = (start (tested c.before)).pre.n_high
+write_sheet-requires c = c.requires.n_high

@@ -30,7 +30,7 @@ long c = c.requires.0.long
 below : (c : After-word_number-c) → c.word_number-c.result < table_size
 below c =
     let a = c.args in
-    let v = c.loop-i.inv in
+    let v = c.loop-i.invariant in
     index_below a.s.now a.n a.e v.1 v.0 c.loop-i.i v.5 c.loop-i-test.true c.word_number-c.result
     (get_or (words a.s.now) (3 + a.e + c.loop-i.i) 0) c.word_number-c.ensures refl
 
@@ -38,7 +38,7 @@ abbrev p : (c : After-word_number-c) → ℕ
 p c = at c.positions-positions.result c.word_number-c.result
 
 p-is : (c : After-word_number-c) → (p c) ≡ position_of c.word_number-c.result
-p-is c = c.loop-i.inv.2 c.word_number-c.result (below c)
+p-is c = c.loop-i.invariant.2 c.word_number-c.result (below c)
 
 p-below : (c : After-word_number-c) → (p c) < table_size
 p-below c = omega (arith, (p-is c), position-below c.word_number-c.result)
@@ -46,14 +46,14 @@ p-below c = omega (arith, (p-is c), position-below c.word_number-c.result)
 stored : (c : After-put_word) → c.put_word.new.0 ≡ put_word c.loop-i.out-1 (4 * (2 + position_of c.word_number-c.result)) c.word_number.result
 stored c =
     let p-is' : (p c) ≡ position_of c.word_number-c.result =
-        c.loop-i.inv.2 c.word_number-c.result (below c) in
+        c.loop-i.invariant.2 c.word_number-c.result (below c) in
     c.put_word.ensures ∙ ap (λ (q : ℕ). put_word c.loop-i.out-1 (4 * (2 + q)) c.word_number.result) p-is'
 
 pub loop-i-preserved : goal.loop-i-preserved
 loop-i-preserved c =
     let a = c.args in
     let l = c.loop-i in
-    let v = l.inv in
+    let v = l.invariant in
     let size = ap length (stored (goal.at.loop-i-preserved c).After-put_word) ∙ length_put l.out (4 * (2 + position_of c.word_number-c.result)) c.word_number.result in (
       set v.0 (position_of c.word_number-c.result) c.word_number.result,
       v.1,
@@ -77,7 +77,7 @@ returns c =
     (end a.s.now a.n a.e v.1 v.0 l.i v.5 c.loop-i-test.false)
 
 pub word_number-c-requires : goal.word_number-c-requires
-word_number-c-requires c = omega (arith, (start c.before).pre.0.long)
+word_number-c-requires c = omega (arith, c.requires.0.long)
 
 pub offset_bounds-positions-c : goal.offset_bounds-positions-c
 offset_bounds-positions-c c = omega (arith, below (goal.at.offset_bounds-positions-c c).After-word_number-c)
@@ -95,4 +95,4 @@ pub word_number-requires : goal.word_number-requires
 word_number-requires c = omega (arith, long (goal.at.word_number-requires c).After-word_number-c)
 
 pub put_word-requires : goal.put_word-requires
-put_word-requires c = omega (arith, p-below (goal.at.put_word-requires c).After-word_number-c, (head c.before).loop.inv.3)
+put_word-requires c = omega (arith, p-below (goal.at.put_word-requires c).After-word_number-c, c.loop-i.invariant.3)

@@ -17,13 +17,13 @@ loop-k-init c = search rules
 -- the best so far is a node
 at-node : (c : In-At) → c.in-At.b < 64
 at-node c =
-    omega (arith, (best-found _ _ c.loop-k.k _ (sym c.loop-k.inv.1 ∙ c.in-At.is)).0)
+    omega (arith, (best-found _ _ c.loop-k.k _ (sym c.loop-k.invariant.1 ∙ c.in-At.is)).0)
 
 -- one node more: the first in the group, a better one, one that is no better, and one that is not in the group
 pub loop-k-preserved : goal.loop-k-preserved
 loop-k-preserved c =
     let l = c.loop-k in
-    let e = sym l.inv.1 in
+    let e = sym l.invariant.1 in
     let o = sym c.in_b.ensures in
     elim c.if-in_b.branch [
       | then-in_b w ↦ (search rules, w.3 ∙ sym (best_begins _ _ l.k (o ∙ w.if-in_b.true) (e ∙ w.2.given.1)))
@@ -31,7 +31,7 @@ loop-k-preserved c =
     (λ w. (search rules, w.7 ∙ sym (best_takes _ _ l.k _ (o ∙ w.if-in_b.true) (e ∙ w.2.given.1) (lt-ltb _ _ w.6.true))))
     (⊎_elim
     (λ w. (search rules, w.7 ∙ sym (best-stays _ _ l.k _ (o ∙ w.if-in_b.true) (e ∙ w.2.given.1) (le-ltb _ _ w.6.left))))
-    (λ w. (search rules, w.1 ∙ l.inv.1 ∙ sym (best_skips _ _ l.k (o ∙ w.if-in_b.false)))))) w
+    (λ w. (search rules, w.1 ∙ l.invariant.1 ∙ sym (best_skips _ _ l.k (o ∙ w.if-in_b.false)))))) w
     ]
 
 pub returns : goal.returns

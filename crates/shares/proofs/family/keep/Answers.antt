@@ -64,7 +64,7 @@ k_lt : (c : After-keeps-amount) → c.loop-k.k < c.args.nodes
 k_lt c = c.loop-k-test.true
 
 helps-n : (c : After-keeps-amount) → helps (at c.args.helpands.now) c.args.n c.loop-k.k ≡ true
-helps-n c = c.loop-k.inv.0.true.helper (k_lt c)
+helps-n c = c.loop-k.invariant.0.true.helper (k_lt c)
 
 keeps-is : (c : After-keeps-amount) → c.keeps-amount.result ≡ keeps c c.loop-k.k
 keeps-is c =
@@ -82,7 +82,7 @@ still_there c =
       arith,
       (keeps-is c),
       total_is',
-      c.loop-k.inv.0.true.left_is,
+      c.loop-k.invariant.0.true.left_is,
       kept-left (at a.helpands.now) a.limit (at a.reserves.now) (holding c) a.share a.n a.nodes c.loop-k.k
           c.requires.1 (k_lt c) (helps-n c),
     )

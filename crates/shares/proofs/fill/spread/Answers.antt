@@ -49,10 +49,10 @@ k_lt : (c : After-raised-arg-1) → c.loop-k.k < c.args.nodes
 k_lt c = c.loop-k-test.true
 
 helps-n : (c : After-raised-arg-1) → helps (h c) c.args.n c.loop-k.k ≡ true
-helps-n c = c.loop-k.inv.true.helper (k_lt c)
+helps-n c = c.loop-k.invariant.true.helper (k_lt c)
 
 amount-is : (c : After-raised-arg-1) → at c.loop-k.shares c.loop-k.k ≡ at c.args.shares.now c.loop-k.k
-amount-is c = so_far_before c.loop-k.inv
+amount-is c = so_far_before c.loop-k.invariant
 
 room-is : (c : After-raised-arg-1) → c.room-room.result ≡ rooms c c.loop-k.k
 room-is c =
@@ -80,7 +80,7 @@ left_is c =
     c.unit-owner.ensures
     ∙ ap (λ (x : ℕ). x - (a.level - 1) - (x - a.level)) (sym (family_own h' a.n a.own (room c.before))) in
     left_below h' c.args.n (unit rooms' c.args.level) (none_other c) c.args.left c.loop-k.k
-    c.loop-k.inv.true.left_is
+    c.loop-k.invariant.true.left_is
     (c.left_for.ensures
     ∙ ap (λ (x : ℕ). c.loop-k.some - only (ltb c.args.n c.loop-k.k) x) owner-is')
 
@@ -98,7 +98,7 @@ next-first c =
     let k_lt' : c.loop-k.k < c.args.nodes =
         c.loop-k-test.true in
     let helps-n' : helps (h c) c.args.n c.loop-k.k ≡ true =
-        c.loop-k.inv.true.helper (k_lt c) in
+        c.loop-k.invariant.true.helper (k_lt c) in
     link_next c.requires.0.linked c.args.n k_lt' helps-n' c.next-k.ensures
 
 pub loop-k-preserved : goal.loop-k-preserved

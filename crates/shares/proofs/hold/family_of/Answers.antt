@@ -19,7 +19,7 @@ k-few c = omega (arith, (k_lt c), c.requires.0.few)
 onward : (c : In-loop-k) → {to : ℕ} →
     let a = c.args in
     to ≡ at a.links.now (64 + c.loop-k.k) → FirstFrom a.nodes (helps (at a.helpands.now) a.n) (c.loop-k.k + 1) to
-onward c e = link_next c.requires.0.linked c.args.n (k_lt c) (c.loop-k.inv.0.helper (k_lt c)) e
+onward c e = link_next c.requires.0.linked c.args.n (k_lt c) (c.loop-k.invariant.0.helper (k_lt c)) e
 
 pub loop-k-init : goal.loop-k-init
 loop-k-init c =
@@ -47,10 +47,10 @@ returns c =
     )
 
 pub overflow_add-sum : goal.overflow_add-sum
-overflow_add-sum c = omega (arith, (loop c.before).loop.inv.2, k-few (goal.at.overflow_add-sum c).In-loop-k, c.wide-sum.ensures.1)
+overflow_add-sum c = omega (arith, c.loop-k.invariant.2, k-few (goal.at.overflow_add-sum c).In-loop-k, c.wide-sum.ensures.1)
 
 pub overflow_add-size : goal.overflow_add-size
-overflow_add-size c = omega (arith, (loop c.before).loop.inv.3, k-few (goal.at.overflow_add-size c).In-loop-k)
+overflow_add-size c = omega (arith, c.loop-k.invariant.3, k-few (goal.at.overflow_add-size c).In-loop-k)
 
 pub loop-k-smaller : goal.loop-k-smaller
 loop-k-smaller c = omega (arith, (onward (goal.at.loop-k-smaller c).In-loop-k c.next-k.ensures).from_le, k_lt (goal.at.loop-k-smaller c).In-loop-k)

@@ -16,7 +16,7 @@ use Rattle.shares.specs.Inner.{rooms_now}
 use Rattle.shares.proofs.Spaces.{family_own, family_helper, family_other, rooms-most}
 use Rattle.shares.proofs.Summing.{Summed, summed_first, summed_next, summed_all, summed_most}
 use Rattle.shares.proofs.level.above.Goals.{After-room-room, Start}
-use Rattle.shares.proofs.level.above.Invariants.{one, excess}
+use Rattle.shares.proofs.level.above.Invariants.{excess, one}
 use Rattle.shares.proofs.level.above.Goals as goal
 
 abbrev rooms : (c : Start) → ℕ → ℕ
@@ -44,7 +44,7 @@ k_lt : (c : After-room-room) → c.loop-k.k < c.args.nodes
 k_lt c = c.loop-k-test.true
 
 helps-n : (c : After-room-room) → helps (at c.args.helpands.now) c.args.n c.loop-k.k ≡ true
-helps-n c = c.loop-k.inv.0.helper (k_lt c)
+helps-n c = c.loop-k.invariant.0.helper (k_lt c)
 
 room-is : (c : After-room-room) → c.room-room.result ≡ rooms c c.loop-k.k
 room-is c =

@@ -58,7 +58,7 @@ pub overflow_sub-high : goal.overflow_sub-high
 overflow_sub-high c = omega (arith, short (goal.at.overflow_sub-high c).After-struct_known-in-loop-high-1)
 
 pub rise-requires : goal.rise-requires
-rise-requires c = (omega (arith, short (goal.at.rise-requires c).After-struct_known-in-loop-high-1), turn-some (bound (start c)) (counted (up c)) (short (goal.at.rise-requires c).After-struct_known-in-loop-high-1))
+rise-requires c = (omega (arith, short (goal.at.rise-requires c).After-struct_known-in-loop-high-1), turn-some (bound (goal.at.rise-requires c).Start) (counted (goal.at.rise-requires c).After-above-high) (short (goal.at.rise-requires c).After-struct_known-in-loop-high-1))
 
 pub overflow_cast-level : goal.overflow_cast-level
 overflow_cast-level c = omega (arith, level-most (goal.at.overflow_cast-level c).After-rise)
@@ -67,7 +67,7 @@ pub overflow_add-level : goal.overflow_add-level
 overflow_add-level c = omega (arith, level-most (goal.at.overflow_add-level c).After-rise)
 
 pub loop-high-smaller : goal.loop-high-smaller
-loop-high-smaller c = turn_fewer (bound (start c.before)) (counted (up c.before)) (short (goal.at.loop-high-smaller c).After-struct_known-in-loop-high-1) c.rise.ensures
+loop-high-smaller c = turn_fewer (bound (goal.at.loop-high-smaller c).Start) (counted (goal.at.loop-high-smaller c).After-above-high) (short (goal.at.loop-high-smaller c).After-struct_known-in-loop-high-1) c.rise.ensures
 
 pub loop-high-preserved : goal.loop-high-preserved
-loop-high-preserved c = inr (turn-lowest (bound (start c.before)) (counted (up c.before)) (short (goal.at.loop-high-preserved c).After-struct_known-in-loop-high-1) c.rise.ensures)
+loop-high-preserved c = inr (turn-lowest (bound (goal.at.loop-high-preserved c).Start) (counted (goal.at.loop-high-preserved c).After-above-high) (short (goal.at.loop-high-preserved c).After-struct_known-in-loop-high-1) c.rise.ensures)

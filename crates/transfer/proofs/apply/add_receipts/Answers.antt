@@ -46,7 +46,7 @@ fits-here : (c : After-word_number-received) → at c.loop-i.table-1 c.into_cell
 fits-here c =
     let a = c.args in
     let l = c.loop-i in
-    fits a.table.now a.moves.now a.e l.table l.i l.inv c.loop-i-test.true _ _ (read c) c.requires.1
+    fits a.table.now a.moves.now a.e l.table l.i l.invariant c.loop-i-test.true _ _ (read c) c.requires.1
     c.into_cell-into.result c.into_cell-into.ensures
 
 pub loop-i-init : goal.loop-i-init
@@ -57,7 +57,7 @@ loop-i-preserved c =
     let a = c.args in
     let l = c.loop-i in
     rw c.into_cell-into.ensures
-    (after a.table.now a.moves.now a.e l.table l.i l.inv c.loop-i-test.true _ _ (read (goal.at.loop-i-preserved c).After-word_number-received))
+    (after a.table.now a.moves.now a.e l.table l.i l.invariant c.loop-i-test.true _ _ (read (goal.at.loop-i-preserved c).After-word_number-received))
 
 pub returns : goal.returns
 returns c =

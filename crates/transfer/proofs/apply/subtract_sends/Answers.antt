@@ -58,7 +58,7 @@ loop-i-init c = record { i_le = omega arith; size = c.requires.size; left = λ j
 pub returns-then-table-from : goal.returns-then-table-from
 returns-then-table-from c =
     let a = c.args in
-    let l = c.loop-i in record { answer = sym (fails a.table.now a.moves.now a.e l.table l.i l.inv c.loop-i-test.true _ _ (read (goal.at.returns-then-table-from c).After-word_number-sent)
+    let l = c.loop-i in record { answer = sym (fails a.table.now a.moves.now a.e l.table l.i l.invariant c.loop-i-test.true _ _ (read (goal.at.returns-then-table-from c).After-word_number-sent)
           c.requires.size (rw (← c.from_cell-from.ensures) c.if-table-from.true)); left = λ z. absurd (true≢false (sym z)) }
 
 pub loop-i-preserved : goal.loop-i-preserved
@@ -66,7 +66,7 @@ loop-i-preserved c =
     let a = c.args in
     let l = c.loop-i in
     rw c.from_cell-from.ensures
-    (after a.table.now a.moves.now a.e l.table l.i l.inv c.loop-i-test.true _ _ (read (goal.at.loop-i-preserved c).After-word_number-sent)
+    (after a.table.now a.moves.now a.e l.table l.i l.invariant c.loop-i-test.true _ _ (read (goal.at.loop-i-preserved c).After-word_number-sent)
     (rw (← c.from_cell-from.ensures) c.if-table-from.false))
 
 pub returns : goal.returns

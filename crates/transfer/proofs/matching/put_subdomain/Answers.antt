@@ -13,7 +13,7 @@ use Rattle.transfer.proofs.Entries.{Pending, begin, finish, room, sender-next, r
 use Rattle.transfer.proofs.Next.{next-eq}
 use Rattle.transfer.proofs.Matched.{moves-few}
 use Rattle.transfer.proofs.matching.put_subdomain.Goals.{After-min-count}
-use Rattle.transfer.proofs.matching.put_subdomain.Invariants.{whole, lacks, above}
+use Rattle.transfer.proofs.matching.put_subdomain.Invariants.{lacks, whole, above}
 use Rattle.transfer.proofs.matching.put_subdomain.Goals as goal
 
 -- both are what the one amount is above the other
@@ -55,10 +55,10 @@ has_room c =
     let b : k ≤ a.e + length (all c) =
     room a.nodes (surplus c) (shortage c) a.n a.routes.now a.counts.now a.e (all c) l.routes l.counts l.entries
     l.s.node l.s.count l.r.node l.r.count
-    l.inv (sender-lt c) (receiver-lt c) c.min-count.result c.min-count.ensures in
+    l.invariant (sender-lt c) (receiver-lt c) c.min-count.result c.min-count.ensures in
     let f : length (all c) ≤ a.nodes - 1 = moves-few a.nodes (at a.holding.now) (at a.due.now) in (
-      within k a.e (length (all c)) (a.nodes - 1) (length l.routes) (length a.routes.now) b f p.2 l.inv.moves.routes_long,
-      within k a.e (length (all c)) (a.nodes - 1) (length l.counts) (length a.counts.now) b f p.3 l.inv.moves.counts_long,
+      within k a.e (length (all c)) (a.nodes - 1) (length l.routes) (length a.routes.now) b f p.2 l.invariant.moves.routes_long,
+      within k a.e (length (all c)) (a.nodes - 1) (length l.counts) (length a.counts.now) b f p.3 l.invariant.moves.counts_long,
     )
 
 pub put_move-entries-requires : goal.put_move-entries-requires
@@ -89,7 +89,7 @@ loop-s-preserved-then-s-r c =
     let a = c.args in
     sender-next a.nodes (surplus (goal.at.loop-s-preserved-then-s-r c).After-min-count) (shortage (goal.at.loop-s-preserved-then-s-r c).After-min-count) a.n a.routes.now a.counts.now a.e (all (goal.at.loop-s-preserved-then-s-r c).After-min-count) l.routes l.counts
     l.entries l.s.node l.s.count l.r.node l.r.count
-    l.inv (sender-lt (goal.at.loop-s-preserved-then-s-r c).After-min-count) (receiver-lt (goal.at.loop-s-preserved-then-s-r c).After-min-count) c.min-count.result c.min-count.ensures
+    l.invariant (sender-lt (goal.at.loop-s-preserved-then-s-r c).After-min-count) (receiver-lt (goal.at.loop-s-preserved-then-s-r c).After-min-count) c.min-count.result c.min-count.ensures
     c.put_move-entries.last.0 c.put_move-entries.last.1.0 c.put_move-entries.result c.put_move-entries.ensures.entries c.put_move-entries.ensures.routes.0
     c.put_move-entries.ensures.routes.1
     c.if-s-r.true c.next_above-s-then-s-r.result.node c.next_above-s-then-s-r.result.count
@@ -101,7 +101,7 @@ loop-s-preserved c =
     let a = c.args in
     receiver-next a.nodes (surplus (goal.at.loop-s-preserved c).After-min-count) (shortage (goal.at.loop-s-preserved c).After-min-count) a.n a.routes.now a.counts.now a.e (all (goal.at.loop-s-preserved c).After-min-count) l.routes l.counts
     l.entries l.s.node l.s.count l.r.node l.r.count
-    l.inv (sender-lt (goal.at.loop-s-preserved c).After-min-count) (receiver-lt (goal.at.loop-s-preserved c).After-min-count) c.min-count.result c.min-count.ensures
+    l.invariant (sender-lt (goal.at.loop-s-preserved c).After-min-count) (receiver-lt (goal.at.loop-s-preserved c).After-min-count) c.min-count.result c.min-count.ensures
     c.put_move-entries.last.0 c.put_move-entries.last.1.0 c.put_move-entries.result c.put_move-entries.ensures.entries c.put_move-entries.ensures.routes.0
     c.put_move-entries.ensures.routes.1
     c.if-s-r.false c.next_above-r-else-s-r.result.node c.next_above-r-else-s-r.result.count
