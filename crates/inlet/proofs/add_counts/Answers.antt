@@ -23,14 +23,14 @@ below : (c : After-word_number) → c.word_number-c.result < table_size
 below c =
     let a = c.args in
     let v = c.loop-i.invariant in
-    index_below a.table.now a.s.now v.0 a.e v.1 c.loop-i.table-1 c.loop-i.i v.2 c.loop-i-test.true
+    index_below a.table.now a.s.now v.0 a.e v.1 c.loop-i.table c.loop-i.i v.2 c.loop-i-test.true
     _ _ c.word_number-c.ensures c.word_number.ensures
 
-fits-here : (c : After-word_number) → at c.loop-i.table-1 c.word_number-c.result + c.word_number.result ≤ max_total
+fits-here : (c : After-word_number) → at c.loop-i.table c.word_number-c.result + c.word_number.result ≤ max_total
 fits-here c =
     let a = c.args in
     let v = c.loop-i.invariant in
-    fits a.table.now a.s.now v.0 a.e v.1 c.loop-i.table-1 c.loop-i.i v.2 c.loop-i-test.true
+    fits a.table.now a.s.now v.0 a.e v.1 c.loop-i.table c.loop-i.i v.2 c.loop-i-test.true
     _ _ c.word_number-c.ensures c.word_number.ensures
 
 pub loop-i-preserved : goal.loop-i-preserved

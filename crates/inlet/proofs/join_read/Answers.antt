@@ -40,11 +40,11 @@ returns-then-a-b-gt-MAX_TOTAL c =
         ends_total c.requires _ c.if-a-b.false c.if-a-b-2.false c.if-a-b-gt-MAX_TOTAL.true in
     record { answer = whole.0; bytes = whole.1 }
 
-table_is : (c : After-add_counts) → c.add_counts.new.0 ≡ joined_table c.args.first.now c.args.second.now
+table_is : (c : After-add_counts) → c.add_counts.new.table ≡ joined_table c.args.first.now c.args.second.now
 table_is c = c.add_counts.ensures ∙ joined_is c.requires c.unpack-table.ensures
 
 abbrev rec : (c : After-write_sheet) → List ℕ
-rec c = sheet_bytes c.args.a.n c.args.a.t c.add_counts.new.0
+rec c = sheet_bytes c.args.a.n c.args.a.t c.add_counts.new.table
 
 pub returns-in-Bytes : goal.returns-in-Bytes
 returns-in-Bytes c =
@@ -63,7 +63,7 @@ pub overflow_cast-result : goal.overflow_cast-result
 overflow_cast-result c =
     let h = c.args.a in
     let z = writing-bytes (rec (goal.at.overflow_cast-result c).After-write_sheet) c.args.out.now c.in-Bytes.size (sym c.in-Bytes.is ∙ c.write_sheet.ensures.answer) in
-    omega (arith, z.0, length_most h.n h.t c.add_counts.new.0 (facts (goal.at.overflow_cast-result c).After-struct_known-2-1).n_high)
+    omega (arith, z.0, length_most h.n h.t c.add_counts.new.table (facts (goal.at.overflow_cast-result c).After-struct_known-2-1).n_high)
 
 pub add_counts-requires : goal.add_counts-requires
 add_counts-requires c =

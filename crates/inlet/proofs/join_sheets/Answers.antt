@@ -39,4 +39,4 @@ pub returns-in-Accepted-read_sheet : goal.returns-in-Accepted-read_sheet
 returns-in-Accepted-read_sheet c =
     let whole =
         c.join_read.ensures in
-    record { answer = whole.0; bytes = whole.1 }
+    record { answer = whole.answer; bytes = whole.bytes }
