@@ -72,7 +72,7 @@ keeps-is c =
     let e = space-helper (at a.helpands.now) a.limit (at a.reserves.now) a.share a.n c.loop-k.k (helps-n c) in
     c.keeps-amount.ensures ∙ ap (λ (x : ℕ). min x (holding c c.loop-k.k)) (sym e)
 
-still_there : (c : After-keeps-amount) → c.keeps-amount.result ≤ c.loop-k.rest-1
+still_there : (c : After-keeps-amount) → c.keeps-amount.result ≤ c.loop-k.rest
 still_there c =
     let total_is' : at c.args.totals.now c.args.n ≡ total_of c.args.nodes c.args.table.now c.args.n =
         ap (λ (xs : List ℕ). at xs c.args.n) c.requires.2
