@@ -103,7 +103,7 @@ returns c =
     (sym c.smallest_in_a.ensures ∙ w.1.given.1) (sym w.9.ensures ∙ w.11.given.1)))
     (λ w. reached-end a.nodes a.p c.requires.1 (at a.totals) a.old (old_below (goal.at.returns c).Start) _ _ c.loop-l.invariant
     (sym c.smallest_in_a.ensures ∙ w.1.given.1))
-    c.match.branch))
+    c.match-smallest_in_a.branch))
 
 pub offset_bounds-s-l : goal.offset_bounds-s-l
 offset_bounds-s-l c = omega (arith, (l_fits (goal.at.offset_bounds-s-l c).In-At).0)
