@@ -42,7 +42,7 @@ read c =
 into-lt : (c : After-word_number-received) → c.into_cell-into.result < table_size
 into-lt c = omega (arith, c.into_cell-into.ensures, (read c).below)
 
-fits-here : (c : After-word_number-received) → at c.loop-i.table-1 c.into_cell-into.result + c.word_number-received.result ≤ max_total
+fits-here : (c : After-word_number-received) → at c.loop-i.table c.into_cell-into.result + c.word_number-received.result ≤ max_total
 fits-here c =
     let a = c.args in
     let l = c.loop-i in

@@ -56,7 +56,7 @@ within-here : (c : Else-not-subtract_sends) → let a = c.args in
 within-here c = sym c.subtract_sends.ensures.answer ∙ (all_had c)
 
 left_is : (c : Else-not-subtract_sends) → let a = c.args in
-    c.subtract_sends.new.0 ≡ less_sends a.table.now (routes_of a.moves.now a.e) (counts_of a.moves.now a.e)
+    c.subtract_sends.new.table ≡ less_sends a.table.now (routes_of a.moves.now a.e) (counts_of a.moves.now a.e)
 left_is c = c.subtract_sends.ensures.left (all_had c)
 
 pub add_receipts-requires : goal.add_receipts-requires

@@ -46,7 +46,7 @@ receiver-lt : (c : After-min-count) → c.loop-s.r.node < c.args.nodes
 receiver-lt c = ltb-true c.loop-s.r.node c.args.nodes c.if-r-nodes.true
 
 has_room : (c : After-min-count) → let k = c.loop-s.entries + length (move_of c.loop-s.s.node c.loop-s.r.node c.min-count.result) in
-    (k ≤ length c.loop-s.routes-1) × (k ≤ length c.loop-s.counts-1)
+    (k ≤ length c.loop-s.routes) × (k ≤ length c.loop-s.counts)
 has_room c =
     let l = c.loop-s in
     let a = c.args in
@@ -113,7 +113,7 @@ returns-else-r-nodes c =
         let a = c.args in
     finish a.nodes (above a.holding.now a.due.now) (lacks a.holding.now a.due.now) a.n a.routes.now
     a.counts.now a.e (whole a.nodes a.holding.now a.due.now)
-    c.loop-s.routes-1 c.loop-s.counts-1 c.loop-s.entries c.loop-s.s.node c.loop-s.s.count c.loop-s.r.node c.loop-s.r.count
+    c.loop-s.routes c.loop-s.counts c.loop-s.entries c.loop-s.s.node c.loop-s.s.count c.loop-s.r.node c.loop-s.r.count
     c.loop-s.invariant (inr (ltb-false c.loop-s.r.node a.nodes c.if-r-nodes.false)) in
     record { entries = whole.0; routes = whole.1; counts = whole.2 }
 
@@ -123,6 +123,6 @@ returns-after-loop-s c =
         let a = c.args in
     finish a.nodes (above a.holding.now a.due.now) (lacks a.holding.now a.due.now) a.n a.routes.now
     a.counts.now a.e (whole a.nodes a.holding.now a.due.now)
-    c.loop-s.routes-1 c.loop-s.counts-1 c.loop-s.entries c.loop-s.s.node c.loop-s.s.count c.loop-s.r.node c.loop-s.r.count
+    c.loop-s.routes c.loop-s.counts c.loop-s.entries c.loop-s.s.node c.loop-s.s.count c.loop-s.r.node c.loop-s.r.count
     c.loop-s.invariant (inl c.loop-s-test.false) in
     record { entries = whole.0; routes = whole.1; counts = whole.2 }
