@@ -45,4 +45,4 @@ pub returns-in-Accepted-read_plan : goal.returns-in-Accepted-read_plan
 returns-in-Accepted-read_plan c =
     let whole =
         c.weigh_read.ensures in
-    record { answer = whole.0; bytes = whole.1 }
+    record { answer = whole.answer; bytes = whole.bytes }
