@@ -57,10 +57,10 @@ pub returns-in-Tree : goal.returns-in-Tree
 returns-in-Tree c =
     let whole =
         c.plan_read.ensures in
-    record { answer = whole.0; plan = whole.1; moves = whole.2 }
+    record { answer = whole.answer; plan = whole.plan; moves = whole.moves }
 
 pub returns-in-NoTree : goal.returns-in-NoTree
 returns-in-NoTree c =
     let whole =
         c.plan_read-in-NoTree.ensures in
-    record { answer = whole.0; plan = whole.1; moves = whole.2 }
+    record { answer = whole.answer; plan = whole.plan; moves = whole.moves }
