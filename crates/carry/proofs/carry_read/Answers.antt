@@ -35,9 +35,7 @@ returns-then-not-apply_moves c =
 
 within : (c : Else-not-apply_moves) → within_in c.args.sheet.now c.args.moves.now ≡ true
 within c =
-    let within-is-here' : c.apply_moves.result ≡ within_in c.args.sheet.now c.args.moves.now =
-    c.apply_moves.ensures.answer ∙ within-is c.requires c.unpack-table.ensures in
-    sym within-is-here' ∙ c.if-not-apply_moves.false
+    sym (c.apply_moves.ensures.answer ∙ within-is c.requires c.unpack-table.ensures) ∙ c.if-not-apply_moves.false
 
 table_is : (c : Else-not-apply_moves) → c.apply_moves.new.table ≡ next_table c.args.sheet.now c.args.moves.now
 table_is c = c.apply_moves.ensures.next (c.if-not-apply_moves.false) ∙ carried-is c.requires c.unpack-table.ensures
