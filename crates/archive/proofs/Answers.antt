@@ -7,8 +7,8 @@ use borrow.Author.Tests.{le-leb, ne_eqb}
 use lib.Dec.{eqb, leb}
 use Rattle.words.specs.declared.WrittenAnswer.{WrittenAnswer}
 use Rattle.sheet.specs.declared.SheetRefusal.{SheetRefusal}
-use Rattle.sheet.specs.Sheet.{refusal_number as sheetNumber}
-use Rattle.sheet.proofs.Answers.{refusal_of as sheetRefusal, numbered}
+use Rattle.sheet.specs.Sheet.{refusal_number as sheet_number}
+use Rattle.sheet.proofs.Answers.{refusal_of as sheet_refusal, numbered}
 use Rattle.archive.specs.declared.write.WriteRefusal.{WriteRefusal}
 use Rattle.archive.specs.declared.write.WriteRefusal.TheVariants.{Sheet, Buffer as WriteBuffer}
 use Rattle.archive.specs.declared.write.ArchiveWriting.{ArchiveWriting}
@@ -23,7 +23,7 @@ use Rattle.archive.specs.Archive.{writing_of, reading_of}
 
 -- the refusal of a number
 abbrev write_refusal : ℕ → WriteRefusal
-write_refusal k = cond (leb k 7) (Sheet (sheetRefusal k)) WriteBuffer
+write_refusal k = cond (leb k 7) (Sheet (sheet_refusal k)) WriteBuffer
 
 abbrev writing_from : WrittenAnswer → ArchiveWriting
 writing_from a = cond (eqb a.refusal 0) Archived (NotArchived (write_refusal a.refusal))
@@ -32,7 +32,7 @@ writing_back : (w : ArchiveWriting) → writing_from (writing_of w) ≡ w
 writing_back Archived = refl
 writing_back (NotArchived (Sheet r)) =
     let n = numbered r in
-    rw (ne_eqb (sheetNumber r) 0 (λ z. omega (arith, n.0)), le-leb (sheetNumber r) 7 n.1)
+    rw (ne_eqb (sheet_number r) 0 (λ z. omega (arith, n.0)), le-leb (sheet_number r) 7 n.1)
     (ap (λ (x : SheetRefusal). NotArchived (Sheet x)) n.2)
 writing_back (NotArchived WriteBuffer) = refl
 

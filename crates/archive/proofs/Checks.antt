@@ -18,7 +18,7 @@ use Rattle.words.specs.declared.WrittenAnswer.{WrittenAnswer}
 use Rattle.words.proofs.Writing.{Ends, ends_refused, ends_written, ends_short}
 use Rattle.sheet.specs.declared.Sheet.{Sheet}
 use Rattle.sheet.specs.declared.SheetAnswer.{SheetAnswer}
-use Rattle.sheet.specs.Sheet.{read_sheet, accepted as sheetAccepted}
+use Rattle.sheet.specs.Sheet.{read_sheet, accepted as sheet_accepted}
 use Rattle.sheet.specs.Table.{table_of}
 use Rattle.sheet.specs.Write.{sheet_bytes}
 use Rattle.archive.specs.Archive.{archive_size, archive_bytes, write_answer, archive_of, nodes_in, tolerance_in, table_from, total_in, counts_fine, sheet_from, counts_answer, read_answer}
@@ -35,7 +35,7 @@ module _ (s out : List ℕ) where
   ends_sheet k e d = ends_refused (write_answer s (length out)) (archive_of s) out k d (rw (← e, ne_eqb k 0 d))
 
   -- the sheet was read
-  module _ {h : Sheet} (read : sheetAccepted h.n h.t h.e h.p h.limit ≡ read_sheet s) where
+  module _ {h : Sheet} (read : sheet_accepted h.n h.t h.e h.p h.limit ≡ read_sheet s) where
     pub ends_buffer : length out < archive_size → WriteEnds (refused 56) out
     unfolding write_answer
     ends_buffer short =

@@ -21,7 +21,7 @@ use Rattle.words.proofs.Words.{Below, below-cons, length-words, length-encode, w
 use Rattle.words.proofs.Records.{take_two}
 use Rattle.words.proofs.Buffer.{after_front}
 use Rattle.sheet.specs.declared.SheetAnswer.{SheetAnswer}
-use Rattle.sheet.specs.Sheet.{read_sheet, cell, accepted as sheetAccepted}
+use Rattle.sheet.specs.Sheet.{read_sheet, cell, accepted as sheet_accepted}
 use Rattle.sheet.specs.Table.{table_in}
 use Rattle.sheet.specs.Write.{filled_cells, sheet_bytes}
 use Rattle.sheet.proofs.Accepted.{Accepted as SheetAccepted, sheet-accepted}
@@ -103,7 +103,7 @@ module _ (a : List ℕ) (k : Accepted a) where
 
   -- the sheet that comes out is read back
   pub restored_read : read_sheet (sheet_from a)
-      ≡ sheetAccepted (nodes_in a) (tolerance_in a) (length (filled_cells (nodes_in a) (table_from a))) (total_in a)
+      ≡ sheet_accepted (nodes_in a) (tolerance_in a) (length (filled_cells (nodes_in a) (table_from a))) (total_in a)
       (limit_of (total_in a) (nodes_in a) (tolerance_in a))
   unfolding sheet_from
   restored_read = read-written (nodes_in a) (tolerance_in a) (table_from a) k.writable

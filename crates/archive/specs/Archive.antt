@@ -11,7 +11,7 @@ use Rattle.words.specs.Words.{words, encode}
 use Rattle.words.specs.Buffer.{after_call}
 use Rattle.words.specs.Answer.{refused, accepted}
 use Rattle.words.specs.declared.WrittenAnswer.{WrittenAnswer}
-use Rattle.sheet.specs.Sheet.{read_sheet, cell_fine, refusal_number as sheetNumber}
+use Rattle.sheet.specs.Sheet.{read_sheet, cell_fine, refusal_number as sheet_number}
 use Rattle.sheet.specs.Table.{table_in, held}
 use Rattle.sheet.specs.Write.{sheet_bytes}
 use Rattle.archive.specs.ZOrder.{position, position_of}
@@ -27,7 +27,7 @@ use Rattle.archive.specs.declared.read.ArchiveReading.TheVariants.{Restored, Ref
 -- ---- answers: the paper's number of each refusal, and its number and values for each case of the enums
 
 abbrev pub write_number : WriteRefusal → ℕ
-write_number (OfSheet r) = sheetNumber r
+write_number (OfSheet r) = sheet_number r
 write_number WriteBuffer = 56
 
 abbrev pub read_number : ReadRefusal → ℕ

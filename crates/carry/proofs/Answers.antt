@@ -6,10 +6,10 @@ use native.Mathlib.Omega.{arith}
 use borrow.Author.Tests.{le-leb, lt-leb, ne_eqb}
 use lib.Dec.{eqb, leb}
 use Rattle.words.specs.declared.WrittenAnswer.{WrittenAnswer}
-use Rattle.sheet.specs.Sheet.{refusal_number as sheetNumber}
-use Rattle.sheet.proofs.Answers.{refusal_of as sheetRefusal, numbered as sheet-numbered}
-use Rattle.moves.specs.Moves.{refusal_number as movesNumber}
-use Rattle.moves.proofs.Answers.{refusal_of as movesRefusal, numbered as moves-numbered}
+use Rattle.sheet.specs.Sheet.{refusal_number as sheet_number}
+use Rattle.sheet.proofs.Answers.{refusal_of as sheet_refusal, numbered as sheet-numbered}
+use Rattle.moves.specs.Moves.{refusal_number as moves_number}
+use Rattle.moves.proofs.Answers.{refusal_of as moves_refusal, numbered as moves-numbered}
 use Rattle.carry.specs.declared.check.CheckRefusal.{CheckRefusal}
 use Rattle.carry.specs.declared.check.CheckRefusal.TheVariants.{Sheet, Moves, NodesDiffer, Sends}
 use Rattle.carry.specs.declared.CarryRefusal.{CarryRefusal}
@@ -23,17 +23,17 @@ use Rattle.carry.specs.Carry.{answer_of}
 
 -- the refusal of a number
 abbrev pub check_of : ℕ → CheckRefusal
-check_of k = cond (leb k 7) (Sheet (sheetRefusal k)) (cond (leb k 36) (Moves (movesRefusal k)) (cond (eqb k 41) NodesDiffer Sends))
+check_of k = cond (leb k 7) (Sheet (sheet_refusal k)) (cond (leb k 36) (Moves (moves_refusal k)) (cond (eqb k 41) NodesDiffer Sends))
 
 -- their numbers are 1 to 42, and the number tells which refusal it is
 pub numbered : (r : CheckRefusal) → (1 ≤ check_number r) × (check_number r ≤ 42) × (check_of (check_number r) ≡ r)
 numbered (Sheet r) =
     let n = sheet-numbered r in
-    (n.0, omega (arith, n.1), rw (le-leb (sheetNumber r) 7 n.1) (ap Sheet n.2))
+    (n.0, omega (arith, n.1), rw (le-leb (sheet_number r) 7 n.1) (ap Sheet n.2))
 numbered (Moves r) =
     let n = moves-numbered r in
-    let more = lt-leb (movesNumber r) 7 (omega (arith, n.0)) in
-    (omega (arith, n.0), omega (arith, n.1), rw (more, le-leb (movesNumber r) 36 n.1) (ap Moves n.2))
+    let more = lt-leb (moves_number r) 7 (omega (arith, n.0)) in
+    (omega (arith, n.0), omega (arith, n.1), rw (more, le-leb (moves_number r) 36 n.1) (ap Moves n.2))
 numbered NodesDiffer = (omega arith, omega arith, refl)
 numbered Sends = (omega arith, omega arith, refl)
 

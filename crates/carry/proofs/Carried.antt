@@ -18,7 +18,7 @@ use Rattle.words.specs.declared.Written.TheVariants.{Bytes, Short}
 use Rattle.words.proofs.Writing.{Ends, ends_written, ends_short}
 use Rattle.sheet.specs.declared.Sheet.{Sheet}
 use Rattle.sheet.specs.declared.SheetAnswer.{SheetAnswer}
-use Rattle.sheet.specs.Sheet.{accepted as sheetAccepted}
+use Rattle.sheet.specs.Sheet.{accepted as sheet_accepted}
 use Rattle.sheet.specs.Table.{table_of}
 use Rattle.sheet.specs.Write.{sheet_bytes}
 use Rattle.sheet.proofs.Tables.{table-within}
@@ -37,7 +37,7 @@ use Rattle.carry.proofs.Checks.{carriable_checked, stops_sends, stops_nowhere, e
 
 module _ {s m : List ℕ} {h : Sheet} {q : Moves} (r : PairAccepted s m h q) {table : List ℕ} (is : table ≡ table_of s h.e) where
   pub appliable : Ready table m q.e × (sum table_size (at table) ≤ max_total)
-  appliable = (ready r is, rw is (table-within s (sheetAccepted h.n h.t h.e h.p h.limit) (sheet_facts r)))
+  appliable = (ready r is, rw is (table-within s (sheet_accepted h.n h.t h.e h.p h.limit) (sheet_facts r)))
 
   pub carried-is : carried table (routes_of m q.e) (counts_of m q.e) ≡ next_table s m
   carried-is = rw (is, ← r.sheet, ← r.moves)

@@ -15,14 +15,14 @@ use Rattle.words.specs.declared.WrittenAnswer.{WrittenAnswer}
 use Rattle.words.proofs.Writing.{Ends, ends_refused}
 use Rattle.sheet.specs.declared.Sheet.{Sheet}
 use Rattle.sheet.specs.declared.SheetAnswer.{SheetAnswer}
-use Rattle.sheet.specs.Sheet.{read_sheet, accepted as sheetAccepted}
+use Rattle.sheet.specs.Sheet.{read_sheet, accepted as sheet_accepted}
 use Rattle.sheet.specs.Table.{table_of}
 use Rattle.sheet.proofs.Accepted.{Accepted as AcceptedSheet, reading_accepted}
 use Rattle.sheet.proofs.Refusals.{sheet-most}
 use Rattle.sheet.proofs.Tables.{length-table}
 use Rattle.moves.specs.declared.Moves.{Moves}
 use Rattle.moves.specs.declared.MovesAnswer.{MovesAnswer}
-use Rattle.moves.specs.Moves.{read_moves, routes_of, counts_of, accepted as movesAccepted}
+use Rattle.moves.specs.Moves.{read_moves, routes_of, counts_of, accepted as moves_accepted}
 use Rattle.moves.proofs.Accepted.{Accepted as AcceptedMoves, reading_accepted as moves-reading, route-at}
 use Rattle.moves.proofs.Refusals.{moves-most}
 use Rattle.transfer.specs.Apply.{sends_within}
@@ -53,8 +53,8 @@ module _ (s m : List ℕ) where
   stops_moves z k e d = rw (← z, ← e, ne_eqb k 0 d)
 
   -- both were read
-  pub stops_differ : {h : Sheet} {q : Moves} → sheetAccepted h.n h.t h.e h.p h.limit ≡ read_sheet s
-      → movesAccepted q.n q.e ≡ read_moves m → h.n ≢ q.n → 41 ≡ checked s m
+  pub stops_differ : {h : Sheet} {q : Moves} → sheet_accepted h.n h.t h.e h.p h.limit ≡ read_sheet s
+      → moves_accepted q.n q.e ≡ read_moves m → h.n ≢ q.n → 41 ≡ checked s m
   unfolding checked
   stops_differ {h} {q} a b d = rw (← a, ← b, ne_eqb h.n q.n d)
 
@@ -127,17 +127,17 @@ module _ (s m : List ℕ) where
 -- ---- what is known of a sheet and moves that were read
 
 module _ {s m : List ℕ} {h : Sheet} {q : Moves} (r : PairAccepted s m h q) where
-  pub sheet_facts : AcceptedSheet s (sheetAccepted h.n h.t h.e h.p h.limit)
+  pub sheet_facts : AcceptedSheet s (sheet_accepted h.n h.t h.e h.p h.limit)
   sheet_facts = reading_accepted s h r.sheet
 
-  moves_facts : AcceptedMoves m (movesAccepted q.n q.e)
+  moves_facts : AcceptedMoves m (moves_accepted q.n q.e)
   moves_facts = moves-reading m q r.moves
 
   pub readable : Readable m q.e
   readable =
       record {
         long = omega (arith, moves_facts.size);
-        below = λ i l. omega (arith, (route-at m (movesAccepted q.n q.e) moves_facts i l).subdomain_below, moves_facts.n_high);
+        below = λ i l. omega (arith, (route-at m (moves_accepted q.n q.e) moves_facts i l).subdomain_below, moves_facts.n_high);
       }
 
   -- the sheet's table, as it is unpacked: the moves can be applied to it, and their sends tested

@@ -15,7 +15,7 @@ use Rattle.words.specs.Answer.{refused, accepted}
 use Rattle.words.proofs.Buffer.{after_front}
 use Rattle.arrays.specs.Arrays.{at}
 use Rattle.sheet.specs.declared.SheetAnswer.{SheetAnswer}
-use Rattle.sheet.specs.Sheet.{read_sheet, accepted as sheetAccepted}
+use Rattle.sheet.specs.Sheet.{read_sheet, accepted as sheet_accepted}
 use Rattle.sheet.specs.Table.{table_in}
 use Rattle.sheet.specs.Write.{filled_cells, longest_sheet}
 use Rattle.sheet.proofs.Accepted.{Accepted, sheet-accepted}
@@ -82,12 +82,12 @@ module _ {s m : List ℕ} (d : Carriable s m) where
       (acceptable_below n₀ facts.n_high (routes_in m) (counts_in m) acceptable) d.within
       ∙ table-sum s (read_sheet s) facts
 
-  next_read : read_sheet (next_sheet s m) ≡ sheetAccepted n₀ t₀ entries (read_sheet s).p (read_sheet s).limit
+  next_read : read_sheet (next_sheet s m) ≡ sheet_accepted n₀ t₀ entries (read_sheet s).p (read_sheet s).limit
   unfolding next_sheet
   next_read =
       read-written n₀ t₀ (next_table s m) next-writable
-      ∙ ap (λ (p : ℕ). sheetAccepted n₀ t₀ entries p (limit_of p n₀ t₀)) next-sum
-      ∙ ap (λ (l : ℕ). sheetAccepted n₀ t₀ entries (read_sheet s).p l) (sym facts.limit_is)
+      ∙ ap (λ (p : ℕ). sheet_accepted n₀ t₀ entries p (limit_of p n₀ t₀)) next-sum
+      ∙ ap (λ (l : ℕ). sheet_accepted n₀ t₀ entries (read_sheet s).p l) (sym facts.limit_is)
 
   pub next_back : SheetReadBack s m (next_sheet s m)
   next_back =

@@ -5,7 +5,7 @@ use Rattle.words.specs.Checks.{refuse_if, refuse_as}
 use Rattle.words.specs.Buffer.{after_call}
 use Rattle.words.specs.declared.WrittenAnswer.{WrittenAnswer}
 use Rattle.words.specs.Answer.{refused, accepted}
-use Rattle.sheet.specs.Sheet.{read_sheet, accepted as sheetAccepted}
+use Rattle.sheet.specs.Sheet.{read_sheet, accepted as sheet_accepted}
 use Rattle.sheet.specs.Table.{table_in}
 use Rattle.sheet.specs.Write.{filled_cells, sheet_bytes}
 use Rattle.transfer.specs.Apply.{carried}
@@ -54,5 +54,5 @@ next_after s m out = after_call (carry_answer s m (length out)).refusal (next_sh
 -- it is accepted, with the N, t, P and limit of s and as many entries as the table that follows has counts, and with this table
 pub record SheetReadBack (s m next : List ℕ) : Type 0 where
   pub read : let entries = length (filled_cells (read_sheet s).n (next_table s m)) in
-      read_sheet next ≡ sheetAccepted (read_sheet s).n (read_sheet s).t entries (read_sheet s).p (read_sheet s).limit
+      read_sheet next ≡ sheet_accepted (read_sheet s).n (read_sheet s).t entries (read_sheet s).p (read_sheet s).limit
   pub table : table_in next ≡ next_table s m

@@ -1,9 +1,9 @@
 -- Document 01, *Carry out*: its checks up to 42. They are those of request 2026-04, too: "those of *carry out* up to 42".
 use Rattle.std.specs.Prelude.{ℕ, List, Bool, not, eqb}
 use Rattle.words.specs.Checks.{refuse_if, refuse_as}
-use Rattle.sheet.specs.Sheet.{read_sheet, refusal_number as sheetNumber}
+use Rattle.sheet.specs.Sheet.{read_sheet, refusal_number as sheet_number}
 use Rattle.sheet.specs.Table.{table_in}
-use Rattle.moves.specs.Moves.{read_moves, routes_of, counts_of, refusal_number as movesNumber}
+use Rattle.moves.specs.Moves.{read_moves, routes_of, counts_of, refusal_number as moves_number}
 use Rattle.transfer.specs.Apply.{sends_within}
 use Rattle.carry.specs.declared.check.CheckRefusal.{CheckRefusal}
 use Rattle.carry.specs.declared.check.CheckRefusal.TheVariants.{Sheet as OfSheet, Moves as OfMoves, NodesDiffer, Sends}
@@ -11,8 +11,8 @@ use Rattle.carry.specs.declared.check.CheckRefusal.TheVariants.{Sheet as OfSheet
 -- the paper's number of each refusal: "the sheet's; the moves'; 41, N differ; 42, some cell sends in all more than the old sheet gives
 -- it"
 abbrev pub check_number : CheckRefusal → ℕ
-check_number (OfSheet r) = sheetNumber r
-check_number (OfMoves r) = movesNumber r
+check_number (OfSheet r) = sheet_number r
+check_number (OfMoves r) = moves_number r
 check_number NodesDiffer = 41
 check_number Sends = 42
 

@@ -1,17 +1,17 @@
 -- What the inner functions of this crate ask of each other. No promise to a caller rests on these definitions.
 use Rattle.std.specs.Prelude.{◌≡◌, List, ℕ, ◌≤◌}
 use Rattle.sheet.specs.declared.Sheet.{Sheet}
-use Rattle.sheet.specs.Sheet.{read_sheet, accepted as sheetAccepted}
+use Rattle.sheet.specs.Sheet.{read_sheet, accepted as sheet_accepted}
 use Rattle.moves.specs.declared.Moves.{Moves}
-use Rattle.moves.specs.Moves.{read_moves, accepted as movesAccepted}
+use Rattle.moves.specs.Moves.{read_moves, accepted as moves_accepted}
 use Rattle.carry.specs.Checks.{check_number, checked}
 use Rattle.carry.specs.declared.check.PairReading.{PairReading}
 use Rattle.carry.specs.declared.check.PairReading.TheVariants.{Accepted, Refused}
 
 -- the sheet and the moves were read as these, and have as many nodes
 pub record PairAccepted (s m : List ℕ) (h : Sheet) (q : Moves) : Type 0 where
-  pub sheet : sheetAccepted h.n h.t h.e h.p h.limit ≡ read_sheet s
-  pub moves : movesAccepted q.n q.e ≡ read_moves m
+  pub sheet : sheet_accepted h.n h.t h.e h.p h.limit ≡ read_sheet s
+  pub moves : moves_accepted q.n q.e ≡ read_moves m
   pub nodes : h.n ≡ q.n
 
 -- what reading both gives: they were read, or the number of the first check up to 41 that refuses

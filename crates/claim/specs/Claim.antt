@@ -8,7 +8,7 @@ use Rattle.sheet.specs.Table.{table_in, held}
 use Rattle.sheet.specs.Totals.{totals_in}
 use Rattle.sheet.specs.Write.{longest_sheet}
 use Rattle.plan.specs.Tree.{Tree}
-use Rattle.plan.specs.Plan.{read_plan, helpands_of, shares_of, accepted as planAccepted}
+use Rattle.plan.specs.Plan.{read_plan, helpands_of, shares_of, accepted as plan_accepted}
 use Rattle.plan.specs.Write.{plan_length}
 use Rattle.moves.specs.Write.{longest_moves}
 use Rattle.tree.specs.Division.{WithinLimit, OnTarget, own_of}
@@ -78,7 +78,7 @@ due s plan = due_of (read_sheet s).n (helpand s plan) (at (totals_in s)) (share 
 
 pub record Balanced (s o plan next : List ℕ) (kind : ℕ) : Type 0 where
   -- the plan is accepted, and carries the sheet's N and limit
-  pub plan_read : read_plan plan ≡ planAccepted (read_sheet s).n kind (read_sheet s).limit
+  pub plan_read : read_plan plan ≡ plan_accepted (read_sheet s).n kind (read_sheet s).limit
   -- the tree is kept exactly when a rival's division exists, and rebuilt otherwise
   pub kept : AcceptedTree s o → (kind ≡ 1) ↔ Rival s o
   pub none : NoTree s o → kind ≡ 2

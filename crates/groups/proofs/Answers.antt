@@ -7,8 +7,8 @@ use borrow.Author.Tests.{le-leb, ne_eqb}
 use lib.Dec.{eqb, leb}
 use Rattle.words.specs.declared.WrittenAnswer.{WrittenAnswer}
 use Rattle.plan.specs.declared.PlanRefusal.{PlanRefusal}
-use Rattle.plan.specs.Plan.{refusal_number as planNumber}
-use Rattle.plan.proofs.Answers.{refusal_of as planRefusal, numbered}
+use Rattle.plan.specs.Plan.{refusal_number as plan_number}
+use Rattle.plan.proofs.Answers.{refusal_of as plan_refusal, numbered}
 use Rattle.groups.specs.declared.GroupsRefusal.{GroupsRefusal}
 use Rattle.groups.specs.declared.GroupsRefusal.TheVariants.{Plan, Buffer}
 use Rattle.groups.specs.declared.Grouping.{Grouping}
@@ -17,7 +17,7 @@ use Rattle.groups.specs.Groups.{answer_of}
 
 -- the refusal of a number
 abbrev refusal_of : ℕ → GroupsRefusal
-refusal_of k = cond (leb k 18) (Plan (planRefusal k)) Buffer
+refusal_of k = cond (leb k 18) (Plan (plan_refusal k)) Buffer
 
 -- the grouping of an answer
 abbrev grouping_of : WrittenAnswer → Grouping
@@ -27,7 +27,7 @@ back : (g : Grouping) → grouping_of (answer_of g) ≡ g
 back (Grouped bytes) = refl
 back (Refused (Plan r)) =
     let n = numbered r in
-    rw (ne_eqb (planNumber r) 0 (λ z. omega (arith, n.0)), le-leb (planNumber r) 18 n.1)
+    rw (ne_eqb (plan_number r) 0 (λ z. omega (arith, n.0)), le-leb (plan_number r) 18 n.1)
     (ap (λ (x : PlanRefusal). Refused (Plan x)) n.2)
 back (Refused Buffer) = refl
 

@@ -13,7 +13,7 @@ use Rattle.words.specs.declared.WrittenAnswer.{WrittenAnswer}
 use Rattle.words.proofs.Writing.{Ends, ends_refused}
 use Rattle.plan.specs.declared.Plan.{Plan}
 use Rattle.plan.specs.declared.PlanAnswer.{PlanAnswer}
-use Rattle.plan.specs.Plan.{read_plan, helpands_of, accepted as planAccepted}
+use Rattle.plan.specs.Plan.{read_plan, helpands_of, accepted as plan_accepted}
 use Rattle.groups.specs.Groups.{groups_bytes, groups_size, groups_of, groups_answer}
 
 module _ (p out : List ℕ) where
@@ -28,7 +28,7 @@ module _ (p out : List ℕ) where
   ends_plan k e d = refuses k d (rw (← e, ne_eqb k 0 d))
 
   -- the plan was read
-  module _ {q : Plan} (read : planAccepted q.n q.kind q.limit ≡ read_plan p) where
+  module _ {q : Plan} (read : plan_accepted q.n q.kind q.limit ≡ read_plan p) where
     pub ends_buffer : length out < groups_size q.n → GroupsEnd (refused 57) out
     unfolding groups_answer
     ends_buffer short = refuses 57 (λ z. omega arith) (rw (← read, lt-ltb (length out) (groups_size q.n) short))

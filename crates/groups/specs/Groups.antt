@@ -8,7 +8,7 @@ use Rattle.words.specs.Words.{words, encode}
 use Rattle.words.specs.Buffer.{after_call}
 use Rattle.words.specs.Answer.{refused, accepted}
 use Rattle.words.specs.declared.WrittenAnswer.{WrittenAnswer}
-use Rattle.plan.specs.Plan.{read_plan, helpands_of, refusal_number as planNumber}
+use Rattle.plan.specs.Plan.{read_plan, helpands_of, refusal_number as plan_number}
 use Rattle.groups.specs.declared.colour.Colour.{Colour}
 use Rattle.groups.specs.declared.colour.Colour.TheVariants.{Even, Odd}
 use Rattle.groups.specs.declared.GroupsRefusal.{GroupsRefusal}
@@ -22,7 +22,7 @@ use Rattle.groups.specs.Group.{has_helper, none, group_in, in_group, OneFamily, 
 
 -- the paper's number of each refusal: "the plan's, then 57 for a buffer under 4 × (1+2N) bytes"
 abbrev pub number_of : GroupsRefusal → ℕ
-number_of (OfPlan r) = planNumber r
+number_of (OfPlan r) = plan_number r
 number_of Buffer = 57
 
 -- the paper's number and values for each case of the enum

@@ -14,7 +14,7 @@ use Rattle.words.proofs.Words.{length-words, length_part}
 use Rattle.moves.specs.Moves.{read_moves, accepted, route_fine, count_fine}
 use Rattle.moves.proofs.Laws.{route-is}
 use Rattle.moves.proofs.Accepted.{Accepted, moves-accepted, accepted-is}
-use Rattle.carry.specs.Checks.{routes_in as routesRead, counts_in as countsRead}
+use Rattle.carry.specs.Checks.{routes_in as routes_read, counts_in as counts_read}
 use Rattle.halves.specs.Parts.{size_in, routes_in, counts_in, RecordOf, route_of, count_of, entries_in, Merge, Parts}
 use Rattle.halves.proofs.Merges.{routes_of, counts_of, merge_exchanged, merge-length, merge-rising, merge-every}
 
@@ -47,10 +47,10 @@ module _ (m : List ℕ) (q : (read_moves m).refusal ≡ 0) where
   pub accepted_record : RecordOf (read_moves m).n m
   accepted_record = record { nodes = sym facts.n_is; size = rw (← facts.e_is) facts.size }
 
-  pub routes-read : routesRead m ≡ map route_of (entries_in m)
+  pub routes-read : routes_read m ≡ map route_of (entries_in m)
   routes-read = rw facts.e_is (sym (routes_listed accepted_record))
 
-  pub counts-read : countsRead m ≡ map count_of (entries_in m)
+  pub counts-read : counts_read m ≡ map count_of (entries_in m)
   counts-read = rw facts.e_is (sym (counts_listed accepted_record))
 
   pub routes-rise : rising (route_fine (read_moves m).n) 0 (map route_of (entries_in m)) ≡ true

@@ -7,8 +7,8 @@ use borrow.Author.Tests.{le-leb, ne_eqb}
 use lib.Dec.{eqb, leb}
 use Rattle.words.specs.declared.WrittenAnswer.{WrittenAnswer}
 use Rattle.sheet.specs.declared.SheetRefusal.{SheetRefusal}
-use Rattle.sheet.specs.Sheet.{refusal_number as sheetNumber}
-use Rattle.sheet.proofs.Answers.{refusal_of as sheetRefusal, numbered}
+use Rattle.sheet.specs.Sheet.{refusal_number as sheet_number}
+use Rattle.sheet.proofs.Answers.{refusal_of as sheet_refusal, numbered}
 use Rattle.inlet.specs.declared.JoinRefusal.{JoinRefusal}
 use Rattle.inlet.specs.declared.JoinRefusal.TheVariants.{Sheet, SheetsDiffer, Buffer}
 use Rattle.inlet.specs.declared.Joining.{Joining}
@@ -17,7 +17,7 @@ use Rattle.inlet.specs.Join.{answer_of}
 
 -- the refusal of a number
 abbrev refusal_of : ℕ → JoinRefusal
-refusal_of k = cond (leb k 7) (Sheet (sheetRefusal k)) (cond (eqb k 51) SheetsDiffer Buffer)
+refusal_of k = cond (leb k 7) (Sheet (sheet_refusal k)) (cond (eqb k 51) SheetsDiffer Buffer)
 
 -- the joining of an answer
 abbrev joining_of : WrittenAnswer → Joining
@@ -27,7 +27,7 @@ back : (j : Joining) → joining_of (answer_of j) ≡ j
 back (Joined bytes) = refl
 back (Refused (Sheet r)) =
     let n = numbered r in
-    rw (ne_eqb (sheetNumber r) 0 (λ z. omega (arith, n.0)), le-leb (sheetNumber r) 7 n.1)
+    rw (ne_eqb (sheet_number r) 0 (λ z. omega (arith, n.0)), le-leb (sheet_number r) 7 n.1)
     (ap (λ (x : SheetRefusal). Refused (Sheet x)) n.2)
 back (Refused SheetsDiffer) = refl
 back (Refused Buffer) = refl

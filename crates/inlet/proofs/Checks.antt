@@ -20,7 +20,7 @@ use Rattle.words.specs.declared.WrittenAnswer.{WrittenAnswer}
 use Rattle.words.proofs.Writing.{Ends, ends_refused, ends_written, ends_short}
 use Rattle.sheet.specs.declared.Sheet.{Sheet}
 use Rattle.sheet.specs.declared.SheetAnswer.{SheetAnswer}
-use Rattle.sheet.specs.Sheet.{read_sheet, accepted as sheetAccepted}
+use Rattle.sheet.specs.Sheet.{read_sheet, accepted as sheet_accepted}
 use Rattle.sheet.specs.Table.{table_of}
 use Rattle.sheet.specs.Write.{sheet_bytes}
 use Rattle.sheet.proofs.Accepted.{Accepted, reading_accepted, sheet_unpackable}
@@ -31,10 +31,10 @@ use Rattle.inlet.specs.Inner.{Addable, SheetsRead}
 -- ---- what the inner functions ask
 
 module _ {f s : List ℕ} {a b : Sheet} (r : SheetsRead f s a b) where
-  pub first_facts : Accepted f (sheetAccepted a.n a.t a.e a.p a.limit)
+  pub first_facts : Accepted f (sheet_accepted a.n a.t a.e a.p a.limit)
   first_facts = reading_accepted f a r.first
 
-  pub second_facts : Accepted s (sheetAccepted b.n b.t b.e b.p b.limit)
+  pub second_facts : Accepted s (sheet_accepted b.n b.t b.e b.p b.limit)
   second_facts = reading_accepted s b r.second
 
   -- the first sheet's table, as it is unpacked
@@ -44,13 +44,13 @@ module _ {f s : List ℕ} {a b : Sheet} (r : SheetsRead f s a b) where
         rw is
         (record {
           size = length-table f a.e;
-          entries = sheet_unpackable s (sheetAccepted b.n b.t b.e b.p b.limit) second_facts;
+          entries = sheet_unpackable s (sheet_accepted b.n b.t b.e b.p b.limit) second_facts;
           room = λ c l. omega (
             arith,
             sum_term table_size (at (table_of f a.e)) c l,
             sum_term table_size (at (table_of s b.e)) c l,
-            table-sum f (sheetAccepted a.n a.t a.e a.p a.limit) first_facts,
-            table-sum s (sheetAccepted b.n b.t b.e b.p b.limit) second_facts,
+            table-sum f (sheet_accepted a.n a.t a.e a.p a.limit) first_facts,
+            table-sum s (sheet_accepted b.n b.t b.e b.p b.limit) second_facts,
           );
         })
 

@@ -13,7 +13,7 @@ use Rattle.words.specs.Buffer.{placed}
 use Rattle.words.specs.Answer.{accepted}
 use Rattle.words.proofs.Words.{Below}
 use Rattle.sheet.specs.declared.SheetAnswer.{SheetAnswer}
-use Rattle.sheet.specs.Sheet.{read_sheet, accepted as sheetAccepted}
+use Rattle.sheet.specs.Sheet.{read_sheet, accepted as sheet_accepted}
 use Rattle.sheet.specs.Table.{table_in}
 use Rattle.sheet.specs.Write.{filled, sheet_bytes}
 use Rattle.sheet.proofs.Accepted.{Accepted, sheet-accepted}
@@ -68,7 +68,7 @@ module _ (s : List ℕ) (q : (read_sheet s).refusal ≡ 0) where
       no_sum = sum_zeros table_size (at zeros) (λ c l. no_count c)
 
   -- it is accepted, without entries and particles
-  pub empty_read : read_sheet z₀ ≡ sheetAccepted n₀ t₀ 0 0 (limit_of 0 n₀ t₀)
+  pub empty_read : read_sheet z₀ ≡ sheet_accepted n₀ t₀ 0 0 (limit_of 0 n₀ t₀)
   empty_read =
       ap read_sheet (sym (empty_is n₀ t₀))
       ∙ read-written n₀ t₀ zeros zeros-writable

@@ -16,7 +16,7 @@ use Rattle.arrays.specs.Arrays.{at}
 use Rattle.words.specs.declared.WrittenAnswer.{WrittenAnswer}
 use Rattle.words.specs.Answer.{refused, accepted}
 use Rattle.words.proofs.Buffer.{after_front}
-use Rattle.sheet.specs.Sheet.{read_sheet, cell, cell_fine, accepted as sheetAccepted}
+use Rattle.sheet.specs.Sheet.{read_sheet, cell, cell_fine, accepted as sheet_accepted}
 use Rattle.sheet.specs.Table.{table_in, held}
 use Rattle.sheet.specs.Totals.{total_of}
 use Rattle.sheet.specs.Write.{filled_cells}
@@ -123,11 +123,11 @@ module _ {f s : List ℕ} (d : Joinable f s) where
         within = omega (arith, joined_sum, d.within);
       }
 
-  joined_read : read_sheet (joined_sheet f s) ≡ sheetAccepted n₀ t₀ entries (joint_total f s) (limit_of (joint_total f s) n₀ t₀)
+  joined_read : read_sheet (joined_sheet f s) ≡ sheet_accepted n₀ t₀ entries (joint_total f s) (limit_of (joint_total f s) n₀ t₀)
   unfolding joined_sheet
   joined_read =
       read-written n₀ t₀ (joined_table f s) joined_writable
-      ∙ ap (λ (p : ℕ). sheetAccepted n₀ t₀ entries p (limit_of p n₀ t₀)) joined_sum
+      ∙ ap (λ (p : ℕ). sheet_accepted n₀ t₀ entries p (limit_of p n₀ t₀)) joined_sum
 
   pub table_joined : table_in (joined_sheet f s) ≡ joined_table f s
   unfolding joined_sheet

@@ -7,7 +7,7 @@ use Rattle.words.specs.Words.{encode}
 use Rattle.words.specs.Buffer.{after_call}
 use Rattle.words.specs.Answer.{refused, accepted}
 use Rattle.words.specs.declared.WrittenAnswer.{WrittenAnswer}
-use Rattle.sheet.specs.Sheet.{read_sheet, refusal_number as sheetNumber, accepted as sheetAccepted}
+use Rattle.sheet.specs.Sheet.{read_sheet, refusal_number as sheet_number, accepted as sheet_accepted}
 use Rattle.sheet.specs.Table.{table_in, held}
 use Rattle.sheet.specs.Write.{filled_cells, sheet_bytes}
 use Rattle.inlet.specs.declared.JoinRefusal.{JoinRefusal}
@@ -20,7 +20,7 @@ use Rattle.inlet.specs.declared.Joining.TheVariants.{Joined, Refused}
 -- the paper's number of each refusal: "the first sheet's, the second's, 51 for unequal N or t, 7 for a joint total above the maximum,
 -- 52 for a short buffer." 7 is a sheet's number, so the joint total's refusal is that of a sheet.
 abbrev pub number_of : JoinRefusal → ℕ
-number_of (OfSheet r) = sheetNumber r
+number_of (OfSheet r) = sheet_number r
 number_of SheetsDiffer = 51
 number_of Buffer = 52
 
@@ -76,7 +76,7 @@ pub record JoinReadBack (first second out : List ℕ) : Type 0 where
       let n = (read_sheet first).n in
       let t = (read_sheet first).t in
       let p = joint_total first second in
-      read_sheet out ≡ sheetAccepted n t (length (filled_cells n (joined_table first second))) p (limit_of p n t)
+      read_sheet out ≡ sheet_accepted n t (length (filled_cells n (joined_table first second))) p (limit_of p n t)
   -- "every cell the sum of both": whatever the holder and the subdomain, "Cells absent from the sheet count as 0"
   pub cells : (holder subdomain : ℕ)
       → held (table_in out) holder subdomain ≡ held (table_in first) holder subdomain + held (table_in second) holder subdomain

@@ -6,11 +6,11 @@ use native.Mathlib.Omega.{arith}
 use borrow.Author.Tests.{le-leb, lt-leb, ne_eqb}
 use lib.Dec.{eqb, leb}
 use Rattle.sheet.specs.declared.SheetRefusal.{SheetRefusal}
-use Rattle.sheet.specs.Sheet.{refusal_number as sheetNumber}
-use Rattle.sheet.proofs.Answers.{refusal_of as sheetRefusal, numbered as sheet-numbered}
+use Rattle.sheet.specs.Sheet.{refusal_number as sheet_number}
+use Rattle.sheet.proofs.Answers.{refusal_of as sheet_refusal, numbered as sheet-numbered}
 use Rattle.plan.specs.declared.PlanRefusal.{PlanRefusal}
-use Rattle.plan.specs.Plan.{refusal_number as planNumber}
-use Rattle.plan.proofs.Answers.{refusal_of as planRefusal, numbered as plan-numbered}
+use Rattle.plan.specs.Plan.{refusal_number as plan_number}
+use Rattle.plan.proofs.Answers.{refusal_of as plan_refusal, numbered as plan-numbered}
 use Rattle.planner.specs.declared.StepRefusal.{StepRefusal}
 use Rattle.planner.specs.declared.StepRefusal.TheVariants.{Sheet, Plan, NodesDiffer, PlanBuffer, MovesBuffer}
 use Rattle.planner.specs.declared.Step.{Step}
@@ -21,8 +21,8 @@ use Rattle.planner.specs.Step.{answer_of}
 -- the refusal of a number
 abbrev refusal_of : ℕ → StepRefusal
 refusal_of k =
-    cond (leb k 7) (Sheet (sheetRefusal k))
-    (cond (leb k 18) (Plan (planRefusal k)) (cond (eqb k 21) NodesDiffer (cond (eqb k 22) PlanBuffer MovesBuffer)))
+    cond (leb k 7) (Sheet (sheet_refusal k))
+    (cond (leb k 18) (Plan (plan_refusal k)) (cond (eqb k 21) NodesDiffer (cond (eqb k 22) PlanBuffer MovesBuffer)))
 
 -- the step of an answer
 abbrev step_of : StepAnswer → Step
@@ -34,11 +34,11 @@ back : (s : Step) → step_of (answer_of s) ≡ s
 back (Planned p) = refl
 back (Refused (Sheet r)) =
     let n = sheet-numbered r in
-    rw (ne_eqb (sheetNumber r) 0 (λ z. omega (arith, n.0)), le-leb (sheetNumber r) 7 n.1)
+    rw (ne_eqb (sheet_number r) 0 (λ z. omega (arith, n.0)), le-leb (sheet_number r) 7 n.1)
     (ap (λ (x : SheetRefusal). Refused (Sheet x)) n.2)
 back (Refused (Plan r)) =
     let n = plan-numbered r in
-    rw (ne_eqb (planNumber r) 0 (λ z. omega (arith, n.0)), lt-leb (planNumber r) 7 (omega (arith, n.0)), le-leb (planNumber r) 18 n.1)
+    rw (ne_eqb (plan_number r) 0 (λ z. omega (arith, n.0)), lt-leb (plan_number r) 7 (omega (arith, n.0)), le-leb (plan_number r) 18 n.1)
     (ap (λ (x : PlanRefusal). Refused (Plan x)) n.2)
 back (Refused NodesDiffer) = refl
 back (Refused PlanBuffer) = refl

@@ -11,7 +11,7 @@ use Rattle.words.specs.Buffer.{placed, after_call}
 use Rattle.sheet.specs.declared.SheetRefusal.{SheetRefusal}
 use Rattle.sheet.specs.declared.SheetReading.{SheetReading}
 use Rattle.sheet.specs.declared.SheetReading.TheVariants.{Refused}
-use Rattle.sheet.specs.Sheet.{read_sheet, answer_of as sheetAnswer}
+use Rattle.sheet.specs.Sheet.{read_sheet, answer_of as sheet_answer}
 use Rattle.sheet.proofs.Answers.{number_more as sheet-more}
 use Rattle.plan.proofs.Answers.{number_more as plan-more}
 use Rattle.plan.specs.declared.Plan as read
@@ -55,8 +55,8 @@ number_more PlanBuffer z = omega arith
 number_more MovesBuffer z = omega arith
 
 -- nor that of a sheet
-pub refusal_more : (x : SheetReading) (r : SheetRefusal) → x ≡ Refused r → (sheetAnswer x).refusal ≢ 0
-refusal_more x r e z = omega (arith, sheet-more r, ap (λ (y : SheetReading). (sheetAnswer y).refusal) e)
+pub refusal_more : (x : SheetReading) (r : SheetRefusal) → x ≡ Refused r → (sheet_answer x).refusal ≢ 0
+refusal_more x r e z = omega (arith, sheet-more r, ap (λ (y : SheetReading). (sheet_answer y).refusal) e)
 
 -- ---- the two buffers
 

@@ -4,11 +4,11 @@ use Rattle.std.specs.Prelude.{◌≡◌, Bool, true, false, cond, not, List, ℕ
 use Rattle.arrays.specs.Arrays.{padded, at}
 use Rattle.words.specs.Checks.{refuse_if, refuse_as}
 use Rattle.words.specs.Buffer.{after_call}
-use Rattle.sheet.specs.Sheet.{read_sheet, refusal_number as sheetNumber}
+use Rattle.sheet.specs.Sheet.{read_sheet, refusal_number as sheet_number}
 use Rattle.sheet.specs.Table.{table_in}
-use Rattle.plan.specs.Plan.{read_plan, helpands_of, shares_of, refusal_number as planNumber, accepted as planAccepted}
+use Rattle.plan.specs.Plan.{read_plan, helpands_of, shares_of, refusal_number as plan_number, accepted as plan_accepted}
 use Rattle.plan.specs.Write.{plan_bytes}
-use Rattle.moves.specs.Moves.{read_moves, routes_of, counts_of, accepted as movesAccepted}
+use Rattle.moves.specs.Moves.{read_moves, routes_of, counts_of, accepted as moves_accepted}
 use Rattle.moves.specs.Write.{moves_bytes}
 use Rattle.transfer.specs.Due.{due_of}
 use Rattle.transfer.specs.Matching.{all_routes, all_counts}
@@ -33,8 +33,8 @@ planned kind limit plan_size moves_size = record { refusal = 0; kind = kind; lim
 
 -- the paper's number of each refusal: "the sheet's; the plan's; 21; 22, plan buffer too short; 23, moves buffer too short"
 abbrev pub number_of : StepRefusal → ℕ
-number_of (OfSheet r) = sheetNumber r
-number_of (OfPlan r) = planNumber r
+number_of (OfSheet r) = sheet_number r
+number_of (OfPlan r) = plan_number r
 number_of NodesDiffer = 21
 number_of PlanBuffer = 22
 number_of MovesBuffer = 23
@@ -133,10 +133,10 @@ moves_after s o moves plan_size = after_call (step_answer s o plan_size (length 
 
 pub record StepReadBack (s o plan moves : List ℕ) : Type 0 where
   -- "Plan: N, kind, limit; N helpands; N shares."
-  pub plan_read : read_plan plan ≡ planAccepted (read_sheet s).n (decision_in s o).kind (read_sheet s).limit
+  pub plan_read : read_plan plan ≡ plan_accepted (read_sheet s).n (decision_in s o).kind (read_sheet s).limit
   pub helpands : helpands_of plan (read_sheet s).n ≡ take (read_sheet s).n (decision_in s o).helpands
   pub shares : shares_of plan (read_sheet s).n ≡ take (read_sheet s).n (decision_in s o).shares
   -- "Moves: N, E; E routes; E counts."
-  pub moves_read : read_moves moves ≡ movesAccepted (read_sheet s).n (length (decided_routes s o))
+  pub moves_read : read_moves moves ≡ moves_accepted (read_sheet s).n (length (decided_routes s o))
   pub routes : routes_of moves (length (decided_routes s o)) ≡ decided_routes s o
   pub counts : counts_of moves (length (decided_routes s o)) ≡ decided_counts s o

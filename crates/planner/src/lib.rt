@@ -4,7 +4,7 @@
 ghost use Rattle.std.specs.Prelude.{◌≡◌, ◌≢◌, true, ◌+◌, ◌*◌, ◌≤◌, length};
 ghost use Rattle.limit.specs.Limit.{max_nodes, table_size};
 ghost use Rattle.words.specs.Buffer.{placed, after_call};
-ghost use Rattle.sheet.specs.Sheet.{answer_of as sheetAnswer};
+ghost use Rattle.sheet.specs.Sheet.{answer_of as sheet_answer};
 ghost use Rattle.moves.specs.Write.{moves_bytes};
 ghost use Rattle.planner.specs.Step.{refused, number_of, answer_of, old_of, read_old, old_helpands, plan_record, written_answer, step_answer, plan_after, moves_after};
 ghost use Rattle.planner.specs.Inner.{StepRead};
@@ -60,8 +60,8 @@ enum OldPlan {
 
 // The refusal of a sheet that was not accepted.
 fn not_read(reading: SheetReading) -> Step
-    requires { (sheetAnswer reading).refusal ≢ 0 }
-    ensures { answer_of result ≡ refused (sheetAnswer reading).refusal }
+    requires { (sheet_answer reading).refusal ≢ 0 }
+    ensures { answer_of result ≡ refused (sheet_answer reading).refusal }
 {
     match reading {
         SheetReading::Refused(r) => Step::Refused(StepRefusal::Sheet(r)),

@@ -19,7 +19,7 @@ use Rattle.fold.proofs.Tests.{only-is, only-not, only-max, every_more}
 use Rattle.fold.proofs.Sums.{sum-none, sum_more, sum_fewer, sum-add, sum-le, sum_const}
 use Rattle.fold.proofs.Lists.{rising_none, rising_more, rising-from}
 use Rattle.limit.specs.Limit.{max_nodes, max_total, table_size}
-use Rattle.moves.specs.Moves.{route, subdomain, sender, receiver, route_fine, count_fine}
+use Rattle.moves.specs.Moves.{route, subdomain, route_fine, count_fine}
 use Rattle.moves.proofs.Laws.{route-subdomain, route-sender, route-receiver, route_of_lem, count_of_lem}
 use Rattle.transfer.specs.Matching.{Move, surplus_of, shortage_of, matched, moves_between, route_of, count_of}
 use Rattle.transfer.specs.Apply.{from_cell, into_cell, moved, sends, receives}

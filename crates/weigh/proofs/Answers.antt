@@ -7,10 +7,10 @@ use borrow.Author.Tests.{le-leb, lt-leb, ne_eqb}
 use lib.Dec.{eqb, leb}
 use mir.Val.{bool_byte}
 use Rattle.fold.specs.Sum.{only}
-use Rattle.sheet.specs.Sheet.{refusal_number as sheetNumber}
-use Rattle.sheet.proofs.Answers.{refusal_of as sheetRefusal, numbered as sheet-numbered}
-use Rattle.plan.specs.Plan.{refusal_number as planNumber}
-use Rattle.plan.proofs.Answers.{refusal_of as planRefusal, numbered as plan-numbered}
+use Rattle.sheet.specs.Sheet.{refusal_number as sheet_number}
+use Rattle.sheet.proofs.Answers.{refusal_of as sheet_refusal, numbered as sheet-numbered}
+use Rattle.plan.specs.Plan.{refusal_number as plan_number}
+use Rattle.plan.proofs.Answers.{refusal_of as plan_refusal, numbered as plan-numbered}
 use Rattle.weigh.specs.declared.check.CheckRefusal.{CheckRefusal}
 use Rattle.weigh.specs.declared.check.CheckRefusal.TheVariants.{Sheet, Plan, NodesDiffer, Primary}
 use Rattle.weigh.specs.declared.WeighRefusal.{WeighRefusal}
@@ -30,17 +30,17 @@ bool-number false = refl
 
 -- the refusal of a number
 abbrev pub check_of : ℕ → CheckRefusal
-check_of k = cond (leb k 7) (Sheet (sheetRefusal k)) (cond (leb k 18) (Plan (planRefusal k)) (cond (eqb k 21) NodesDiffer Primary))
+check_of k = cond (leb k 7) (Sheet (sheet_refusal k)) (cond (leb k 18) (Plan (plan_refusal k)) (cond (eqb k 21) NodesDiffer Primary))
 
 -- their numbers are 1 to 24, and the number tells which refusal it is
 pub numbered : (r : CheckRefusal) → (1 ≤ check_number r) × (check_number r ≤ 24) × (check_of (check_number r) ≡ r)
 numbered (Sheet r) =
     let n = sheet-numbered r in
-    (n.0, omega (arith, n.1), rw (le-leb (sheetNumber r) 7 n.1) (ap Sheet n.2))
+    (n.0, omega (arith, n.1), rw (le-leb (sheet_number r) 7 n.1) (ap Sheet n.2))
 numbered (Plan r) =
     let n = plan-numbered r in
-    let more = lt-leb (planNumber r) 7 (omega (arith, n.0)) in
-    (omega (arith, n.0), omega (arith, n.1), rw (more, le-leb (planNumber r) 18 n.1) (ap Plan n.2))
+    let more = lt-leb (plan_number r) 7 (omega (arith, n.0)) in
+    (omega (arith, n.0), omega (arith, n.1), rw (more, le-leb (plan_number r) 18 n.1) (ap Plan n.2))
 numbered NodesDiffer = (omega arith, omega arith, refl)
 numbered Primary = (omega arith, omega arith, refl)
 

@@ -14,7 +14,7 @@ use Rattle.limit.specs.Limit.{max_total, table_size}
 use Rattle.arrays.specs.Arrays.{padded, at}
 use Rattle.arrays.proofs.Padded.{padded-same}
 use Rattle.sheet.specs.declared.Sheet.{Sheet}
-use Rattle.sheet.specs.Sheet.{read_sheet, accepted as sheetAccepted}
+use Rattle.sheet.specs.Sheet.{read_sheet, accepted as sheet_accepted}
 use Rattle.sheet.specs.Table.{table_of}
 use Rattle.sheet.proofs.Accepted.{Accepted as AcceptedSheet, reading_accepted}
 use Rattle.sheet.proofs.Refusals.{sheet-most}
@@ -22,7 +22,7 @@ use Rattle.sheet.proofs.Tables.{table-within}
 use Rattle.plan.specs.declared.Plan.{Plan}
 use Rattle.plan.specs.declared.PlanAnswer.{PlanAnswer}
 use Rattle.plan.specs.Tree.{Tree}
-use Rattle.plan.specs.Plan.{read_plan, helpands_of, accepted as planAccepted}
+use Rattle.plan.specs.Plan.{read_plan, helpands_of, accepted as plan_accepted}
 use Rattle.plan.proofs.AcceptedTree.{accepted-tree}
 use Rattle.plan.proofs.Refusals.{plan-most}
 use Rattle.weigh.specs.declared.check.CheckRefusal.{CheckRefusal}
@@ -43,8 +43,8 @@ module _ (s p : List ℕ) where
   stops_plan z k e d = rw (← z, ← e, ne_eqb k 0 d)
 
   -- both were read
-  module _ {h : Sheet} {q : Plan} (a : sheetAccepted h.n h.t h.e h.p h.limit ≡ read_sheet s)
-      (b : planAccepted q.n q.kind q.limit ≡ read_plan p) where
+  module _ {h : Sheet} {q : Plan} (a : sheet_accepted h.n h.t h.e h.p h.limit ≡ read_sheet s)
+      (b : plan_accepted q.n q.kind q.limit ≡ read_plan p) where
     pub stops_differ : h.n ≢ q.n → 21 ≡ checked s p
     unfolding checked
     stops_differ d = rw (← a, ← b, ne_eqb h.n q.n d)
@@ -118,12 +118,12 @@ module _ (s p : List ℕ) (h : Sheet) (w : Weighable s p h) where
       rw (← w.sheet, w.plan, eq-eqb h.n (read_plan p).n (sym w.nodes), ne_eqb (read_plan p).kind 0 w.kind)
 
   -- the sheet's facts
-  pub facts : AcceptedSheet s (sheetAccepted h.n h.t h.e h.p h.limit)
+  pub facts : AcceptedSheet s (sheet_accepted h.n h.t h.e h.p h.limit)
   facts = reading_accepted s h w.sheet
 
   -- the table's sum does not wrap
   pub sum-within : sum table_size (at (table_of s h.e)) ≤ max_total
-  sum-within = table-within s (sheetAccepted h.n h.t h.e h.p h.limit) facts
+  sum-within = table-within s (sheet_accepted h.n h.t h.e h.p h.limit) facts
 
   -- the plan's helpands are a tree
   pub tree : (r : ℕ) × Tree h.n (at (helpands_of p h.n)) r

@@ -1,15 +1,15 @@
 -- Document 01, *Weigh*: its checks up to 24. They are those of request 2026-08, too: "opening has those of *weigh* up to 24".
 use Rattle.std.specs.Prelude.{ℕ, List, not, eqb}
 use Rattle.words.specs.Checks.{refuse_if, refuse_as}
-use Rattle.sheet.specs.Sheet.{read_sheet, refusal_number as sheetNumber}
-use Rattle.plan.specs.Plan.{read_plan, refusal_number as planNumber}
+use Rattle.sheet.specs.Sheet.{read_sheet, refusal_number as sheet_number}
+use Rattle.plan.specs.Plan.{read_plan, refusal_number as plan_number}
 use Rattle.weigh.specs.declared.check.CheckRefusal.{CheckRefusal}
 use Rattle.weigh.specs.declared.check.CheckRefusal.TheVariants.{Sheet as OfSheet, Plan as OfPlan, NodesDiffer, Primary}
 
 -- the paper's number of each refusal: "the sheet's; the plan's; 21, their N differ; 24, kind 0"
 abbrev pub check_number : CheckRefusal → ℕ
-check_number (OfSheet r) = sheetNumber r
-check_number (OfPlan r) = planNumber r
+check_number (OfSheet r) = sheet_number r
+check_number (OfPlan r) = plan_number r
 check_number NodesDiffer = 21
 check_number Primary = 24
 

@@ -1,21 +1,21 @@
 -- What the inner functions of this crate ask of each other. No promise to a caller rests on these definitions.
 use Rattle.std.specs.Prelude.{◌≡◌, ◌≢◌, List, ℕ}
 use Rattle.sheet.specs.declared.Sheet.{Sheet}
-use Rattle.sheet.specs.Sheet.{read_sheet, accepted as sheetAccepted}
+use Rattle.sheet.specs.Sheet.{read_sheet, accepted as sheet_accepted}
 use Rattle.plan.specs.declared.Plan.{Plan}
-use Rattle.plan.specs.Plan.{read_plan, accepted as planAccepted}
+use Rattle.plan.specs.Plan.{read_plan, accepted as plan_accepted}
 use Rattle.weigh.specs.Checks.{check_number, checked}
 use Rattle.weigh.specs.declared.check.PairReading.{PairReading}
 use Rattle.weigh.specs.declared.check.PairReading.TheVariants.{Accepted, Refused}
 
 -- the sheet and the plan were read as these
 pub record BothRead (s p : List ℕ) (h : Sheet) (q : Plan) : Type 0 where
-  pub sheet : sheetAccepted h.n h.t h.e h.p h.limit ≡ read_sheet s
-  pub plan : planAccepted q.n q.kind q.limit ≡ read_plan p
+  pub sheet : sheet_accepted h.n h.t h.e h.p h.limit ≡ read_sheet s
+  pub plan : plan_accepted q.n q.kind q.limit ≡ read_plan p
 
 -- the sheet was read as this, and the plan has a tree of as many nodes
 pub record Weighable (s p : List ℕ) (h : Sheet) : Type 0 where
-  pub sheet : sheetAccepted h.n h.t h.e h.p h.limit ≡ read_sheet s
+  pub sheet : sheet_accepted h.n h.t h.e h.p h.limit ≡ read_sheet s
   pub plan : (read_plan p).refusal ≡ 0
   pub nodes : (read_plan p).n ≡ h.n
   pub kind : (read_plan p).kind ≢ 0

@@ -6,7 +6,7 @@ use Rattle.decide.specs.declared.Decision.{Decision}
 use Rattle.decide.proofs.rebuilt_plan.Goals as goal
 
 abbrev rebuilt : Rebuilt → Decision
-rebuilt r = record { kind = 2; helpands = r.helpands-1; shares = r.shares-1 }
+rebuilt r = record { kind = 2; helpands = r.helpands; shares = r.shares }
 
 pub returns : goal.returns
 returns c = ap rebuilt c.rebuild-r.ensures

@@ -8,7 +8,7 @@ use Prim.Native.Nat.{ℕ}
 use Rattle.sheet.specs.declared.Sheet.{Sheet}
 use Rattle.sheet.specs.declared.SheetAnswer.{SheetAnswer}
 use Rattle.sheet.specs.declared.SheetReading.TheVariants.{Accepted}
-use Rattle.sheet.specs.Sheet.{read_sheet, answer_of as sheetAnswer}
+use Rattle.sheet.specs.Sheet.{read_sheet, answer_of as sheet_answer}
 use Rattle.planner.specs.declared.OldPlan.{OldPlan}
 use Rattle.planner.specs.Step.{number_of, old_of, old_read}
 use Rattle.planner.specs.Inner.{StepRead}
@@ -17,20 +17,20 @@ use Rattle.planner.proofs.plan_step.Goals.{After-read_old, In_default}
 use Rattle.planner.proofs.plan_step.Goals as goal
 
 -- it was refused: its number is not 0
-not-zero : (c : In_default) → (sheetAnswer c.read_sheet-reading.result).refusal ≢ 0
+not-zero : (c : In_default) → (sheet_answer c.read_sheet-reading.result).refusal ≢ 0
 not-zero c = refusal_more _ _ c.in_default.is
 
 pub returns-in_default : goal.returns-in_default
 returns-in_default c =
     let whole =
-        let k = (sheetAnswer c.read_sheet-reading.result).refusal in
+        let k = (sheet_answer c.read_sheet-reading.result).refusal in
     let e = ap (λ (x : SheetAnswer). x.refusal) c.read_sheet-reading.ensures in
     let ends = ends_sheet _ _ _ _ k e (not-zero (goal.at.returns-in_default c).In_default) in
     (c.not_read.ensures ∙ ends.0, ends.1) in
     record { answer = whole.0; plan = whole.1; moves = whole.2 }
 
-sheet-read : (c : After-read_old) → sheetAnswer (Accepted c.in-Accepted.s) ≡ read_sheet c.args.sheet.now
-sheet-read c = ap sheetAnswer (sym c.in-Accepted.is) ∙ c.read_sheet-reading.ensures
+sheet-read : (c : After-read_old) → sheet_answer (Accepted c.in-Accepted.s) ≡ read_sheet c.args.sheet.now
+sheet-read c = ap sheet_answer (sym c.in-Accepted.is) ∙ c.read_sheet-reading.ensures
 
 -- with a tree, or without one
 both_read : (c : After-read_old) → (x : OldPlan) (tree : Bool) → c.read_old.result ≡ x → old_of x ≡ old_read tree → StepRead c.args.sheet.now c.args.old.now c.in-Accepted.s tree

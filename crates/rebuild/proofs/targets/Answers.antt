@@ -17,8 +17,8 @@ loop-k-preserved c =
     let k = c.loop-k.k in
     let target : c.if-k-rest.out ≡ target_of a.nodes a.p k =
     elim c.if-k-rest.branch [
-      | then-k-rest w ↦ w.1 ∙ sym (target-low a.nodes a.p k w.if-k-rest.true)
-      | else-k-rest w ↦ w.1 ∙ sym (target-high a.nodes a.p k w.if-k-rest.false)
+      | then-k-rest w ↦ w.out-is ∙ sym (target-low a.nodes a.p k w.if-k-rest.true)
+      | else-k-rest w ↦ w.out-is ∙ sym (target-high a.nodes a.p k w.if-k-rest.false)
     ] in
     (search rules, rw (target, c.loop-k.invariant.1) (tabulate_more (target_of a.nodes a.p) k (omega arith)))
 

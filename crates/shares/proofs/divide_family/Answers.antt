@@ -1,6 +1,5 @@
 -- `shares::divide_family` meets its contract: the family is divided with the holds if it can afford them, and with the leasts otherwise.
 -- Assumes nothing.
-use borrow.Author.Rules.{rules}
 use mathlib.Core.Path.{sym, ◌∙◌}
 use Rattle.arrays.specs.Arrays.{at}
 use Rattle.shares.proofs.Dividing.{holds-noted, leasts-noted}

@@ -1,6 +1,5 @@
 -- `shares::divide_with` meets its contract: the amounts are those of the rest that was worked out, or of what is kept if there is none.
 -- Assumes nothing.
-use borrow.Author.Rules.{rules}
 use mathlib.Core.Path.{sym, ◌∙◌}
 use Rattle.shares.proofs.Filling.{kept_somewhere, kept-noted, filled-noted}
 use Rattle.shares.proofs.divide_with.Goals as goal

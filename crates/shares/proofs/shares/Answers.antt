@@ -1,5 +1,4 @@
 -- `shares::shares` meets its contract: a pass from the root reaches each node. Assumes nothing.
-use borrow.Author.Rules.{rules}
 use mathlib.Core.Path.{refl, sym, ◌∙◌}
 use Rattle.arrays.specs.Arrays.{at}
 use Rattle.sheet.specs.Table.{held}

@@ -22,7 +22,7 @@ returns-then-not-is_named c =
     (sym c.is_named.ensures ∙ c.if-not-is_named.true) in
     (rw c.answer.ensures x.0, x.1)
 
-is-named : (c : Else-not-is_named) → named c.args.h.n (at c.args.h.helpands-1) c.args.holder c.args.subdomain c.args.count ≡ true
+is-named : (c : Else-not-is_named) → named c.args.h.n (at c.args.h.helpands) c.args.holder c.args.subdomain c.args.count ≡ true
 is-named c = sym c.is_named.ensures ∙ c.if-not-is_named.false
 
 holder-below : (c : Else-not-is_named) → c.args.holder < 64
@@ -31,19 +31,20 @@ holder-below c = named-holder c.args.h c.args.cells.now c.args.adds c.args.holde
 subdomain_below : (c : Else-not-is_named) → c.args.subdomain < 64
 subdomain_below c = named-subdomain c.args.h c.args.cells.now c.args.adds c.args.holder c.args.subdomain c.args.count (is-named c)
 
--- what the checks of the amounts say
-abbrev amounts : (c : Else-not-is_named) → ℕ
-amounts c = amount_number (count_at c.args.cells.now (cell c.args.holder c.args.subdomain)) (total_at c.args.cells.now c.args.subdomain) c.args.h.total c.args.count c.args.adds
+-- what the checks of the amounts say of a call
+abbrev amounts : Head → List ℕ → Bool → ℕ → ℕ → ℕ → ℕ
+amounts h cells adds holder subdomain count =
+    amount_number (count_at cells (cell holder subdomain)) (total_at cells subdomain) h.total count adds
 
 cell_below : (c : After-cell) → 128 + c.cell.result < 4224
 cell_below c =
-    let holder-below' : c.args.holder < 64 =
-        named-holder c.args.h c.args.cells.now c.args.adds c.args.holder c.args.subdomain c.args.count (is-named c) in
-    let subdomain_below' : c.args.subdomain < 64 =
-        named-subdomain c.args.h c.args.cells.now c.args.adds c.args.holder c.args.subdomain c.args.count (is-named c) in
-    omega (arith, c.cell.ensures, holder-below', subdomain_below')
+    let a = c.args in
+    let n : named a.h.n (at a.h.helpands) a.holder a.subdomain a.count ≡ true = sym c.is_named.ensures ∙ c.if-not-is_named.false in
+    let holder : a.holder < 64 = named-holder a.h a.cells.now a.adds a.holder a.subdomain a.count n in
+    let subdomain : a.subdomain < 64 = named-subdomain a.h a.cells.now a.adds a.holder a.subdomain a.count n in
+    omega (arith, c.cell.ensures, holder, subdomain)
 
-checked : (c : After-check_amounts) → checked_number c.check_amounts.result ≡ amounts c
+checked : (c : After-check_amounts) → checked_number c.check_amounts.result ≡ amounts c.args.h c.args.cells.now c.args.adds c.args.holder c.args.subdomain c.args.count
 checked c =
     c.check_amounts.ensures
     ∙ ap (λ (x : ℕ). amount_number (count_at c.args.cells.now x) (total_at c.args.cells.now c.args.subdomain) c.args.h.total c.args.count c.args.adds)
@@ -55,9 +56,9 @@ returns-in-Refused c =
     (ap checked_number (sym c.in-Refused.is) ∙ checked (goal.at.returns-in-Refused c).After-check_amounts) in
     (rw c.answer-in-Refused.ensures x.0, x.1)
 
-passed : (c : In-Passed) → 0 ≡ amounts c
+passed : (c : In-Passed) → 0 ≡ amounts c.args.h c.args.cells.now c.args.adds c.args.holder c.args.subdomain c.args.count
 passed c =
-    let checked' : checked_number c.check_amounts.result ≡ amounts c =
+    let checked' : checked_number c.check_amounts.result ≡ amounts c.args.h c.args.cells.now c.args.adds c.args.holder c.args.subdomain c.args.count =
     c.check_amounts.ensures
     ∙ ap (λ (x : ℕ). amount_number (count_at c.args.cells.now x) (total_at c.args.cells.now c.args.subdomain) c.args.h.total c.args.count c.args.adds)
     c.cell.ensures in

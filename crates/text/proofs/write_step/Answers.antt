@@ -1,6 +1,5 @@
 -- `text::write_step` meets its contract: the head, the nodes' lines and the moves' lines stand one behind the other, from the front.
 -- Assumes nothing.
-use borrow.Author.Rules.{rules}
 use native.Mathlib.Omega.{arith}
 use Rattle.text.specs.Text.{step_text}
 use Rattle.text.proofs.Lengths.{head-le, nodes-le, step-le}
@@ -11,7 +10,7 @@ pub returns : goal.returns
 unfolding step_text
 returns c =
     let whole =
-        let a = c.args in
+    let a = c.args in
     let l =
     step-le a.kind a.limit a.nodes a.helpands a.shares a.own a.e a.routes.now a.counts.now c.requires.0 in
     put_front (put_then (put_then c.put_head-first.ensures c.put_nodes-second.ensures) c.put_moves.ensures)

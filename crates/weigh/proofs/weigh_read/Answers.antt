@@ -48,8 +48,9 @@ returns-then-least-nodes c =
 -- the leasts were worked out
 long : (c : After-leasts_of-leasts) → length c.leasts_of-leasts.result ≡ 64
 long c =
-    let few' : c.args.s.n ≤ max_nodes =
-        (facts c.args.sheet.now c.args.plan.now c.args.s (can_weigh c)).n_high in
+    let w : Weighable c.args.sheet.now c.args.plan.now c.args.s =
+        stops_nowhere _ _ c.requires.sheet c.requires.plan c.if-s-p.false c.if-p-eq0.false in
+    let few' : c.args.s.n ≤ max_nodes = (facts c.args.sheet.now c.args.plan.now c.args.s w).n_high in
     ap length c.leasts_of-leasts.ensures ∙ length-tabulate c.args.s.n (least_in c.args.sheet.now c.args.plan.now) few'
 
 pub returns : goal.returns

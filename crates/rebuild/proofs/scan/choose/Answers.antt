@@ -3,7 +3,7 @@ use borrow.Author.Rules.{rules}
 use mathlib.Core.Path.{sym, ◌∙◌}
 use mathlib.Core.Logic.{⊎_elim}
 use Rattle.rebuild.proofs.Choices.{chosen-old, chosen-root, chosen-out, chosen-lacks}
-use Rattle.rebuild.proofs.scan.choose.Goals.{else-old-l, then-old-l}
+use Rattle.rebuild.proofs.scan.choose.Goals.{then-old-l+then-in_b+else-need-loads, then-old-l+else-in_b, else-old-l}
 use Rattle.rebuild.proofs.scan.choose.Goals as goal
 
 pub returns-then-need-loads : goal.returns-then-need-loads
@@ -17,9 +17,9 @@ returns c =
     let a = c.args in
     c.largest_in_b.ensures
     ∙ sym (elim c.if-old-l.branch [
-      | then-old-l w ↦ chosen-lacks a.nodes a.loads.now a.targets.now a.finished.now a.l a.need a.old w.7.left
-      | else-old-l w ↦ (⊎_elim
-    (λ w. chosen-out a.nodes a.loads.now a.targets.now a.finished.now a.l a.need a.old
-    (sym w.4.ensures ∙ w.5.left))
-    (λ w. chosen-root a.nodes a.loads.now a.targets.now a.finished.now a.l a.need a.old w.left)) w
+      | then-old-l+then-in_b+else-need-loads w ↦
+        chosen-lacks a.nodes a.loads.now a.targets.now a.finished.now a.l a.need a.old w.if-need-loads.false
+      | then-old-l+else-in_b w ↦
+        chosen-out a.nodes a.loads.now a.targets.now a.finished.now a.l a.need a.old (sym w.in_b.ensures ∙ w.if-in_b.false)
+      | else-old-l w ↦ chosen-root a.nodes a.loads.now a.targets.now a.finished.now a.l a.need a.old w.if-old-l.false
     ])

@@ -7,7 +7,7 @@ use native.Mathlib.Omega.{arith}
 use Rattle.fold.specs.Best.{best}
 use Rattle.fold.proofs.Scans.{best_skips, best_begins, best_takes, best-stays, best-found}
 use Rattle.rebuild.specs.Rebuild.{largest_in_b}
-use Rattle.rebuild.proofs.scan.largest_in_b.Goals.{In-At, else-in_b, then-in_b}
+use Rattle.rebuild.proofs.scan.largest_in_b.Goals.{In-At, then-in_b+in-Nothing, then-in_b+in-At+then-loads-b, then-in_b+in-At+else-loads-b, else-in_b}
 use Rattle.rebuild.proofs.scan.largest_in_b.Goals as goal
 
 pub loop-k-init : goal.loop-k-init
@@ -26,12 +26,13 @@ loop-k-preserved c =
     let e = sym l.invariant.1 in
     let o = sym c.in_b.ensures in
     elim c.if-in_b.branch [
-      | then-in_b w ↦ (search rules, w.3 ∙ sym (best_begins _ _ l.k (o ∙ w.if-in_b.true) (e ∙ w.2.given.1)))
-      | else-in_b w ↦ (⊎_elim
-    (λ w. (search rules, w.7 ∙ sym (best_takes _ _ l.k _ (o ∙ w.if-in_b.true) (e ∙ w.2.given.1) (lt-ltb _ _ w.6.true))))
-    (⊎_elim
-    (λ w. (search rules, w.7 ∙ sym (best-stays _ _ l.k _ (o ∙ w.if-in_b.true) (e ∙ w.2.given.1) (le-ltb _ _ w.6.left))))
-    (λ w. (search rules, w.1 ∙ l.invariant.1 ∙ sym (best_skips _ _ l.k (o ∙ w.if-in_b.false)))))) w
+      | then-in_b+in-Nothing w ↦
+        (search rules, w.best-is ∙ sym (best_begins _ _ l.k (o ∙ w.if-in_b.true) (e ∙ w.in-Nothing.is)))
+      | then-in_b+in-At+then-loads-b w ↦
+        (search rules, w.best-is ∙ sym (best_takes _ _ l.k _ (o ∙ w.if-in_b.true) (e ∙ w.in-At.is) (lt-ltb _ _ w.if-loads-b.true)))
+      | then-in_b+in-At+else-loads-b w ↦
+        (search rules, w.best-is ∙ sym (best-stays _ _ l.k _ (o ∙ w.if-in_b.true) (e ∙ w.in-At.is) (le-ltb _ _ w.if-loads-b.false)))
+      | else-in_b w ↦ (search rules, w.best-is ∙ l.invariant.1 ∙ sym (best_skips _ _ l.k (o ∙ w.if-in_b.false)))
     ]
 
 pub returns : goal.returns

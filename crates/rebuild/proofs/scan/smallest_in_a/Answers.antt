@@ -7,7 +7,7 @@ use native.Mathlib.Omega.{arith}
 use Rattle.fold.specs.Best.{best}
 use Rattle.fold.proofs.Scans.{best_skips, best_begins, best_takes, best-stays, best-found}
 use Rattle.rebuild.specs.Rebuild.{smallest_in_a}
-use Rattle.rebuild.proofs.scan.smallest_in_a.Goals.{In-At, else-in_a, then-in_a}
+use Rattle.rebuild.proofs.scan.smallest_in_a.Goals.{In-At, then-in_a+in-Nothing, then-in_a+in-At+then-loads-k, then-in_a+in-At+else-loads-k, else-in_a}
 use Rattle.rebuild.proofs.scan.smallest_in_a.Goals as goal
 
 pub loop-k-init : goal.loop-k-init
@@ -26,12 +26,13 @@ loop-k-preserved c =
     let e = sym l.invariant.1 in
     let o = sym c.in_a.ensures in
     elim c.if-in_a.branch [
-      | then-in_a w ↦ (search rules, w.3 ∙ sym (best_begins _ _ l.k (o ∙ w.if-in_a.true) (e ∙ w.2.given.1)))
-      | else-in_a w ↦ (⊎_elim
-    (λ w. (search rules, w.7 ∙ sym (best_takes _ _ l.k _ (o ∙ w.if-in_a.true) (e ∙ w.2.given.1) (lt-ltb _ _ w.6.true))))
-    (⊎_elim
-    (λ w. (search rules, w.7 ∙ sym (best-stays _ _ l.k _ (o ∙ w.if-in_a.true) (e ∙ w.2.given.1) (le-ltb _ _ w.6.left))))
-    (λ w. (search rules, w.1 ∙ l.invariant.1 ∙ sym (best_skips _ _ l.k (o ∙ w.if-in_a.false)))))) w
+      | then-in_a+in-Nothing w ↦
+        (search rules, w.best-is ∙ sym (best_begins _ _ l.k (o ∙ w.if-in_a.true) (e ∙ w.in-Nothing.is)))
+      | then-in_a+in-At+then-loads-k w ↦
+        (search rules, w.best-is ∙ sym (best_takes _ _ l.k _ (o ∙ w.if-in_a.true) (e ∙ w.in-At.is) (lt-ltb _ _ w.if-loads-k.true)))
+      | then-in_a+in-At+else-loads-k w ↦
+        (search rules, w.best-is ∙ sym (best-stays _ _ l.k _ (o ∙ w.if-in_a.true) (e ∙ w.in-At.is) (le-ltb _ _ w.if-loads-k.false)))
+      | else-in_a w ↦ (search rules, w.best-is ∙ l.invariant.1 ∙ sym (best_skips _ _ l.k (o ∙ w.if-in_a.false)))
     ]
 
 pub returns : goal.returns

@@ -1,4 +1,3 @@
-use borrow.Author.Rules.{rules}
 use mathlib.Core.Path.{◌≡◌, sym, ap, ◌∙◌}
 use mathlib.Core.Bool.{true}
 use mathlib.Core.List.{List}
@@ -9,38 +8,38 @@ use Rattle.fold.proofs.Sums.{sum_term}
 use Rattle.arrays.specs.Arrays.{at}
 use Rattle.arrays.proofs.Tabulate.{tabulate-at}
 use Rattle.sheet.specs.Table.{held}
-use Rattle.sheet.specs.Totals.{total_of}
+use Rattle.sheet.specs.Totals.{total_of, totals_of}
 use Rattle.tree.specs.Family.{helps}
 use Rattle.tree.proofs.Linking.{link_first, link_next, left-all}
-use Rattle.shares.specs.Inner.{keeps_in, rooms_in, Somewhere}
+use Rattle.shares.specs.Inner.{keeps_in}
 use Rattle.shares.proofs.Spaces.{space-own, space-helper}
 use Rattle.shares.proofs.Amounts.{kept-sum, kept-left}
 use Rattle.shares.proofs.Raising.{somewhere_larger}
-use Rattle.shares.proofs.Noting.{NotedSoFar, so_far-none, so_far_more, so_far-all}
-use Rattle.shares.proofs.family.keep.Goals.{After-keeps-amount, After-keeps-own, Start}
+use Rattle.shares.proofs.Noting.{so_far-none, so_far_more, so_far-all}
+use Rattle.shares.proofs.family.keep.Goals.{After-keeps-amount, After-keeps-own}
 use Rattle.shares.proofs.family.keep.Goals as goal
 
 -- ---- the owner
-abbrev holding : (c : Start) → ℕ → ℕ
-holding c k = held c.args.table.now k c.args.n
-
-abbrev keeps : (c : Start) → ℕ → ℕ
-keeps c = keeps_in c.args.limit c.args.helpands.now c.args.reserves.now c.args.table.now c.args.share c.args.n
-
 -- the total is the table's
-total_is : (c : Start) → at c.args.totals.now c.args.n ≡ total_of c.args.nodes c.args.table.now c.args.n
-total_is c =
-    ap (λ (xs : List ℕ). at xs c.args.n) c.requires.2
-    ∙ tabulate-at c.args.nodes (total_of c.args.nodes c.args.table.now) c.args.n c.requires.1
+total_is : (nodes : ℕ) (totals table : List ℕ) (n : ℕ) → totals ≡ totals_of nodes table → n < nodes → at totals n ≡ total_of nodes table n
+total_is nodes totals table n e l = ap (λ (xs : List ℕ). at xs n) e ∙ tabulate-at nodes (total_of nodes table) n l
 
-own_keeps : (c : After-keeps-own) → c.keeps-own.result ≡ keeps c.before c.args.n
+own_keeps : (c : After-keeps-own) →
+    let a = c.args in
+    c.keeps-own.result ≡ keeps_in a.limit a.helpands.now a.reserves.now a.table.now a.share a.n a.n
 own_keeps c =
     let a = c.args in
     omega (arith, c.keeps-own.ensures, space-own (at a.helpands.now) a.limit (at a.reserves.now) a.share a.n)
 
 pub overflow_sub-rest : goal.overflow_sub-rest
 overflow_sub-rest c =
-    omega (arith, own_keeps (goal.at.overflow_sub-rest c).After-keeps-own, total_is (goal.at.overflow_sub-rest c).Start, sum_term c.args.nodes (holding (goal.at.overflow_sub-rest c).Start) c.args.n c.requires.1)
+    let a = c.args in
+    omega (
+      arith,
+      own_keeps (goal.at.overflow_sub-rest c).After-keeps-own,
+      total_is a.nodes a.totals.now a.table.now a.n c.requires.2 c.requires.1,
+      sum_term a.nodes (λ k. held a.table.now k a.n) a.n c.requires.1,
+    )
 
 pub loop-k-init : goal.loop-k-init
 loop-k-init c =
@@ -64,26 +63,25 @@ k_lt : (c : After-keeps-amount) → c.loop-k.k < c.args.nodes
 k_lt c = c.loop-k-test.true
 
 helps-n : (c : After-keeps-amount) → helps (at c.args.helpands.now) c.args.n c.loop-k.k ≡ true
-helps-n c = c.loop-k.invariant.0.true.helper (k_lt c)
+helps-n c = c.loop-k.invariant.0.taken.helper (k_lt c)
 
-keeps-is : (c : After-keeps-amount) → c.keeps-amount.result ≡ keeps c c.loop-k.k
+keeps-is : (c : After-keeps-amount) →
+    let a = c.args in
+    c.keeps-amount.result ≡ keeps_in a.limit a.helpands.now a.reserves.now a.table.now a.share a.n c.loop-k.k
 keeps-is c =
     let a = c.args in
     let e = space-helper (at a.helpands.now) a.limit (at a.reserves.now) a.share a.n c.loop-k.k (helps-n c) in
-    c.keeps-amount.ensures ∙ ap (λ (x : ℕ). min x (holding c c.loop-k.k)) (sym e)
+    c.keeps-amount.ensures ∙ ap (λ (x : ℕ). min x (held a.table.now c.loop-k.k a.n)) (sym e)
 
-still_there : (c : After-keeps-amount) → c.keeps-amount.result ≤ c.loop-k.rest-1
+still_there : (c : After-keeps-amount) → c.keeps-amount.result ≤ c.loop-k.rest
 still_there c =
-    let total_is' : at c.args.totals.now c.args.n ≡ total_of c.args.nodes c.args.table.now c.args.n =
-        ap (λ (xs : List ℕ). at xs c.args.n) c.requires.2
-    ∙ tabulate-at c.args.nodes (total_of c.args.nodes c.args.table.now) c.args.n c.requires.1 in
     let a = c.args in
     omega (
       arith,
-      (keeps-is c),
-      total_is',
-      c.loop-k.invariant.0.true.left_is,
-      kept-left (at a.helpands.now) a.limit (at a.reserves.now) (holding c) a.share a.n a.nodes c.loop-k.k
+      keeps-is c,
+      total_is a.nodes a.totals.now a.table.now a.n c.requires.2 c.requires.1,
+      c.loop-k.invariant.0.taken.left_is,
+      kept-left (at a.helpands.now) a.limit (at a.reserves.now) (λ k. held a.table.now k a.n) a.share a.n a.nodes c.loop-k.k
           c.requires.1 (k_lt c) (helps-n c),
     )
 
@@ -95,11 +93,12 @@ next-first c e = link_next c.requires.0.linked c.args.n (k_lt c) (helps-n c) e
 pub loop-k-preserved : goal.loop-k-preserved
 loop-k-preserved c =
     let a = c.args in
-    let e = space-helper (at a.helpands.now) a.limit (at a.reserves.now) a.share a.n c.loop-k.k (helps-n (goal.at.loop-k-preserved c).After-keeps-amount) in (
-      so_far_more c.loop-k.invariant.0 c.requires.0.few (k_lt (goal.at.loop-k-preserved c).After-keeps-amount) (keeps-is (goal.at.loop-k-preserved c).After-keeps-amount)
-          (ap (λ (x : ℕ). c.loop-k.rest-1 - x) (keeps-is (goal.at.loop-k-preserved c).After-keeps-amount)) (next-first (goal.at.loop-k-preserved c).After-keeps-amount c.next-k.ensures),
+    let t = (goal.at.loop-k-preserved c).After-keeps-amount in
+    let e = space-helper (at a.helpands.now) a.limit (at a.reserves.now) a.share a.n c.loop-k.k (helps-n t) in (
+      so_far_more c.loop-k.invariant.0 c.requires.0.few (k_lt t) (keeps-is t)
+          (ap (λ (x : ℕ). c.loop-k.rest - x) (keeps-is t)) (next-first t c.next-k.ensures),
       rw c.larger-most.ensures
-          (somewhere_larger c.loop-k.invariant.1 (k_lt (goal.at.loop-k-preserved c).After-keeps-amount) (omega (arith, c.room.ensures.0, keeps-is (goal.at.loop-k-preserved c).After-keeps-amount, e))),
+          (somewhere_larger c.loop-k.invariant.1 (k_lt t) (omega (arith, c.room.ensures.0, keeps-is t, e))),
     )
 
 pub returns : goal.returns
@@ -109,8 +108,8 @@ returns c =
       own_keeps (goal.at.returns c).After-keeps-own,
       omega (
         arith,
-        (left-all c.loop-k.invariant.0.true c.loop-k-test.false).1,
-        kept-sum (at a.helpands.now) a.limit (at a.reserves.now) (holding (goal.at.returns c).Start) a.share a.n a.nodes c.requires.1,
+        (left-all c.loop-k.invariant.0.taken c.loop-k-test.false).1,
+        kept-sum (at a.helpands.now) a.limit (at a.reserves.now) (λ k. held a.table.now k a.n) a.share a.n a.nodes c.requires.1,
       ),
       c.loop-k.invariant.1,
       all.0,

@@ -1,6 +1,5 @@
 -- `fill::fill` meets its contract: the rooms are those of the spaces and amounts, so the level form is what is to be filled in. Assumes
 -- nothing.
-use borrow.Author.Rules.{rules}
 use Rattle.shares.proofs.Filling.{level-noted}
 use Rattle.shares.proofs.fill.fill.Goals as goal
 

@@ -1,5 +1,4 @@
 -- `fill::left_for` meets its contract: the test is whether the owner's number is lower. Assumes nothing.
-use borrow.Author.Rules.{rules}
 use native.Mathlib.Omega.{arith}
 use lib.Dec.{ltb}
 use borrow.Author.Tests.{lt-ltb, le-ltb}

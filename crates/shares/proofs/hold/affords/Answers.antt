@@ -1,5 +1,4 @@
 -- `hold::affords` meets its contract: both sides of the test are the definition's, and no sum wraps. Assumes nothing.
-use borrow.Author.Rules.{rules}
 use mathlib.Core.Path.{ap₂}
 use Prim.Native.Nat.{◌+◌, ◌*◌}
 use native.Mathlib.Nat.{mul-le-mul}
@@ -23,4 +22,4 @@ pub overflow_add-result : goal.overflow_add-result
 overflow_add-result c = omega (arith, c.wide.ensures.1, c.wide-2.ensures.1)
 
 pub overflow_add-result-2 : goal.overflow_add-result-2
-overflow_add-result-2 c =     omega (arith, c.wide.ensures.1, c.wide-2.ensures.1, c.family_of-family.ensures.2)
+overflow_add-result-2 c = omega (arith, c.wide.ensures.1, c.wide-2.ensures.1, c.family_of-family.ensures.2)

@@ -1,12 +1,11 @@
-use borrow.Author.Rules.{rules}
 use mathlib.Core.Path.{◌≡◌, refl}
-use Prim.Native.Nat.{ℕ, ◌+◌, ◌-◌, ◌*◌, ◌≤◌, ◌<◌}
+use Prim.Native.Nat.{ℕ, ◌+◌, ◌<◌}
 use native.Mathlib.Omega.{arith}
 use Rattle.fold.specs.First.{FirstFrom}
 use Rattle.arrays.specs.Arrays.{at}
 use Rattle.tree.specs.Family.{helps}
 use Rattle.tree.proofs.Linking.{link_first, link_next}
-use Rattle.shares.proofs.Summing.{Summed, summed_first, summed_next, summed_end}
+use Rattle.shares.proofs.Summing.{summed_first, summed_next, summed_end}
 use Rattle.shares.proofs.hold.family_of.Goals.{In-loop-k}
 use Rattle.shares.proofs.hold.family_of.Goals as goal
 

@@ -1,13 +1,7 @@
 -- `hold::family_of` meets its contract: at the loop's head the sums are those of the helpers passed. Assumes nothing.
-use borrow.Author.Rules.{rules}
-use mathlib.Core.Path.{◌≡◌, refl}
-use Prim.Native.Nat.{ℕ, ◌+◌, ◌-◌, ◌*◌, ◌≤◌, ◌<◌}
-use native.Mathlib.Omega.{arith}
-use Rattle.fold.specs.First.{FirstFrom}
+use Prim.Native.Nat.{◌+◌, ◌-◌, ◌*◌, ◌≤◌}
 use Rattle.arrays.specs.Arrays.{at}
-use Rattle.tree.specs.Family.{helps}
-use Rattle.tree.proofs.Linking.{link_first, link_next}
-use Rattle.shares.proofs.Summing.{Summed, summed_first, summed_next, summed_end}
+use Rattle.shares.proofs.Summing.{Summed}
 use Rattle.shares.proofs.hold.family_of.Given as goal
 
 -- no hold is above 32 bits

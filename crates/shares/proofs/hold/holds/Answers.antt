@@ -1,9 +1,7 @@
-use borrow.Author.Rules.{rules}
 use mathlib.Core.Path.{◌≡◌, refl, sym}
-use Prim.Native.Nat.{◌-◌, ◌≤◌}
 use native.Mathlib.Omega.{arith}
-use lib.ListN.{length, length-set}
-use Rattle.arrays.specs.Arrays.{at, tabulate}
+use lib.ListN.{length-set}
+use Rattle.arrays.specs.Arrays.{at}
 use Rattle.arrays.proofs.Tabulate.{tabulate-none, tabulate-next}
 use Rattle.sheet.specs.Table.{held}
 use Rattle.shares.specs.Hold.{hold}

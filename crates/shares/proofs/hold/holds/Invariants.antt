@@ -1,11 +1,8 @@
 -- `hold::holds` meets its contract: after k turns the array has the holds of the first k nodes. Assumes nothing.
-use borrow.Author.Rules.{rules}
-use mathlib.Core.Path.{◌≡◌, refl, sym}
+use mathlib.Core.Path.{◌≡◌}
 use Prim.Native.Nat.{◌-◌, ◌≤◌}
-use native.Mathlib.Omega.{arith}
-use lib.ListN.{length, length-set}
+use lib.ListN.{length}
 use Rattle.arrays.specs.Arrays.{at, tabulate}
-use Rattle.arrays.proofs.Tabulate.{tabulate-none, tabulate-next}
 use Rattle.sheet.specs.Table.{held}
 use Rattle.shares.specs.Hold.{hold}
 use Rattle.shares.proofs.hold.holds.Given as goal

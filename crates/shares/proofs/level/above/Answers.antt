@@ -14,9 +14,9 @@ use Rattle.tree.specs.Family.{helps}
 use Rattle.tree.proofs.Linking.{link_first, link_next}
 use Rattle.shares.specs.Inner.{rooms_now}
 use Rattle.shares.proofs.Spaces.{family_own, family_helper, family_other, rooms-most}
-use Rattle.shares.proofs.Summing.{Summed, summed_first, summed_next, summed_all, summed_most}
+use Rattle.shares.proofs.Summing.{summed_first, summed_next, summed_all, summed_most}
 use Rattle.shares.proofs.level.above.Goals.{After-room-room, Start}
-use Rattle.shares.proofs.level.above.Invariants.{excess, one}
+use Rattle.shares.proofs.level.above.Invariants.{one}
 use Rattle.shares.proofs.level.above.Goals as goal
 
 abbrev rooms : (c : Start) → ℕ → ℕ
@@ -46,10 +46,12 @@ k_lt c = c.loop-k-test.true
 helps-n : (c : After-room-room) → helps (at c.args.helpands.now) c.args.n c.loop-k.k ≡ true
 helps-n c = c.loop-k.invariant.0.helper (k_lt c)
 
-room-is : (c : After-room-room) → c.room-room.result ≡ rooms c c.loop-k.k
+room-is : (c : After-room-room) →
+    let a = c.args in
+    c.room-room.result ≡ rooms_now a.limit a.helpands.now a.reserves.now a.n a.own a.noted.now c.loop-k.k
 room-is c =
     c.room-room.ensures.0
-    ∙ sym (family_helper (at c.args.helpands.now) c.args.n c.args.own (left c) c.loop-k.k (helps-n c))
+    ∙ sym (family_helper (at c.args.helpands.now) c.args.n c.args.own (λ k. c.args.limit - at c.args.reserves.now k - at c.args.noted.now k) c.loop-k.k (helps-n c))
 
 next-first : (c : After-room-room) → {to : ℕ} →
     let a = c.args in

@@ -1,21 +1,10 @@
 -- `level::above` meets its contract: at the loop's head the sums are those of the owner and of the helpers passed. Assumes nothing.
-use borrow.Author.Rules.{rules}
-use mathlib.Core.Path.{◌≡◌, sym, ap, ◌∙◌}
-use mathlib.Core.Logic.{◌≢◌}
-use mathlib.Core.Bool.{true, false}
-use Prim.Native.Nat.{ℕ, ◌+◌, ◌-◌, ◌≤◌, ◌<◌}
-use native.Mathlib.Omega.{arith}
+use Prim.Native.Nat.{ℕ, ◌-◌}
 use lib.Dec.{ltb}
-use borrow.Author.Tests.{le-ltb}
 use Rattle.fold.specs.Sum.{only}
-use Rattle.fold.specs.First.{FirstFrom}
-use Rattle.fold.proofs.Tests.{only-max, only-not}
 use Rattle.arrays.specs.Arrays.{at}
-use Rattle.tree.specs.Family.{helps}
-use Rattle.tree.proofs.Linking.{link_first, link_next}
 use Rattle.shares.specs.Inner.{rooms_now}
-use Rattle.shares.proofs.Spaces.{family_own, family_helper, family_other, rooms-most}
-use Rattle.shares.proofs.Summing.{Summed, summed_first, summed_next, summed_all, summed_most}
+use Rattle.shares.proofs.Summing.{Summed}
 use Rattle.shares.proofs.level.above.Given as goal
 
 -- what one node adds

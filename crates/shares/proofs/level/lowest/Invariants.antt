@@ -1,13 +1,10 @@
 -- `level::lowest` meets its contract: the rest reaches no level below this one, and each turn leaves fewer members above it. Assumes
 -- nothing.
-use borrow.Author.Rules.{rules}
-use mathlib.Core.Path.{◌≡◌, ap}
-use mathlib.Core.Logic.{◌⊎◌, inr}
-use Prim.Native.Nat.{ℕ, ◌+◌, ◌-◌, ◌≤◌, ◌<◌}
-use native.Mathlib.Omega.{arith}
+use mathlib.Core.Path.{◌≡◌}
+use mathlib.Core.Logic.{◌⊎◌}
+use Prim.Native.Nat.{◌-◌, ◌<◌}
 use Rattle.shares.specs.Inner.{rooms_now, over}
-use Rattle.shares.proofs.Spaces.{rooms-most}
-use Rattle.shares.proofs.Raising.{start-lowest, turns_left, Counted, turn-some, turn-lowest, turn-most, turn_fewer}
+use Rattle.shares.proofs.Raising.{turns_left}
 use Rattle.shares.proofs.level.lowest.Given as goal
 
 abbrev pub invariant-loop-high : goal.invariant-loop-high

@@ -1,5 +1,4 @@
 -- `level::rise` meets its contract: no quotient is above its dividend. Assumes nothing.
-use borrow.Author.Rules.{rules}
 use Prim.Native.Nat.{◌-◌}
 use native.Mathlib.Nat.{div-le_self}
 use native.Mathlib.Omega.{arith}

@@ -20,7 +20,7 @@ onward c e =
 pub loop-k-preserved : goal.loop-k-preserved
 loop-k-preserved c =
     left-next c.loop-k.invariant c.loop-k-test.true
-    (c.saturating_sub-left.ensures ∙ ap (λ (x : ℕ). c.loop-k.left-1 - x) c.saturating_sub.ensures) (onward (goal.at.loop-k-preserved c).In-loop-k c.next-k.ensures)
+    (c.saturating_sub-left.ensures ∙ ap (λ (x : ℕ). c.loop-k.left - x) c.saturating_sub.ensures) (onward (goal.at.loop-k-preserved c).In-loop-k c.next-k.ensures)
 
 pub loop-k-init : goal.loop-k-init
 loop-k-init c = left-first refl (link_first c.requires.0.linked _ c.requires.1 c.first-k.ensures)

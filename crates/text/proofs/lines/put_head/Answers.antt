@@ -1,5 +1,4 @@
 -- `text::lines::put_head` meets its contract: its two fields are the line. Assumes nothing.
-use borrow.Author.Rules.{rules}
 use native.Mathlib.Omega.{arith}
 use Rattle.text.specs.Text.{ascii, blank, head_line}
 use Rattle.text.proofs.Lengths.{field-le}

@@ -1,5 +1,4 @@
 -- `text::lines::put_move` meets its contract: its four fields are the line. Assumes nothing.
-use borrow.Author.Rules.{rules}
 use native.Mathlib.Omega.{arith}
 use Rattle.moves.specs.Moves.{subdomain, sender, receiver}
 use Rattle.text.specs.Text.{ascii, blank, move_line}

@@ -1,11 +1,6 @@
-use borrow.Author.Rules.{rules}
 use mathlib.Core.Path.{◌≡◌, refl}
-use Prim.Native.Nat.{◌-◌, ◌≤◌}
 use native.Mathlib.Omega.{arith}
-use lib.ListN.{length}
 use Rattle.fold.proofs.Lists.{collect-none, collect_more}
-use Rattle.text.specs.Text.{moves_text}
-use Rattle.text.specs.Inner.{Put}
 use Rattle.text.proofs.Lengths.{moves-le}
 use Rattle.text.proofs.Writing.{put_none, put_then}
 use Rattle.text.proofs.lines.put_moves.Goals as goal

@@ -1,5 +1,4 @@
 -- `text::lines::put_node` meets its contract: its four fields are the line. Assumes nothing.
-use borrow.Author.Rules.{rules}
 use native.Mathlib.Omega.{arith}
 use Rattle.text.specs.Text.{ascii, blank, node_line}
 use Rattle.text.proofs.Lengths.{field-le, node-field-le}

@@ -1,14 +1,9 @@
 -- `text::lines::put_nodes` meets its contract: after k turns the lines of the nodes below k are written. Assumes nothing.
-use borrow.Author.Rules.{rules}
-use mathlib.Core.Path.{◌≡◌, refl}
+use mathlib.Core.Path.{◌≡◌}
 use Prim.Native.Nat.{◌-◌, ◌≤◌}
-use native.Mathlib.Omega.{arith}
 use lib.ListN.{length}
-use Rattle.fold.proofs.Lists.{collect-none, collect_more}
 use Rattle.text.specs.Text.{nodes_text}
 use Rattle.text.specs.Inner.{Put}
-use Rattle.text.proofs.Lengths.{nodes-le}
-use Rattle.text.proofs.Writing.{put_none, put_then}
 use Rattle.text.proofs.lines.put_nodes.Given as goal
 
 abbrev pub invariant-loop-k : goal.invariant-loop-k

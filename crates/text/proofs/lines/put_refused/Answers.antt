@@ -1,5 +1,4 @@
 -- `text::lines::put_refused` meets its contract: its one field is the line. Assumes nothing.
-use borrow.Author.Rules.{rules}
 use Rattle.text.specs.Text.{refused_text}
 use Rattle.text.proofs.lines.put_refused.Goals as goal
 

@@ -1,5 +1,4 @@
 -- `text::put::column` meets its contract: the blank, or the digit. Assumes nothing.
-use borrow.Author.Rules.{rules}
 use borrow.Author.Tests.{eq-eqb, ne_eqb}
 use Rattle.text.proofs.put.column.Goals as goal
 

@@ -1,11 +1,8 @@
 -- `text::put::digit_count` meets its contract: a digit is counted for each that is taken off, and at the end one is left. Assumes nothing.
-use mathlib.Core.Path.{◌≡◌, ap}
+use mathlib.Core.Path.{◌≡◌}
 use Prim.Native.Nat.{◌+◌, ◌^◌, ◌<◌}
-use native.Mathlib.Omega.{arith}
 use lib.ListN.{length}
 use Rattle.text.specs.Text.{decimal}
-use Rattle.text.proofs.Digits.{decimal-one, length_more}
-use Rattle.text.proofs.Lengths.{decimal-le}
 use Rattle.text.proofs.put.digit_count.Given as goal
 
 abbrev pub invariant-loop-rest : goal.invariant-loop-rest

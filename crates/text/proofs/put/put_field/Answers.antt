@@ -1,5 +1,4 @@
 -- `text::put::put_field` meets its contract: its four parts stand one behind the other. Assumes nothing.
-use borrow.Author.Rules.{rules}
 use native.Mathlib.Omega.{arith}
 use Rattle.text.specs.Text.{field}
 use Rattle.text.proofs.Lengths.{decimal-le}

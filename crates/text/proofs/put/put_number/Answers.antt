@@ -1,5 +1,4 @@
 -- `text::put::put_number` meets its contract: as many columns as there are digits. Assumes nothing.
-use borrow.Author.Rules.{rules}
 use native.Mathlib.Omega.{arith}
 use mathlib.Core.Path.{◌≡◌}
 use mathlib.Core.List.{List}

@@ -3,14 +3,10 @@ use mathlib.Core.Path.{◌≡◌}
 use Prim.Native.Nat.{◌+◌, ◌-◌, ◌≤◌}
 use native.Mathlib.Omega.{arith}
 use lib.ListN.{length}
-use Rattle.text.proofs.Columns.{Filling, decimal-some, aligned_right, filling_none, filling_length, filling_more, filling_all}
+use Rattle.text.proofs.Columns.{decimal-some, aligned_right, filling_none, filling_length, filling_more, filling_all}
 use Rattle.text.proofs.Writing.{put_then}
-use Rattle.text.proofs.put.put_right.Goals.{After-slice_known-1, At-loop-i}
+use Rattle.text.proofs.put.put_right.Goals.{At-loop-i}
 use Rattle.text.proofs.put.put_right.Goals as goal
-
--- there is a last column
-some : (c : After-slice_known-1) → 1 ≤ c.args.width
-some c = omega (arith, c.requires.0, decimal-some c.args.x c.ranges.x.fits)
 
 pub loop-i-init : goal.loop-i-init
 loop-i-init c =
@@ -24,7 +20,7 @@ loop-i-preserved c =
     (filling_more a.out.now a.at (a.width - 1) a.x c.loop-i.invariant c.loop-i-test.true)
 
 -- the buffer stays as long as it was
-size : (l : At-loop-i) → length l.loop-i.out-1 ≡ length l.args.out.now
+size : (l : At-loop-i) → length l.loop-i.out ≡ length l.args.out.now
 size l =
     let a = l.args in
     filling_length a.out.now a.at (a.width - 1) a.x l.loop-i.invariant
@@ -32,12 +28,12 @@ size l =
 -- the columns up to the last lie in the buffer
 inside : (l : At-loop-i) →
     let a = l.args in
-    (1 ≤ a.width) × (a.at + a.width ≤ length l.loop-i.out-1) × (l.loop-i.i ≤ a.width - 1)
-inside l = (some l.before, omega (arith, size l, l.requires.1), l.loop-i.invariant.i_le)
+    (1 ≤ a.width) × (a.at + a.width ≤ length l.loop-i.out) × (l.loop-i.i ≤ a.width - 1)
+inside l = (omega (arith, l.requires.0, decimal-some l.args.x l.ranges.x.fits), omega (arith, size l, l.requires.1), l.loop-i.invariant.i_le)
 
 pub shape_of-out : goal.shape_of-out
 shape_of-out c =
-    let e : length c.loop-i.out-1 ≡ length c.args.out.now = size (goal.at.shape_of-out c).At-loop-i in
+    let e : length c.loop-i.out ≡ length c.args.out.now = size (goal.at.shape_of-out c).At-loop-i in
     search rules
 
 pub returns : goal.returns
@@ -47,7 +43,7 @@ returns c =
     rw (aligned_right a.width a.x c.ranges.x.fits c.requires.0) (put_then before c.put_byte.ensures)
 
 pub overflow_sub-last : goal.overflow_sub-last
-overflow_sub-last c = omega (arith, some (goal.at.overflow_sub-last c).After-slice_known-1)
+overflow_sub-last c = omega (arith, c.requires.0, decimal-some c.args.x c.ranges.x.fits)
 
 pub overflow_add-out : goal.overflow_add-out
 overflow_add-out c = omega (arith, (inside (goal.at.overflow_add-out c).At-loop-i).0, (inside (goal.at.overflow_add-out c).At-loop-i).1, (inside (goal.at.overflow_add-out c).At-loop-i).2)

@@ -1,5 +1,4 @@
 -- `text::split::split` meets its contract: all the input where the header is refused, and its size or all otherwise. Assumes nothing.
-use borrow.Author.Rules.{rules}
 use mathlib.Core.Path.{◌≡◌, sym, ap, ◌∙◌}
 use Prim.Native.Nat.{◌+◌, ◌*◌, min}
 use native.Mathlib.Omega.{arith}

@@ -1,7 +1,6 @@
-use borrow.Author.Rules.{rules}
 use mathlib.Core.Path.{◌≡◌, refl, sym, ◌∙◌}
 use mathlib.Core.List.{List}
-use Prim.Native.Nat.{ℕ, ◌+◌, ◌-◌, ◌≤◌, ◌<◌}
+use Prim.Native.Nat.{ℕ, ◌+◌, ◌≤◌, ◌<◌}
 use native.Mathlib.Omega.{arith}
 use lib.ListN.{length, set, length-set}
 use Rattle.limit.specs.Limit.{max_total, table_size}
@@ -9,7 +8,7 @@ use Rattle.arrays.specs.Arrays.{at}
 use Rattle.moves.specs.Moves.{routes_of, counts_of}
 use Rattle.transfer.specs.Apply.{into_cell, receives}
 use Rattle.transfer.specs.Inner.{Room}
-use Rattle.transfer.proofs.Applied.{into-below, Entry, entry_read, moved_from, moved-from-none, moved-from_more, moved-from-here, each-is, plus-at}
+use Rattle.transfer.proofs.Applied.{into-below, Entry, entry_read, moved-from-none, moved-from_more, moved-from-here, each-is, plus-at}
 use Rattle.transfer.proofs.apply.add_receipts.Goals.{After-word_number-received}
 use Rattle.transfer.proofs.apply.add_receipts.Invariants.{Adding}
 use Rattle.transfer.proofs.apply.add_receipts.Goals as goal
@@ -19,11 +18,13 @@ module _ (old moves : List ℕ) (e : ℕ) (table : List ℕ) (i : ℕ) (s : Addi
     (entry : Entry moves e i route count) where
   abbrev cell : ℕ
   cell = into_cell route
+
   -- what arrives fits
   fits : Room old moves e → (into : ℕ) → into ≡ cell → at table into + count ≤ max_total
   fits room into is =
       rw is
       (omega (arith, room cell (into-below route entry.below), s.added cell, moved-from-here into_cell moves e i route count entry))
+
   -- what holds at the loop's head holds again
   after : Adding old moves e (set table cell (at table cell + count)) (i + 1)
   after =
@@ -42,7 +43,7 @@ read c =
 into-lt : (c : After-word_number-received) → c.into_cell-into.result < table_size
 into-lt c = omega (arith, c.into_cell-into.ensures, (read c).below)
 
-fits-here : (c : After-word_number-received) → at c.loop-i.table-1 c.into_cell-into.result + c.word_number-received.result ≤ max_total
+fits-here : (c : After-word_number-received) → at c.loop-i.table c.into_cell-into.result + c.word_number-received.result ≤ max_total
 fits-here c =
     let a = c.args in
     let l = c.loop-i in

@@ -5,7 +5,6 @@ use mathlib.Core.Bool.{true, true≢false}
 use mathlib.Core.List.{List}
 use Prim.Native.Nat.{ℕ, ◌*◌, ◌≤◌, ◌<◌}
 use native.Mathlib.Omega.{arith}
-use borrow.Author.Tests.{not-true, not-false}
 use lib.ListN.{length, get_or, drop, length-take}
 use Rattle.fold.specs.Sum.{sum}
 use Rattle.fold.proofs.Sums.{sum_term}
@@ -25,14 +24,18 @@ use Rattle.transfer.proofs.apply.apply_moves.Goals as goal
 module _ (table moves : List ℕ) (e : ℕ) (ready : Ready table moves e) where
   abbrev routes : List ℕ
   routes = routes_of moves e
+
   abbrev counts : List ℕ
   counts = counts_of moves e
+
   abbrev left : List ℕ
   left = less_sends table routes counts
+
   below : (i : ℕ) → i < length routes → get_or routes i 0 < 64 * table_size
   below i l =
       let h : i < e = omega (arith, length-take e (drop 2 (words moves))) in
       rw (part_at (words moves) 2 e i h) (ready.entries.below i h)
+
   left-fits : sum table_size (at table) ≤ max_total → sends_within table routes counts ≡ true → Ready left moves e × Room left moves e
   left-fits small within = (
     record { size = length-less routes counts table ∙ ready.size; entries = ready.entries },
@@ -56,7 +59,7 @@ within-here : (c : Else-not-subtract_sends) → let a = c.args in
 within-here c = sym c.subtract_sends.ensures.answer ∙ (all_had c)
 
 left_is : (c : Else-not-subtract_sends) → let a = c.args in
-    c.subtract_sends.new.0 ≡ less_sends a.table.now (routes_of a.moves.now a.e) (counts_of a.moves.now a.e)
+    c.subtract_sends.new.table ≡ less_sends a.table.now (routes_of a.moves.now a.e) (counts_of a.moves.now a.e)
 left_is c = c.subtract_sends.ensures.left (all_had c)
 
 pub add_receipts-requires : goal.add_receipts-requires

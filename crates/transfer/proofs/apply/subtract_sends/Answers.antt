@@ -1,4 +1,3 @@
-use borrow.Author.Rules.{rules}
 use mathlib.Core.Path.{◌≡◌, refl, sym, ◌∙◌}
 use mathlib.Core.Bool.{true, false, true≢false}
 use mathlib.Core.List.{List}
@@ -9,7 +8,7 @@ use Rattle.limit.specs.Limit.{table_size}
 use Rattle.arrays.specs.Arrays.{at}
 use Rattle.moves.specs.Moves.{routes_of, counts_of}
 use Rattle.transfer.specs.Apply.{from_cell, sends, sends_within, less_sends}
-use Rattle.transfer.proofs.Applied.{from-below, Entry, entry_read, moved_from, moved-from-none, moved-from_more, moved-from-here, each-is, within_of, within-false, less-at}
+use Rattle.transfer.proofs.Applied.{from-below, Entry, entry_read, moved-from-none, moved-from_more, moved-from-here, each-is, within_of, within-false, less-at}
 use Rattle.transfer.proofs.apply.subtract_sends.Goals.{After-word_number-sent}
 use Rattle.transfer.proofs.apply.subtract_sends.Invariants.{Subtracting}
 use Rattle.transfer.proofs.apply.subtract_sends.Goals as goal
@@ -19,11 +18,13 @@ module _ (old moves : List ℕ) (e : ℕ) (table : List ℕ) (i : ℕ) (s : Subt
     (entry : Entry moves e i route count) where
   abbrev cell : ℕ
   cell = from_cell route
+
   -- the cell has less left than it sends, and so it had less than it sends in all
   fails : length old ≡ table_size → at table cell < count → sends_within old (routes_of moves e) (counts_of moves e) ≡ false
   fails same l =
       within-false old (routes_of moves e) (counts_of moves e) cell (omega (arith, from-below route entry.below))
       (omega (arith, s.left cell, moved-from-here from_cell moves e i route count entry))
+
   -- what holds at the loop's head holds again
   after : count ≤ at table cell → Subtracting old moves e (set table cell (at table cell - count)) (i + 1)
   after l =
@@ -39,8 +40,10 @@ module _ (old moves : List ℕ) (e : ℕ) (table : List ℕ) (i : ℕ) (s : Subt
     (same : length old ≡ table_size) where
   left-all : (c : ℕ) → at table c + sends (routes_of moves e) (counts_of moves e) c ≡ at old c
   left-all c = omega (arith, s.left c, moved-from-none from_cell moves e i h c)
+
   passes : sends_within old (routes_of moves e) (counts_of moves e) ≡ true
   passes = within_of old (routes_of moves e) (counts_of moves e) (λ c l. omega (arith, left-all c))
+
   left_is : table ≡ less_sends old (routes_of moves e) (counts_of moves e)
   left_is =
       each-is (λ c x. x - sends (routes_of moves e) (counts_of moves e) c) old table (s.size ∙ sym same) (λ c l. omega (arith, left-all c))
@@ -58,8 +61,11 @@ loop-i-init c = record { i_le = omega arith; size = c.requires.size; left = λ j
 pub returns-then-table-from : goal.returns-then-table-from
 returns-then-table-from c =
     let a = c.args in
-    let l = c.loop-i in record { answer = sym (fails a.table.now a.moves.now a.e l.table l.i l.invariant c.loop-i-test.true _ _ (read (goal.at.returns-then-table-from c).After-word_number-sent)
-          c.requires.size (rw (← c.from_cell-from.ensures) c.if-table-from.true)); left = λ z. absurd (true≢false (sym z)) }
+    let l = c.loop-i in record {
+      answer = sym (fails a.table.now a.moves.now a.e l.table l.i l.invariant c.loop-i-test.true _ _ (read (goal.at.returns-then-table-from c).After-word_number-sent)
+          c.requires.size (rw (← c.from_cell-from.ensures) c.if-table-from.true));
+      left = λ z. absurd (true≢false (sym z));
+    }
 
 pub loop-i-preserved : goal.loop-i-preserved
 loop-i-preserved c =

@@ -1,9 +1,8 @@
-use borrow.Author.Rules.{rules}
 use mathlib.Core.Path.{◌≡◌, refl, sym}
-use Prim.Native.Nat.{ℕ, ◌-◌, ◌≤◌}
+use Prim.Native.Nat.{ℕ}
 use native.Mathlib.Omega.{arith}
-use lib.ListN.{length, length-set}
-use Rattle.arrays.specs.Arrays.{at, tabulate}
+use lib.ListN.{length-set}
+use Rattle.arrays.specs.Arrays.{at}
 use Rattle.transfer.specs.Due.{due_with}
 use Rattle.arrays.proofs.Tabulate.{tabulate-none, tabulate_more}
 use Rattle.transfer.proofs.due.due_amounts.Goals as goal

@@ -1,13 +1,10 @@
 -- `transfer::due::due_amounts` meets its contract: after k turns the array holds the due amounts of the first k nodes. Assumes
 -- nothing.
-use borrow.Author.Rules.{rules}
-use mathlib.Core.Path.{◌≡◌, refl, sym}
-use Prim.Native.Nat.{ℕ, ◌-◌, ◌≤◌}
-use native.Mathlib.Omega.{arith}
-use lib.ListN.{length, length-set}
+use mathlib.Core.Path.{◌≡◌}
+use Prim.Native.Nat.{◌-◌, ◌≤◌}
+use lib.ListN.{length}
 use Rattle.arrays.specs.Arrays.{at, tabulate}
 use Rattle.transfer.specs.Due.{due_with}
-use Rattle.arrays.proofs.Tabulate.{tabulate-none, tabulate_more}
 use Rattle.transfer.proofs.due.due_amounts.Given as goal
 
 abbrev pub invariant-loop-k : goal.invariant-loop-k

@@ -1,7 +1,7 @@
 use borrow.Author.Rules.{rules}
 use mathlib.Core.Path.{◌≡◌, refl, ap, ◌∙◌}
-use mathlib.Core.Logic.{⊎_elim}
-use Prim.Native.Nat.{ℕ, ◌+◌, ◌-◌, ◌≤◌, ◌<◌}
+use mathlib.Core.Logic.{◌≢◌}
+use Prim.Native.Nat.{ℕ, ◌+◌, ◌≤◌, ◌<◌}
 use native.Mathlib.Omega.{arith}
 use lib.ListN.{length, get_or, length-set}
 use Rattle.arrays.specs.Arrays.{at}
@@ -11,7 +11,7 @@ use Rattle.tree.specs.Family.{helps, over_helpers}
 use Rattle.tree.specs.Division.{own_of}
 use Rattle.transfer.proofs.Dues.{helpers_root, helpers_up, off}
 use Rattle.arrays.proofs.Tabulate.{tabulate-is}
-use Rattle.transfer.proofs.due.own_amounts.Goals.{In-loop-k, Then-owner-k, else-owner-k, then-owner-k}
+use Rattle.transfer.proofs.due.own_amounts.Goals.{In-loop-k, else-owner-k, then-owner-k}
 use Rattle.transfer.proofs.due.own_amounts.Goals as goal
 
 pub loop-k-init : goal.loop-k-init
@@ -28,10 +28,11 @@ inside c =
     omega (arith, c.requires.1.inside c.loop-k.k c.loop-k-test.true, c.requires.0)
 
 -- what is left for the owner is not less than one more share
-room : (c : Then-owner-k) →
+room : (c : In-loop-k) →
     let a = c.args in
-    get_or a.shares c.loop-k.k 0 ≤ get_or c.loop-k.own (get_or a.helpands c.loop-k.k 0) 0
-room c =
+    get_or a.helpands c.loop-k.k 0 ≢ c.loop-k.k
+    → get_or a.shares c.loop-k.k 0 ≤ get_or c.loop-k.own (get_or a.helpands c.loop-k.k 0) 0
+room c other =
     let a = c.args in
     let g = at a.helpands c.loop-k.k in
     let p = c.requires in
@@ -39,7 +40,7 @@ room c =
       arith,
       c.loop-k.invariant.2 g,
       p.1.enough g (p.1.inside c.loop-k.k c.loop-k-test.true),
-      helpers_up (at a.helpands) (at a.shares) c.loop-k.k g a.nodes refl c.if-owner-k.true c.loop-k-test.true,
+      helpers_up (at a.helpands) (at a.shares) c.loop-k.k g a.nodes refl other c.loop-k-test.true,
     )
 
 pub loop-k-preserved : goal.loop-k-preserved
@@ -51,20 +52,20 @@ loop-k-preserved c =
     let own = c.loop-k.own in
     let test = c.loop-k-test.true in
     elim c.if-owner-k.branch [
-      | then-owner-k w ↦ let then : Then-owner-k = record { before = c.before; if1 = w.if-owner-k } in
-    let long : h k < length own = omega (arith, inside (goal.at.loop-k-preserved c).In-loop-k, c.loop-k.invariant.1) in
-    rw w.1 (
-      omega (arith, test),
-      simp length-set c.loop-k.invariant.1,
-      λ n. off h share k own (h k) refl w.if-owner-k.true long (room then) n
-          ∙ c.loop-k.invariant.2 n,
-    )
-      | else-owner-k w ↦ rw w.1 (
-      omega (arith, test),
-      c.loop-k.invariant.1,
-      λ n. ap (λ (x : ℕ). at own n + x) (helpers_root h share k w.if-owner-k.false n)
-          ∙ c.loop-k.invariant.2 n,
-    )
+      | then-owner-k w ↦
+          let long : h k < length own = omega (arith, inside (goal.at.loop-k-preserved c).In-loop-k, c.loop-k.invariant.1) in
+          rw w.own-is (
+            omega (arith, test),
+            simp length-set c.loop-k.invariant.1,
+            λ n. off h share k own (h k) refl w.if-owner-k.true long (room (goal.at.loop-k-preserved c).In-loop-k w.if-owner-k.true) n
+                ∙ c.loop-k.invariant.2 n,
+          )
+      | else-owner-k w ↦ rw w.own-is (
+        omega (arith, test),
+        c.loop-k.invariant.1,
+        λ n. ap (λ (x : ℕ). at own n + x) (helpers_root h share k w.if-owner-k.false n)
+            ∙ c.loop-k.invariant.2 n,
+      )
     ]
 
 pub returns : goal.returns
@@ -88,7 +89,7 @@ pub bounds-own-owner : goal.bounds-own-owner
 bounds-own-owner c = inside (goal.at.bounds-own-owner c).In-loop-k
 
 pub overflow_sub-own : goal.overflow_sub-own
-overflow_sub-own c = room (goal.at.overflow_sub-own c).Then-owner-k
+overflow_sub-own c = room (goal.at.overflow_sub-own c).In-loop-k c.if-owner-k.true
 
 pub offset_bounds-own-owner-then-owner-k : goal.offset_bounds-own-owner-then-owner-k
 offset_bounds-own-owner-then-owner-k c = omega (arith, inside (goal.at.offset_bounds-own-owner-then-owner-k c).In-loop-k)

@@ -1,18 +1,10 @@
 -- `transfer::due::own_amounts` meets its contract: after k turns, what is left for each owner and the shares of its first helpers are
 -- its total. Assumes nothing.
-use borrow.Author.Rules.{rules}
-use mathlib.Core.Path.{◌≡◌, refl, ap, ◌∙◌}
-use mathlib.Core.Logic.{⊎_elim}
-use Prim.Native.Nat.{ℕ, ◌+◌, ◌-◌, ◌≤◌, ◌<◌}
-use native.Mathlib.Omega.{arith}
-use lib.ListN.{length, get_or, length-set}
+use mathlib.Core.Path.{◌≡◌}
+use Prim.Native.Nat.{ℕ, ◌+◌, ◌-◌, ◌≤◌}
+use lib.ListN.{length}
 use Rattle.arrays.specs.Arrays.{at}
-use Rattle.fold.specs.Sum.{only}
-use Rattle.fold.proofs.Sums.{sum-none}
-use Rattle.tree.specs.Family.{helps, over_helpers}
-use Rattle.tree.specs.Division.{own_of}
-use Rattle.transfer.proofs.Dues.{helpers_root, helpers_up, off}
-use Rattle.arrays.proofs.Tabulate.{tabulate-is}
+use Rattle.tree.specs.Family.{over_helpers}
 use Rattle.transfer.proofs.due.own_amounts.Given as goal
 
 abbrev pub invariant-loop-k : goal.invariant-loop-k

@@ -1,4 +1,3 @@
-use borrow.Author.Rules.{rules}
 use mathlib.Core.Path.{◌≡◌, ap, ◌∙◌}
 use mathlib.Core.List.{List}
 use Prim.Native.Nat.{ℕ, ◌+◌, ◌-◌, ◌*◌, ◌≤◌, ◌<◌}
@@ -10,7 +9,7 @@ use Rattle.sheet.specs.Table.{held}
 use Rattle.tree.specs.Division.{own_of}
 use Rattle.transfer.specs.Due.{due_with, due_of}
 use Rattle.transfer.specs.Matching.{moves_between, subdomain_moves}
-use Rattle.transfer.proofs.Subdomains.{moves-eq, few-all, WrittenBelow, written_none, routes_long, counts_long, written_more, written_all, all-routes-eq, all-counts-eq}
+use Rattle.transfer.proofs.Subdomains.{moves-eq, few-all, written_none, routes_long, counts_long, written_more, written_all, all-routes-eq, all-counts-eq}
 use Rattle.arrays.proofs.Tabulate.{tabulate-at, tabulate-behind}
 use Rattle.sheet.specs.Totals.{total_of}
 use Rattle.transfer.proofs.matching.all_moves.Goals.{After-loop-n}
@@ -45,8 +44,6 @@ loop-n-preserved c =
     let a = c.args in
     let d = dues a.helpands a.shares c.own_amounts-own.result in
     let r = c.put_subdomain-e in
-    let behind = r.new.1.1 in
-    let arrays = behind.1.1 in
     let holding : ℕ → ℕ = λ k. held a.table.now k l.n in
     let moves = moves_between a.nodes (at c.holdings-holding.result) (at c.due_amounts-due.result) in
     let same : moves ≡ subdomain_moves a.nodes a.table.now d l.n =
@@ -55,13 +52,12 @@ loop-n-preserved c =
     (λ k b. ap (λ (xs : List ℕ). at xs k) c.due_amounts-due.ensures ∙ tabulate-at a.nodes (d l.n) k b) in (
       omega (arith, c.loop-n-test.true),
       written_more a.nodes a.table.now d a.routes.now a.counts.now l.n l.routes l.counts l.e l.invariant.1 moves
-          arrays.0 arrays.1.0 r.result same r.ensures.0 r.ensures.1.0 r.ensures.1.1,
+          r.new.routes r.new.counts r.result same r.ensures.entries r.ensures.routes r.ensures.counts,
     )
 
 pub returns : goal.returns
 returns c =
-    let whole =
-        let l = c.loop-n in
+    let l = c.loop-n in
     let a = c.args in
     let own = c.own_amounts-own in
     let h = at a.helpands in
@@ -72,10 +68,10 @@ returns c =
     λ n b. ap (λ (x : ℕ). due_with h share x n)
     (ap (λ (xs : List ℕ). at xs n) own.ensures ∙ tabulate-at a.nodes (own_of a.nodes h (at a.totals) share) n b) in
     let e : l.n ≡ a.nodes = omega arith in
+    let all-done =
+    written_all a.nodes a.table.now d a.routes.now a.counts.now l.routes l.counts l.e (rw e at l.invariant.1) c.requires.3 c.requires.4 in
     rw (← all-routes-eq a.nodes a.table.now d d' same, ← all-counts-eq a.nodes a.table.now d d' same)
-    (written_all a.nodes a.table.now d a.routes.now a.counts.now l.routes l.counts l.e (rw e at l.invariant.1)
-    c.requires.3 c.requires.4) in
-    record { entries = whole.0; routes = whole.1; counts = whole.2 }
+    (record { entries = all-done.0; routes = all-done.1.0; counts = all-done.1.1 })
 
 -- the totals end where the nodes do
 pub own_amounts-own-requires : goal.own_amounts-own-requires

@@ -1,11 +1,6 @@
-use borrow.Author.Rules.{rules}
 use mathlib.Core.Path.{◌≡◌, refl, sym}
-use mathlib.Core.List.{List}
-use Prim.Native.Nat.{ℕ, ◌-◌, ◌≤◌}
 use native.Mathlib.Omega.{arith}
-use lib.ListN.{length, length-set}
-use Rattle.sheet.specs.Table.{held}
-use Rattle.arrays.specs.Arrays.{tabulate}
+use lib.ListN.{length-set}
 use Rattle.arrays.proofs.Tabulate.{tabulate-none, tabulate-next}
 use Rattle.transfer.proofs.matching.holdings.Invariants.{holds}
 use Rattle.transfer.proofs.matching.holdings.Goals as goal

@@ -1,13 +1,10 @@
 -- `transfer::matching::holdings` meets its contract: after k turns the array holds what the first k nodes hold. Assumes nothing.
-use borrow.Author.Rules.{rules}
-use mathlib.Core.Path.{◌≡◌, refl, sym}
+use mathlib.Core.Path.{◌≡◌}
 use mathlib.Core.List.{List}
 use Prim.Native.Nat.{ℕ, ◌-◌, ◌≤◌}
-use native.Mathlib.Omega.{arith}
-use lib.ListN.{length, length-set}
+use lib.ListN.{length}
 use Rattle.sheet.specs.Table.{held}
 use Rattle.arrays.specs.Arrays.{tabulate}
-use Rattle.arrays.proofs.Tabulate.{tabulate-none, tabulate-next}
 use Rattle.transfer.proofs.matching.holdings.Given as goal
 
 -- what node k holds of subdomain n

@@ -1,9 +1,5 @@
-use borrow.Author.Rules.{rules}
 use mathlib.Core.Path.{sym, ◌∙◌}
-use mathlib.Core.List.{List}
-use Prim.Native.Nat.{ℕ, ◌-◌}
-use Rattle.arrays.specs.Arrays.{at}
-use Rattle.transfer.proofs.Next.{Passing, passing_none, passing_more, found, found_none}
+use Rattle.transfer.proofs.Next.{passing_none, passing_more, found, found_none}
 use Rattle.transfer.proofs.matching.next_above.Invariants.{above}
 use Rattle.transfer.proofs.matching.next_above.Goals as goal
 

@@ -1,11 +1,9 @@
 -- `transfer::matching::next_above` meets its contract: at the loop's head no node from k on was passed whose amount is above its bound.
 -- Assumes nothing.
-use borrow.Author.Rules.{rules}
-use mathlib.Core.Path.{sym, ◌∙◌}
 use mathlib.Core.List.{List}
 use Prim.Native.Nat.{ℕ, ◌-◌}
 use Rattle.arrays.specs.Arrays.{at}
-use Rattle.transfer.proofs.Next.{Passing, passing_none, passing_more, found, found_none}
+use Rattle.transfer.proofs.Next.{Passing}
 use Rattle.transfer.proofs.matching.next_above.Given as goal
 
 -- by how much the amount of node j is above its bound

@@ -1,5 +1,4 @@
 -- `transfer::matching::put_move` meets its contract: a count of 0 has no move, and any other has one. Assumes nothing.
-use borrow.Author.Rules.{rules}
 use mathlib.Core.Path.{◌≡◌, refl, ap}
 use mathlib.Core.Logic.{◌≢◌}
 use Prim.Native.Nat.{ℕ, ◌<◌}
@@ -25,17 +24,13 @@ room c =
 
 pub returns : goal.returns
 returns c =
-    let whole =
-        let a = c.args in
+    let a = c.args in
     rw (ne_eqb a.count 0 c.if-count-eq0.false)
-    (refl, (ap (λ (v : ℕ). set a.routes.now a.e v) c.route.ensures, refl)) in
-    record { entries = whole.0; routes = whole.1; counts = whole.2 }
+    (record { entries = refl; routes = ap (λ (v : ℕ). set a.routes.now a.e v) c.route.ensures; counts = refl })
 
 pub returns-then-count-eq0 : goal.returns-then-count-eq0
 returns-then-count-eq0 c =
-    let whole =
-        rw (eq-eqb c.args.count 0 c.if-count-eq0.true) (omega arith, (refl, refl)) in
-    record { entries = whole.0; routes = whole.1; counts = whole.2 }
+    rw (eq-eqb c.args.count 0 c.if-count-eq0.true) (record { entries = omega arith; routes = refl; counts = refl })
 
 pub bounds-routes-e : goal.bounds-routes-e
 bounds-routes-e c = omega (arith, room (goal.at.bounds-routes-e c).Else-count-eq0)

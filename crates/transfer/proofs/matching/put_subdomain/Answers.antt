@@ -1,15 +1,13 @@
-use borrow.Author.Rules.{rules}
 use mathlib.Core.Path.{◌≡◌}
 use mathlib.Core.Logic.{inl, inr}
 use mathlib.Core.List.{List}
-use Prim.Native.Nat.{ℕ, ◌+◌, ◌-◌, ◌*◌, ◌≤◌, ◌<◌}
+use Prim.Native.Nat.{ℕ, ◌+◌, ◌-◌, ◌≤◌, ◌<◌}
 use native.Mathlib.Omega.{arith}
-use borrow.Author.Tests.{ltb-true, ltb-false}
 use lib.ListN.{length}
 use Rattle.arrays.specs.Arrays.{at}
-use Rattle.transfer.specs.Matching.{Move, surplus_of, shortage_of, move_of, moves_between}
+use Rattle.transfer.specs.Matching.{Move, move_of}
 use Rattle.transfer.specs.Inner.{NextFrom}
-use Rattle.transfer.proofs.Entries.{Pending, begin, finish, room, sender-next, receiver-next}
+use Rattle.transfer.proofs.Entries.{begin, finish, room, sender-next, receiver-next}
 use Rattle.transfer.proofs.Next.{next-eq}
 use Rattle.transfer.proofs.Matched.{moves-few}
 use Rattle.transfer.proofs.matching.put_subdomain.Goals.{After-min-count}
@@ -43,10 +41,10 @@ sender-lt : (c : After-min-count) → c.loop-s.s.node < c.args.nodes
 sender-lt c = c.loop-s-test.true
 
 receiver-lt : (c : After-min-count) → c.loop-s.r.node < c.args.nodes
-receiver-lt c = ltb-true c.loop-s.r.node c.args.nodes c.if-r-nodes.true
+receiver-lt c = c.if-r-nodes.true
 
 has_room : (c : After-min-count) → let k = c.loop-s.entries + length (move_of c.loop-s.s.node c.loop-s.r.node c.min-count.result) in
-    (k ≤ length c.loop-s.routes-1) × (k ≤ length c.loop-s.counts-1)
+    (k ≤ length c.loop-s.routes) × (k ≤ length c.loop-s.counts)
 has_room c =
     let l = c.loop-s in
     let a = c.args in
@@ -90,8 +88,8 @@ loop-s-preserved-then-s-r c =
     sender-next a.nodes (surplus (goal.at.loop-s-preserved-then-s-r c).After-min-count) (shortage (goal.at.loop-s-preserved-then-s-r c).After-min-count) a.n a.routes.now a.counts.now a.e (all (goal.at.loop-s-preserved-then-s-r c).After-min-count) l.routes l.counts
     l.entries l.s.node l.s.count l.r.node l.r.count
     l.invariant (sender-lt (goal.at.loop-s-preserved-then-s-r c).After-min-count) (receiver-lt (goal.at.loop-s-preserved-then-s-r c).After-min-count) c.min-count.result c.min-count.ensures
-    c.put_move-entries.last.0 c.put_move-entries.last.1.0 c.put_move-entries.result c.put_move-entries.ensures.entries c.put_move-entries.ensures.routes.0
-    c.put_move-entries.ensures.routes.1
+    c.put_move-entries.new.routes c.put_move-entries.new.counts c.put_move-entries.result c.put_move-entries.ensures.entries c.put_move-entries.ensures.routes
+    c.put_move-entries.ensures.counts
     c.if-s-r.true c.next_above-s-then-s-r.result.node c.next_above-s-then-s-r.result.count
     (sender a.holding.now a.due.now c.next_above-s-then-s-r.ensures)
 
@@ -102,27 +100,27 @@ loop-s-preserved c =
     receiver-next a.nodes (surplus (goal.at.loop-s-preserved c).After-min-count) (shortage (goal.at.loop-s-preserved c).After-min-count) a.n a.routes.now a.counts.now a.e (all (goal.at.loop-s-preserved c).After-min-count) l.routes l.counts
     l.entries l.s.node l.s.count l.r.node l.r.count
     l.invariant (sender-lt (goal.at.loop-s-preserved c).After-min-count) (receiver-lt (goal.at.loop-s-preserved c).After-min-count) c.min-count.result c.min-count.ensures
-    c.put_move-entries.last.0 c.put_move-entries.last.1.0 c.put_move-entries.result c.put_move-entries.ensures.entries c.put_move-entries.ensures.routes.0
-    c.put_move-entries.ensures.routes.1
+    c.put_move-entries.new.routes c.put_move-entries.new.counts c.put_move-entries.result c.put_move-entries.ensures.entries c.put_move-entries.ensures.routes
+    c.put_move-entries.ensures.counts
     c.if-s-r.false c.next_above-r-else-s-r.result.node c.next_above-r-else-s-r.result.count
     (receiver a.holding.now a.due.now c.next_above-r-else-s-r.ensures)
 
 pub returns-else-r-nodes : goal.returns-else-r-nodes
 returns-else-r-nodes c =
-    let whole =
-        let a = c.args in
+    let a = c.args in
+    let all-done =
     finish a.nodes (above a.holding.now a.due.now) (lacks a.holding.now a.due.now) a.n a.routes.now
     a.counts.now a.e (whole a.nodes a.holding.now a.due.now)
-    c.loop-s.routes-1 c.loop-s.counts-1 c.loop-s.entries c.loop-s.s.node c.loop-s.s.count c.loop-s.r.node c.loop-s.r.count
-    c.loop-s.invariant (inr (ltb-false c.loop-s.r.node a.nodes c.if-r-nodes.false)) in
-    record { entries = whole.0; routes = whole.1; counts = whole.2 }
+    c.loop-s.routes c.loop-s.counts c.loop-s.entries c.loop-s.s.node c.loop-s.s.count c.loop-s.r.node c.loop-s.r.count
+    c.loop-s.invariant (inr c.if-r-nodes.false) in
+    record { entries = all-done.0; routes = all-done.1.0; counts = all-done.1.1 }
 
 pub returns-after-loop-s : goal.returns-after-loop-s
 returns-after-loop-s c =
-    let whole =
-        let a = c.args in
+    let a = c.args in
+    let all-done =
     finish a.nodes (above a.holding.now a.due.now) (lacks a.holding.now a.due.now) a.n a.routes.now
     a.counts.now a.e (whole a.nodes a.holding.now a.due.now)
-    c.loop-s.routes-1 c.loop-s.counts-1 c.loop-s.entries c.loop-s.s.node c.loop-s.s.count c.loop-s.r.node c.loop-s.r.count
+    c.loop-s.routes c.loop-s.counts c.loop-s.entries c.loop-s.s.node c.loop-s.s.count c.loop-s.r.node c.loop-s.r.count
     c.loop-s.invariant (inl c.loop-s-test.false) in
-    record { entries = whole.0; routes = whole.1; counts = whole.2 }
+    record { entries = all-done.0; routes = all-done.1.0; counts = all-done.1.1 }

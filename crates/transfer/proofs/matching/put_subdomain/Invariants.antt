@@ -1,19 +1,10 @@
 -- `transfer::matching::put_subdomain` meets its contract: at the loop's head the moves of the remaining turns are what is left to
 -- write. Assumes nothing.
-use borrow.Author.Rules.{rules}
-use mathlib.Core.Path.{◌≡◌}
-use mathlib.Core.Logic.{inl, inr}
 use mathlib.Core.List.{List}
-use Prim.Native.Nat.{ℕ, ◌+◌, ◌-◌, ◌*◌, ◌≤◌, ◌<◌}
-use native.Mathlib.Omega.{arith}
-use borrow.Author.Tests.{ltb-true, ltb-false}
-use lib.ListN.{length}
+use Prim.Native.Nat.{ℕ, ◌+◌, ◌-◌, ◌*◌}
 use Rattle.arrays.specs.Arrays.{at}
-use Rattle.transfer.specs.Matching.{Move, surplus_of, shortage_of, move_of, moves_between}
-use Rattle.transfer.specs.Inner.{NextFrom}
-use Rattle.transfer.proofs.Entries.{Pending, begin, finish, room, sender-next, receiver-next}
-use Rattle.transfer.proofs.Next.{next-eq}
-use Rattle.transfer.proofs.Matched.{moves-few}
+use Rattle.transfer.specs.Matching.{Move, surplus_of, shortage_of, moves_between}
+use Rattle.transfer.proofs.Entries.{Pending}
 use Rattle.transfer.proofs.matching.put_subdomain.Given as goal
 
 -- what node k holds above its due amount, and what it lacks of it
