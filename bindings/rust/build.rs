@@ -1,5 +1,5 @@
 //! Says where the library lies: in FIRROZKA_LIB_DIR if that is set (seen from
-//! this crate's folder), else where `rt staticlib firrozka` puts it.
+//! this crate's folder), else where `bash tools/build library` puts it.
 
 use std::env;
 use std::path::{Path, PathBuf};
@@ -25,7 +25,7 @@ fn main() {
 fn missing(library: &Path) -> ! {
     eprintln!("firrozka: there is no {}.", library.display());
     eprintln!(
-        "Run `rt staticlib firrozka` at the repository's root, or set FIRROZKA_LIB_DIR \
+        "Run `bash tools/build library` at the repository's root, or set FIRROZKA_LIB_DIR \
          to the folder that has libfirrozka.a."
     );
     process::exit(1)

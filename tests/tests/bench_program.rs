@@ -29,7 +29,7 @@ fn program() -> PathBuf {
     let path = Path::new(env!("CARGO_MANIFEST_DIR")).join(name);
     assert!(
         path.is_file(),
-        "{} is missing: run `rt check bench` at the repository root first",
+        "{} is missing: run `bash tools/build bench` at the repository root first",
         path.display()
     );
     path

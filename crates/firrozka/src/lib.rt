@@ -1,5 +1,5 @@
-// The C boundary: the library libfirrozka.a, whose functions include/firrozka.h declares. Nothing checks what a foreign caller passes,
-// so no function here requires anything. A slice crosses as a pointer and a length.
+// The functions of the C boundary, one for each operation, as the crates above call them. `firrozka_c` hands each to C under the same name
+// and with the same clauses. Nothing checks what a foreign caller passes, so no function here requires anything.
 #![tactic(auto)]
 
 ghost use Rattle.std.specs.Prelude.{◌≡◌, true, false, length};
@@ -28,40 +28,35 @@ use weigh::WeighAnswer;
 use words::WrittenAnswer;
 
 // The version, so that a caller can hold the header that it was compiled with to the library that it was linked with.
-#[unsafe(no_mangle)]
-pub extern "C" fn firrozka_version() -> u32
+pub fn firrozka_version() -> u32
     ensures { result ≡ version }
 {
     109
 }
 
 // *Read sheet*.
-#[unsafe(no_mangle)]
-pub extern "C" fn firrozka_read_sheet(sheet: &[u8]) -> SheetAnswer
+pub fn firrozka_read_sheet(sheet: &[u8]) -> SheetAnswer
     ensures { result ≡ read_sheet sheet.now }
 {
     sheet::answer(sheet::read_sheet(sheet))
 }
 
 // *Read plan*.
-#[unsafe(no_mangle)]
-pub extern "C" fn firrozka_read_plan(plan: &[u8]) -> PlanAnswer
+pub fn firrozka_read_plan(plan: &[u8]) -> PlanAnswer
     ensures { result ≡ read_plan plan.now }
 {
     plan::answer(plan::read_plan(plan))
 }
 
 // *Read moves*.
-#[unsafe(no_mangle)]
-pub extern "C" fn firrozka_read_moves(moves: &[u8]) -> MovesAnswer
+pub fn firrozka_read_moves(moves: &[u8]) -> MovesAnswer
     ensures { result ≡ read_moves moves.now }
 {
     moves::answer(moves::read_moves(moves))
 }
 
 // *Weigh*.
-#[unsafe(no_mangle)]
-pub extern "C" fn firrozka_weigh(sheet: &[u8], plan: &[u8], least: &mut [u8]) -> WeighAnswer
+pub fn firrozka_weigh(sheet: &[u8], plan: &[u8], least: &mut [u8]) -> WeighAnswer
     ensures answer { result ≡ weigh_answer sheet.now plan.now (length least.old) }
     ensures bytes { least.new ≡ weigh_bytes sheet.now plan.now least.old }
 {
@@ -69,13 +64,7 @@ pub extern "C" fn firrozka_weigh(sheet: &[u8], plan: &[u8], least: &mut [u8]) ->
 }
 
 // *Plan a step*.
-#[unsafe(no_mangle)]
-pub extern "C" fn firrozka_plan_step(
-    sheet: &[u8],
-    old: &[u8],
-    plan: &mut [u8],
-    moves: &mut [u8],
-) -> StepAnswer
+pub fn firrozka_plan_step(sheet: &[u8], old: &[u8], plan: &mut [u8], moves: &mut [u8]) -> StepAnswer
     ensures answer { result ≡ step_answer sheet.now old.now (length plan.old) (length moves.old) }
     ensures plan { plan.new ≡ plan_after sheet.now old.now plan.old (length moves.old) }
     ensures moves { moves.new ≡ moves_after sheet.now old.now moves.old (length plan.old) }
@@ -84,8 +73,7 @@ pub extern "C" fn firrozka_plan_step(
 }
 
 // *Carry out*.
-#[unsafe(no_mangle)]
-pub extern "C" fn firrozka_carry_out(sheet: &[u8], moves: &[u8], next: &mut [u8]) -> WrittenAnswer
+pub fn firrozka_carry_out(sheet: &[u8], moves: &[u8], next: &mut [u8]) -> WrittenAnswer
     ensures answer { result ≡ carry_answer sheet.now moves.now (length next.old) }
     ensures bytes { next.new ≡ next_after sheet.now moves.now next.old }
 {
@@ -93,8 +81,7 @@ pub extern "C" fn firrozka_carry_out(sheet: &[u8], moves: &[u8], next: &mut [u8]
 }
 
 // *Join sheets*.
-#[unsafe(no_mangle)]
-pub extern "C" fn firrozka_join_sheets(first: &[u8], second: &[u8], out: &mut [u8]) -> WrittenAnswer
+pub fn firrozka_join_sheets(first: &[u8], second: &[u8], out: &mut [u8]) -> WrittenAnswer
     ensures answer { result ≡ join_answer first.now second.now (length out.old) }
     ensures bytes { out.new ≡ joined_after first.now second.now out.old }
 {
@@ -102,12 +89,7 @@ pub extern "C" fn firrozka_join_sheets(first: &[u8], second: &[u8], out: &mut [u
 }
 
 // *Traffic page*.
-#[unsafe(no_mangle)]
-pub extern "C" fn firrozka_traffic_page(
-    sheet: &[u8],
-    moves: &[u8],
-    page: &mut [u8],
-) -> WrittenAnswer
+pub fn firrozka_traffic_page(sheet: &[u8], moves: &[u8], page: &mut [u8]) -> WrittenAnswer
     ensures answer { result ≡ page_answer sheet.now moves.now (length page.old) }
     ensures bytes { page.new ≡ page_after sheet.now moves.now page.old }
 {
@@ -115,8 +97,7 @@ pub extern "C" fn firrozka_traffic_page(
 }
 
 // *Write archive*.
-#[unsafe(no_mangle)]
-pub extern "C" fn firrozka_write_archive(sheet: &[u8], archive: &mut [u8]) -> WrittenAnswer
+pub fn firrozka_write_archive(sheet: &[u8], archive: &mut [u8]) -> WrittenAnswer
     ensures answer { result ≡ write_answer sheet.now (length archive.old) }
     ensures bytes { archive.new ≡ archive_after sheet.now archive.old }
 {
@@ -124,8 +105,7 @@ pub extern "C" fn firrozka_write_archive(sheet: &[u8], archive: &mut [u8]) -> Wr
 }
 
 // *Read archive*.
-#[unsafe(no_mangle)]
-pub extern "C" fn firrozka_read_archive(archive: &[u8], sheet: &mut [u8]) -> WrittenAnswer
+pub fn firrozka_read_archive(archive: &[u8], sheet: &mut [u8]) -> WrittenAnswer
     ensures answer { result ≡ read_answer archive.now (length sheet.old) }
     ensures bytes { sheet.new ≡ sheet_after archive.now sheet.old }
 {
@@ -133,8 +113,7 @@ pub extern "C" fn firrozka_read_archive(archive: &[u8], sheet: &mut [u8]) -> Wri
 }
 
 // *Groups*.
-#[unsafe(no_mangle)]
-pub extern "C" fn firrozka_groups(plan: &[u8], groups: &mut [u8]) -> WrittenAnswer
+pub fn firrozka_groups(plan: &[u8], groups: &mut [u8]) -> WrittenAnswer
     ensures answer { result ≡ groups_answer plan.now (length groups.old) }
     ensures bytes { groups.new ≡ groups_after plan.now groups.old }
 {
@@ -142,8 +121,7 @@ pub extern "C" fn firrozka_groups(plan: &[u8], groups: &mut [u8]) -> WrittenAnsw
 }
 
 // Opens a tally: the whole of it is written, also where opening is refused.
-#[unsafe(no_mangle)]
-pub extern "C" fn firrozka_open_tally(sheet: &[u8], plan: &[u8], t: &mut Tally) -> WeighAnswer
+pub fn firrozka_open_tally(sheet: &[u8], plan: &[u8], t: &mut Tally) -> WeighAnswer
     ensures { (result ≡ open_answer sheet.now plan.now)
         × (t.new ≡ opened sheet.now plan.now) }
 {
@@ -153,13 +131,7 @@ pub extern "C" fn firrozka_open_tally(sheet: &[u8], plan: &[u8], t: &mut Tally) 
 }
 
 // Adds particles in a cell of a tally.
-#[unsafe(no_mangle)]
-pub extern "C" fn firrozka_tally_add(
-    t: &mut Tally,
-    holder: u32,
-    subdomain: u32,
-    count: u32,
-) -> WeighAnswer
+pub fn firrozka_tally_add(t: &mut Tally, holder: u32, subdomain: u32, count: u32) -> WeighAnswer
     ensures { (result ≡ call_answer t.old (call_of true holder subdomain count))
         × (t.new ≡ tally_after t.old (call_of true holder subdomain count)) }
 {
@@ -169,13 +141,7 @@ pub extern "C" fn firrozka_tally_add(
 }
 
 // Removes particles from a cell of a tally.
-#[unsafe(no_mangle)]
-pub extern "C" fn firrozka_tally_remove(
-    t: &mut Tally,
-    holder: u32,
-    subdomain: u32,
-    count: u32,
-) -> WeighAnswer
+pub fn firrozka_tally_remove(t: &mut Tally, holder: u32, subdomain: u32, count: u32) -> WeighAnswer
     ensures { (result ≡ call_answer t.old (call_of false holder subdomain count))
         × (t.new ≡ tally_after t.old (call_of false holder subdomain count)) }
 {
@@ -185,8 +151,7 @@ pub extern "C" fn firrozka_tally_remove(
 }
 
 // *Tree in force*: the stretch by its place, since no reference can be handed back over the boundary.
-#[unsafe(no_mangle)]
-pub extern "C" fn firrozka_tree_in_force(old: &[u8], new: &[u8]) -> PartAnswer
+pub fn firrozka_tree_in_force(old: &[u8], new: &[u8]) -> PartAnswer
     ensures { result ≡ part_of (in_force old.now new.now) }
 {
     in_force::part_in_force(old, new)
