@@ -31,7 +31,7 @@ size-inside c =
 pub returns : goal.returns
 returns c =
     let whole =
-        let e = c.firrozka_plan_step-step.ensures in
+    let e = c.firrozka_plan_step-step.ensures in
     let f = c.firrozka_carry_out-carry.ensures in
     (e.0, (e.1.0, (e.1.1, (f.0, (f.1, handed-on _ _ _ _ _ _ _ _ _ _ e.0 e.1.0 e.1.1 f.0 f.1))))) in
     record { step = whole.0; plan = whole.1; moves = whole.2; carry = whole.3; next = whole.4; demand = whole.5 }

@@ -34,7 +34,7 @@ table_is c =
 totals_is : (c : After-totals-totals) → c.totals-totals.result ≡ totals_in (sheet c.before)
 totals_is c =
     let table_is' : c.unpack-table.result ≡ table_in (sheet c.before) =
-        let b = c.before in
+    let b = c.before in
     c.unpack-table.ensures ∙ ap (table_of (sheet b)) (c.word_number-e.ensures ∙ sym (facts b).e_is) in
     let b = c.before in
     c.totals-totals.ensures ∙ ap (totals_of b.args.nodes) table_is' ∙ ap (λ (n : ℕ). totals_of n (table_in (sheet b))) b.requires.1

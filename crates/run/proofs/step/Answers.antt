@@ -40,7 +40,7 @@ plan-within : (c : Else-answer-ne0) → c.answer-answer.result.plan-1 ≤ length
 plan-within c =
     let answered' : Answered c.args.sheet.now c.args.old.now c.answer-answer.result (replicate plan_size 0) (replicate moves_size 0)
     (plan c) (moves c) =
-        let e = c.plan_step.ensures in
+    let e = c.plan_step.ensures in
     record {
       plan_long = length-replicate {A = ℕ} plan_size 0;
       moves_long = length-replicate {A = ℕ} moves_size 0;
@@ -54,7 +54,7 @@ moves-within : (c : Else-answer-ne0) → c.answer-answer.result.moves-1 ≤ leng
 moves-within c =
     let answered' : Answered c.args.sheet.now c.args.old.now c.answer-answer.result (replicate plan_size 0) (replicate moves_size 0)
     (plan c) (moves c) =
-        let e = c.plan_step.ensures in
+    let e = c.plan_step.ensures in
     record {
       plan_long = length-replicate {A = ℕ} plan_size 0;
       moves_long = length-replicate {A = ℕ} moves_size 0;
