@@ -1,5 +1,4 @@
 -- `decide::decide` meets its contract: each way out has its plan. Assumes nothing.
-use borrow.Author.Rules.{rules}
 use Rattle.decide.proofs.Ways.{way_primary, way_weighed, way_none}
 use Rattle.decide.proofs.decide.Goals as goal
 

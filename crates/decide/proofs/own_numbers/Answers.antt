@@ -1,8 +1,6 @@
 use borrow.Author.Rules.{rules}
 use mathlib.Core.Path.{◌≡◌, sym}
-use Prim.Native.Nat.{◌-◌, ◌≤◌}
 use native.Mathlib.Omega.{arith}
-use Rattle.arrays.specs.Arrays.{tabulate}
 use Rattle.arrays.proofs.Tabulate.{tabulate-none, tabulate_more}
 use Rattle.decide.proofs.own_numbers.Goals as goal
 

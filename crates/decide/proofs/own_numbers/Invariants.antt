@@ -1,10 +1,7 @@
 -- `decide::own_numbers` meets its contract: at the loop's head the array holds the numbers of the nodes passed. Assumes nothing.
-use borrow.Author.Rules.{rules}
-use mathlib.Core.Path.{◌≡◌, sym}
+use mathlib.Core.Path.{◌≡◌}
 use Prim.Native.Nat.{◌-◌, ◌≤◌}
-use native.Mathlib.Omega.{arith}
 use Rattle.arrays.specs.Arrays.{tabulate}
-use Rattle.arrays.proofs.Tabulate.{tabulate-none, tabulate_more}
 use Rattle.decide.proofs.own_numbers.Given as goal
 
 abbrev pub invariant-loop-k : goal.invariant-loop-k

@@ -1,5 +1,4 @@
 -- `decide::primary_plan` meets its contract: its helpands are the nodes' own numbers. Assumes nothing.
-use borrow.Author.Rules.{rules}
 use mathlib.Core.Path.{ap}
 use mathlib.Core.List.{List}
 use Prim.Native.Nat.{ℕ}

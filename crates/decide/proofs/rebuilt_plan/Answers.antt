@@ -1,5 +1,4 @@
 -- `decide::rebuilt_plan` meets its contract: the two arrays are those of the rebuilding. Assumes nothing.
-use borrow.Author.Rules.{rules}
 use mathlib.Core.Path.{ap}
 use Rattle.rebuild.specs.declared.Rebuilt.{Rebuilt}
 use Rattle.decide.specs.declared.Decision.{Decision}

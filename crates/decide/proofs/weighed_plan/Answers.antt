@@ -1,6 +1,5 @@
 -- `decide::weighed_plan` meets its contract: the test of the array of leasts is the definition's, and each way out has its plan.
 -- Assumes nothing.
-use borrow.Author.Rules.{rules}
 use Rattle.plan.proofs.Trees.{tree-below}
 use Rattle.decide.proofs.Ways.{way_kept, way_broken}
 use Rattle.decide.proofs.weighed_plan.Goals as goal

@@ -1,11 +1,9 @@
-use borrow.Author.Rules.{rules}
-use Prim.Native.Nat.{ℕ, ◌+◌, ◌*◌, ◌-◌, ◌≤◌, ◌<◌}
+use Prim.Native.Nat.{◌+◌, ◌*◌, ◌≤◌, ◌<◌}
 use native.Mathlib.Omega.{arith}
 use lib.ListN.{length}
 use Rattle.limit.specs.Limit.{max_total, table_size}
 use Rattle.arrays.specs.Arrays.{at}
-use Rattle.inlet.specs.Inner.{Addable}
-use Rattle.inlet.proofs.Adding.{Adding, begin, end, index_below, fits, again}
+use Rattle.inlet.proofs.Adding.{begin, end, index_below, fits, again}
 use Rattle.inlet.proofs.add_counts.Goals.{After-word_number, At-loop-i}
 use Rattle.inlet.proofs.add_counts.Goals as goal
 

@@ -1,12 +1,7 @@
 -- `inlet::add_counts` meets its contract: at the loop's head each cell has, with the counts of the entries left, the sum. Assumes nothing.
-use borrow.Author.Rules.{rules}
-use Prim.Native.Nat.{ℕ, ◌+◌, ◌*◌, ◌-◌, ◌≤◌, ◌<◌}
-use native.Mathlib.Omega.{arith}
-use lib.ListN.{length}
-use Rattle.limit.specs.Limit.{max_total, table_size}
-use Rattle.arrays.specs.Arrays.{at}
+use Prim.Native.Nat.{ℕ, ◌-◌}
 use Rattle.inlet.specs.Inner.{Addable}
-use Rattle.inlet.proofs.Adding.{Adding, begin, end, index_below, fits, again}
+use Rattle.inlet.proofs.Adding.{Adding}
 use Rattle.inlet.proofs.add_counts.Given as goal
 
 abbrev pub invariant-loop-i : goal.invariant-loop-i

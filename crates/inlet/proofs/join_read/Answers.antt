@@ -1,12 +1,10 @@
 -- `inlet::join_read` meets its contract: each way out gives the answer of the first check that refuses, and the writer's own test is 52.
 -- Assumes nothing.
-use borrow.Author.Rules.{rules}
 use mathlib.Core.Path.{◌≡◌, sym, ◌∙◌}
 use mathlib.Core.List.{List}
 use Prim.Native.Nat.{ℕ}
 use native.Mathlib.Omega.{arith}
 use Rattle.words.proofs.Buffer.{writing-bytes}
-use Rattle.sheet.specs.declared.Sheet.{Sheet}
 use Rattle.sheet.specs.Sheet.{accepted}
 use Rattle.sheet.specs.Write.{sheet_bytes}
 use Rattle.sheet.proofs.Accepted.{Accepted, sheet_unpackable}

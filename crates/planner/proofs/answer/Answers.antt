@@ -1,5 +1,4 @@
 -- `planner::answer` meets its contract, case by case. Assumes nothing.
-use borrow.Author.Rules.{rules}
 use mathlib.Core.Path.{sym, ap, ◌∙◌}
 use Rattle.planner.specs.Step.{refused, answer_of}
 use Rattle.planner.proofs.answer.Goals as goal

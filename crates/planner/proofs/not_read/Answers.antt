@@ -1,5 +1,4 @@
 -- `planner::not_read` meets its contract: a refusal is passed on, and an accepted sheet has none. Assumes nothing.
-use borrow.Author.Rules.{rules}
 use mathlib.Core.Path.{sym, ap}
 use Rattle.sheet.specs.declared.SheetReading.{SheetReading}
 use Rattle.sheet.specs.Sheet.{answer_of as sheet_answer}

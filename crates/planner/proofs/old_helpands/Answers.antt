@@ -1,5 +1,4 @@
 -- `planner::old_helpands` meets its contract: the words of the old plan, or each node's own number. Assumes nothing.
-use borrow.Author.Rules.{rules}
 use mathlib.Core.Path.{◌≡◌}
 use mathlib.Core.Bool.{Bool, true, false}
 use mathlib.Core.List.{List}

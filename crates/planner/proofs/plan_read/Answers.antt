@@ -1,10 +1,6 @@
 -- `planner::plan_read` meets its contract: table, totals, old tree, decision and moves one after the other, and then both records.
 -- Assumes nothing.
-use borrow.Author.Rules.{rules}
-use mathlib.Core.List.{List}
-use Prim.Native.Nat.{ℕ}
 use native.Mathlib.Omega.{arith}
-use Rattle.sheet.specs.declared.Sheet.{Sheet}
 use Rattle.sheet.specs.Sheet.{accepted}
 use Rattle.sheet.proofs.Accepted.{Accepted, sheet_unpackable}
 use Rattle.planner.specs.Step.{answer_of}

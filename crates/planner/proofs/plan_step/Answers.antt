@@ -1,11 +1,7 @@
 -- `planner::plan_step` meets its contract: the sheet's refusal, then the old plan's, then what is planned. Assumes nothing.
-use borrow.Author.Rules.{rules}
 use mathlib.Core.Path.{◌≡◌, refl, sym, ap, ◌∙◌}
 use mathlib.Core.Logic.{◌≢◌}
 use mathlib.Core.Bool.{Bool, true, false}
-use mathlib.Core.List.{List}
-use Prim.Native.Nat.{ℕ}
-use Rattle.sheet.specs.declared.Sheet.{Sheet}
 use Rattle.sheet.specs.declared.SheetAnswer.{SheetAnswer}
 use Rattle.sheet.specs.declared.SheetReading.TheVariants.{Accepted}
 use Rattle.sheet.specs.Sheet.{read_sheet, answer_of as sheet_answer}

@@ -1,5 +1,4 @@
 -- `planner::read_old` meets its contract: each way out gives the answer of the first check that decides. Assumes nothing.
-use borrow.Author.Rules.{rules}
 use mathlib.Core.Path.{◌≡◌, sym, ap, ◌∙◌}
 use native.Mathlib.Omega.{arith}
 use Rattle.plan.specs.declared.PlanAnswer.{PlanAnswer}

@@ -8,7 +8,6 @@ use lib.ListN.{length}
 use Rattle.moves.specs.Write.{moves_bytes}
 use Rattle.moves.proofs.Laws.{length-moves}
 use Rattle.plan.proofs.Writing.{length-plan}
-use Rattle.decide.specs.declared.Decision.{Decision}
 use Rattle.planner.specs.Step.{plan_record}
 use Rattle.planner.proofs.Ways.{writes_plan_short, writes_moves_short, writes_both}
 use Rattle.planner.proofs.write_records.Goals.{After-shared_slice_known-2-1}

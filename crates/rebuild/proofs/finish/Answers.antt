@@ -1,12 +1,9 @@
 use borrow.Author.Rules.{rules}
 use mathlib.Core.Path.{◌≡◌, sym, ◌∙◌}
-use mathlib.Core.Logic.{⊎_elim}
-use Prim.Native.Nat.{◌-◌, ◌≤◌, ◌<◌}
+use Prim.Native.Nat.{◌<◌}
 use native.Mathlib.Omega.{arith}
-use Rattle.fold.specs.declared.Found.TheVariants.{At}
 use Rattle.fold.proofs.Scans.{best-found}
-use Rattle.arrays.specs.Arrays.{tabulate}
-use Rattle.rebuild.specs.Rebuild.{lowest_in_b, new_helpand, new_share}
+use Rattle.rebuild.specs.Rebuild.{new_helpand, new_share}
 use Rattle.rebuild.proofs.Choices.{finish-none, finish-at, helpand_in, helpand-out, share_in, share-out}
 use Rattle.arrays.proofs.Tabulate.{tabulate-none, tabulate-next}
 use Rattle.rebuild.proofs.finish.Goals.{else-in_b, then-in_b}

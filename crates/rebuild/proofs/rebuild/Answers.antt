@@ -1,7 +1,6 @@
 use borrow.Author.Rules.{rules}
 use borrow.Author.Tests.{ltb-true}
 use mathlib.Core.Path.{◌≡◌, sym, ap, ◌∙◌}
-use mathlib.Core.Logic.{⊎_elim}
 use mathlib.Core.List.{List}
 use mathlib.Core.Bool.{false}
 use Prim.Native.Nat.{ℕ, ◌-◌, ◌<◌}
@@ -13,8 +12,8 @@ use Rattle.fold.proofs.Tests.{all-at}
 use Rattle.arrays.specs.Arrays.{at}
 use Rattle.rebuild.specs.declared.Balance.{Balance}
 use Rattle.rebuild.specs.Target.{targets_of}
-use Rattle.rebuild.specs.Rebuild.{is, start_of, run_of, finish_of, rebuilt_of, next_l, next_g}
-use Rattle.rebuild.proofs.Loops.{Reached, Served, unfinished, next_l_lem, reached-end, reached-some, reached_served, reached-turn, reached-less, start-sound}
+use Rattle.rebuild.specs.Rebuild.{is, start_of, finish_of, rebuilt_of, next_l, next_g}
+use Rattle.rebuild.proofs.Loops.{Served, next_l_lem, reached-end, reached-some, reached_served, reached-turn, reached-less, start-sound}
 use Rattle.rebuild.proofs.rebuild.Goals.{In-At, In-At-choose, Start}
 use mathlib.Core.Bool.{true}
 use Rattle.fold.specs.All.{all}

@@ -1,13 +1,7 @@
 -- `rebuild::targets` meets its contract: at the loop's head the array holds the targets of the nodes passed. Assumes nothing.
-use borrow.Author.Rules.{rules}
-use mathlib.Core.Path.{◌≡◌, sym, ◌∙◌}
-use mathlib.Core.Logic.{⊎_elim}
+use mathlib.Core.Path.{◌≡◌}
 use Prim.Native.Nat.{◌-◌, ◌≤◌}
-use native.Mathlib.Nat.{div-le_self}
-use native.Mathlib.Omega.{arith}
 use Rattle.rebuild.specs.Target.{target_of}
-use Rattle.arrays.proofs.Tabulate.{tabulate-none, tabulate_more}
-use Rattle.rebuild.proofs.TargetSums.{target-low, target-high}
 use Rattle.arrays.specs.Arrays.{tabulate}
 use Rattle.rebuild.proofs.targets.Given as goal
 

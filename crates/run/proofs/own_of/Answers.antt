@@ -1,12 +1,11 @@
 -- `run::own_of` meets its contract: the sheet was accepted, so its table can be unpacked and no total wraps. Assumes nothing.
-use borrow.Author.Rules.{rules}
 use mathlib.Core.Path.{◌≡◌, sym, ap, ◌∙◌}
 use mathlib.Core.List.{List}
-use Prim.Native.Nat.{ℕ, ◌≤◌}
+use Prim.Native.Nat.{ℕ}
 use native.Mathlib.Omega.{arith}
 use Rattle.sheet.specs.Sheet.{read_sheet}
 use Rattle.sheet.specs.Table.{table_of, table_in}
-use Rattle.sheet.proofs.Accepted.{Accepted, sheet-accepted, sheet_unpackable}
+use Rattle.sheet.proofs.Accepted.{sheet-accepted, sheet_unpackable}
 use Rattle.sheet.proofs.Tables.{table-within}
 use Rattle.arrays.specs.Arrays.{at, tabulate}
 use Rattle.sheet.specs.Totals.{total_of, totals_of, totals_in}
@@ -26,7 +25,7 @@ totals_is : (c : After-totals-totals) → c.totals-totals.result ≡ totals_in c
 totals_is c =
     let s = c.args.sheet.now in
     let table : c.unpack-table.result ≡ table_in s =
-        c.unpack-table.ensures ∙ ap (table_of s) (c.word_number-e.ensures ∙ sym (sheet-accepted s c.requires.0).e_is) in
+    c.unpack-table.ensures ∙ ap (table_of s) (c.word_number-e.ensures ∙ sym (sheet-accepted s c.requires.0).e_is) in
     c.totals-totals.ensures ∙ ap (totals_of c.args.nodes) table ∙ ap (λ (n : ℕ). totals_of n (table_in s)) c.requires.1
 
 pub unpack-table-requires : goal.unpack-table-requires

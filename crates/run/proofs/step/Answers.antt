@@ -1,6 +1,5 @@
 -- `run::step` meets its contract: a refusal is written as its number, and otherwise both buffers begin with the records of the step.
 -- Assumes nothing.
-use borrow.Author.Rules.{rules}
 use mathlib.Core.Path.{sym, ap, ◌∙◌}
 use mathlib.Core.List.{List}
 use Prim.Native.Nat.{ℕ, ◌≤◌}
@@ -34,7 +33,7 @@ plan-within : (c : Else-answer-ne0) → c.answer-answer.result.plan ≤ length c
 plan-within c =
     let answered' : Answered c.args.sheet.now c.args.old.now c.answer-answer.result (replicate plan_size 0) (replicate moves_size 0)
     c.plan_step.new.plan c.plan_step.new.moves =
-        let e = c.plan_step.ensures in
+    let e = c.plan_step.ensures in
     record {
       plan_long = length-replicate {A = ℕ} plan_size 0;
       moves_long = length-replicate {A = ℕ} moves_size 0;
@@ -48,7 +47,7 @@ moves-within : (c : Else-answer-ne0) → c.answer-answer.result.moves ≤ length
 moves-within c =
     let answered' : Answered c.args.sheet.now c.args.old.now c.answer-answer.result (replicate plan_size 0) (replicate moves_size 0)
     c.plan_step.new.plan c.plan_step.new.moves =
-        let e = c.plan_step.ensures in
+    let e = c.plan_step.ensures in
     record {
       plan_long = length-replicate {A = ℕ} plan_size 0;
       moves_long = length-replicate {A = ℕ} moves_size 0;

@@ -1,6 +1,5 @@
 -- `run::write_records` meets its contract: both records were accepted, so they are as long as their heads say, and the arrays read from
 -- them give the same text. Assumes nothing.
-use borrow.Author.Rules.{rules}
 use mathlib.Core.Path.{◌≡◌, sym, ap, ◌∙◌}
 use mathlib.Core.List.{List}
 use Prim.Native.Nat.{ℕ, ◌+◌, ◌*◌, ◌≤◌}
@@ -33,13 +32,13 @@ few c = moves-few c.args.sheet.now c.args.plan.now c.args.moves.now c.requires.0
 nodes-is : (c : After-word_number-nodes) → c.word_number-nodes.result ≡ (read_plan c.args.plan.now).n
 nodes-is c =
     let accepted' : plan.Accepted c.args.plan.now (read_plan c.args.plan.now) =
-        plan.plan-accepted c.args.plan.now c.requires.0.plan in
+    plan.plan-accepted c.args.plan.now c.requires.0.plan in
     c.word_number-nodes.ensures ∙ sym accepted'.n_is
 
 moves-is : (c : After-word_number-e) → c.word_number-e.result ≡ (read_moves c.args.moves.now).e
 moves-is c =
     let moves-accepted' : moves.Accepted c.args.moves.now (read_moves c.args.moves.now) =
-        moves.moves-accepted c.args.moves.now c.requires.0.moves in
+    moves.moves-accepted c.args.moves.now c.requires.0.moves in
     c.word_number-e.ensures ∙ sym moves-accepted'.e_is
 
 -- what own_of asks, of arrays that were read

@@ -1,5 +1,4 @@
 -- `tally::answer` meets its contract, case by case. Assumes nothing.
-use borrow.Author.Rules.{rules}
 use mathlib.Core.Path.{sym, ap, ◌∙◌}
 use Prim.Native.Nat.{ℕ}
 use Rattle.weigh.specs.Weigh.{refused}

@@ -1,6 +1,4 @@
 -- `tally::change` meets its contract: the first check that refuses decides, and otherwise the cells and the total change. Assumes nothing.
-use borrow.Author.Rules.{rules}
-use borrow.Author.Tests.{not-true, not-false}
 use mathlib.Core.Path.{◌≡◌, sym, ap, ◌∙◌}
 use mathlib.Core.Bool.{Bool, true}
 use mathlib.Core.List.{List}

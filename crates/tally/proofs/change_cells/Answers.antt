@@ -1,5 +1,4 @@
 -- `tally::change_cells` meets its contract: the count and the total change, and the leasts are renewed. Assumes nothing.
-use borrow.Author.Rules.{rules}
 use mathlib.Core.Path.{◌∙◌}
 use Rattle.tally.proofs.change_cells.Goals as goal
 

@@ -1,5 +1,4 @@
 -- `tally::check_amounts` meets its contract: the first test that refuses decides. Assumes nothing.
-use borrow.Author.Rules.{rules}
 use borrow.Author.Tests.{lt-ltb, le-ltb, le-leb, lt-leb}
 use Rattle.tally.proofs.check_amounts.Goals as goal
 

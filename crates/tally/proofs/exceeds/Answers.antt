@@ -1,5 +1,4 @@
 -- `tally::exceeds` meets its contract: the sum does not wrap in 64 bits. Assumes nothing.
-use borrow.Author.Rules.{rules}
 use mathlib.Core.Path.{refl}
 use Rattle.tally.proofs.exceeds.Goals as goal
 

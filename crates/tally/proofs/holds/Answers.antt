@@ -1,13 +1,8 @@
-use borrow.Author.Rules.{rules}
 use borrow.Author.Tests.{le-leb, lt-leb}
 use mathlib.Core.Path.{◌≡◌, sym, ◌∙◌}
-use mathlib.Core.Logic.{⊎_elim}
-use Prim.Native.Nat.{◌+◌, ◌-◌, ◌≤◌}
+use Prim.Native.Nat.{◌+◌}
 use native.Mathlib.Omega.{arith}
-use lib.Dec.{leb}
-use Rattle.fold.specs.All.{all}
 use Rattle.fold.proofs.Tests.{all_none, all-passes, all_fails}
-use Rattle.tally.specs.Layout.{least_at}
 use Rattle.tally.proofs.holds.Goals.{else-limit-cells, then-limit-cells}
 use Rattle.tally.proofs.holds.Goals as goal
 

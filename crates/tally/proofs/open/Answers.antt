@@ -1,5 +1,4 @@
 -- `tally::open` meets its contract: the refusal of both records, or what they give. Assumes nothing.
-use borrow.Author.Rules.{rules}
 use mathlib.Core.Path.{◌∙◌}
 use Rattle.weigh.proofs.Checks.{pair-refused, pair-accepted}
 use Rattle.tally.proofs.Opening.{ends_refused}

@@ -1,5 +1,4 @@
 -- `tally::open_refused` meets its contract. Assumes nothing.
-use borrow.Author.Rules.{rules}
 use mathlib.Core.Path.{refl, ap}
 use Rattle.weigh.specs.declared.WeighAnswer.{WeighAnswer}
 use Rattle.tally.specs.Tally.{no_tally}

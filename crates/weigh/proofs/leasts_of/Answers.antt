@@ -1,8 +1,5 @@
 -- `weigh::leasts_of` meets its contract: the sheet's table, its totals, the plan's tree and its leasts, one after the other. Assumes
 -- nothing.
-use borrow.Author.Rules.{rules}
-use mathlib.Core.List.{List}
-use Prim.Native.Nat.{ℕ}
 use native.Mathlib.Omega.{arith}
 use Rattle.sheet.specs.Sheet.{accepted}
 use Rattle.sheet.proofs.Accepted.{Accepted, sheet_unpackable}

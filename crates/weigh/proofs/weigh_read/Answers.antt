@@ -1,14 +1,11 @@
 -- `weigh::weigh_read` meets its contract: each way out gives the answer of the first check that refuses, and the leasts are one run
 -- of words. Assumes nothing.
-use borrow.Author.Rules.{rules}
 use mathlib.Core.Path.{◌≡◌, ap, ◌∙◌}
-use mathlib.Core.List.{List}
-use Prim.Native.Nat.{ℕ, ◌≤◌}
+use Prim.Native.Nat.{◌≤◌}
 use native.Mathlib.Omega.{arith}
 use lib.ListN.{length}
 use Rattle.limit.specs.Limit.{max_nodes}
 use Rattle.arrays.proofs.Tabulate.{length-tabulate}
-use Rattle.sheet.specs.declared.Sheet.{Sheet}
 use Rattle.weigh.specs.declared.check.CheckRefusal.TheVariants.{NodesDiffer, Primary}
 use Rattle.weigh.specs.Weigh.{weighed, least_in}
 use Rattle.weigh.specs.Inner.{Weighable}

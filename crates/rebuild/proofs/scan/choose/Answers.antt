@@ -1,7 +1,5 @@
 -- `scan::choose` meets its contract, by the test of the old helpand that failed, or by none. Assumes nothing.
-use borrow.Author.Rules.{rules}
 use mathlib.Core.Path.{sym, ◌∙◌}
-use mathlib.Core.Logic.{⊎_elim}
 use Rattle.rebuild.proofs.Choices.{chosen-old, chosen-root, chosen-out, chosen-lacks}
 use Rattle.rebuild.proofs.scan.choose.Goals.{then-old-l+then-in_b+else-need-loads, then-old-l+else-in_b, else-old-l}
 use Rattle.rebuild.proofs.scan.choose.Goals as goal

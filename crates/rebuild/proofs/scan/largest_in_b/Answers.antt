@@ -1,12 +1,10 @@
 use borrow.Author.Rules.{rules}
 use borrow.Author.Tests.{lt-ltb, le-ltb}
 use mathlib.Core.Path.{◌≡◌, sym, ◌∙◌}
-use mathlib.Core.Logic.{⊎_elim}
-use Prim.Native.Nat.{◌≤◌, ◌<◌, ◌-◌}
+use Prim.Native.Nat.{◌<◌}
 use native.Mathlib.Omega.{arith}
 use Rattle.fold.specs.Best.{best}
 use Rattle.fold.proofs.Scans.{best_skips, best_begins, best_takes, best-stays, best-found}
-use Rattle.rebuild.specs.Rebuild.{largest_in_b}
 use Rattle.rebuild.proofs.scan.largest_in_b.Goals.{In-At, then-in_b+in-Nothing, then-in_b+in-At+then-loads-b, then-in_b+in-At+else-loads-b, else-in_b}
 use Rattle.rebuild.proofs.scan.largest_in_b.Goals as goal
 

@@ -1,11 +1,8 @@
 use borrow.Author.Rules.{rules}
 use mathlib.Core.Path.{◌≡◌, sym, ◌∙◌}
-use Prim.Native.Nat.{◌≤◌, ◌-◌}
 use native.Mathlib.Omega.{arith}
-use Rattle.fold.specs.declared.Found.TheVariants.{Nothing}
 use Rattle.fold.specs.Best.{best}
 use Rattle.fold.proofs.Scans.{best_skips}
-use Rattle.rebuild.specs.Rebuild.{lowest_in_b}
 use Rattle.rebuild.proofs.Choices.{first-is}
 use Rattle.rebuild.proofs.scan.lowest_in_b.Goals as goal
 

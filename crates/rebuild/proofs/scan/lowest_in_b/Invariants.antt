@@ -1,13 +1,8 @@
 -- `scan::lowest_in_b` meets its contract: at the loop's head no node passed is in B. Assumes nothing.
-use borrow.Author.Rules.{rules}
-use mathlib.Core.Path.{◌≡◌, sym, ◌∙◌}
+use mathlib.Core.Path.{◌≡◌}
 use Prim.Native.Nat.{◌≤◌, ◌-◌}
-use native.Mathlib.Omega.{arith}
 use Rattle.fold.specs.declared.Found.TheVariants.{Nothing}
-use Rattle.fold.specs.Best.{best}
-use Rattle.fold.proofs.Scans.{best_skips}
 use Rattle.rebuild.specs.Rebuild.{lowest_in_b}
-use Rattle.rebuild.proofs.Choices.{first-is}
 use Rattle.rebuild.proofs.scan.lowest_in_b.Given as goal
 
 abbrev pub invariant-loop-k : goal.invariant-loop-k

@@ -1,12 +1,10 @@
 use borrow.Author.Rules.{rules}
 use borrow.Author.Tests.{lt-ltb, le-ltb}
 use mathlib.Core.Path.{◌≡◌, sym, ◌∙◌}
-use mathlib.Core.Logic.{⊎_elim}
-use Prim.Native.Nat.{◌≤◌, ◌<◌, ◌-◌}
+use Prim.Native.Nat.{◌<◌}
 use native.Mathlib.Omega.{arith}
 use Rattle.fold.specs.Best.{best}
 use Rattle.fold.proofs.Scans.{best_skips, best_begins, best_takes, best-stays, best-found}
-use Rattle.rebuild.specs.Rebuild.{smallest_in_a}
 use Rattle.rebuild.proofs.scan.smallest_in_a.Goals.{In-At, then-in_a+in-Nothing, then-in_a+in-At+then-loads-k, then-in_a+in-At+else-loads-k, else-in_a}
 use Rattle.rebuild.proofs.scan.smallest_in_a.Goals as goal
 

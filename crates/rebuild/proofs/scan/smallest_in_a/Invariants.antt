@@ -1,12 +1,6 @@
 -- `scan::smallest_in_a` meets its contract: at the loop's head the best of the nodes passed is known. Assumes nothing.
-use borrow.Author.Rules.{rules}
-use borrow.Author.Tests.{lt-ltb, le-ltb}
-use mathlib.Core.Path.{◌≡◌, sym, ◌∙◌}
-use mathlib.Core.Logic.{⊎_elim}
-use Prim.Native.Nat.{◌≤◌, ◌<◌, ◌-◌}
-use native.Mathlib.Omega.{arith}
-use Rattle.fold.specs.Best.{best}
-use Rattle.fold.proofs.Scans.{best_skips, best_begins, best_takes, best-stays, best-found}
+use mathlib.Core.Path.{◌≡◌}
+use Prim.Native.Nat.{◌≤◌, ◌-◌}
 use Rattle.rebuild.specs.Rebuild.{smallest_in_a}
 use Rattle.rebuild.proofs.scan.smallest_in_a.Given as goal
 

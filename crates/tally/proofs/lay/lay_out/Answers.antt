@@ -1,5 +1,4 @@
 -- `tally::lay::lay_out` meets its contract: the three parts fill the cells. Assumes nothing.
-use borrow.Author.Rules.{rules}
 use mathlib.Core.Path.{refl}
 use Rattle.tally.proofs.Copying.{copied_all}
 use Rattle.tally.proofs.lay.lay_out.Goals as goal

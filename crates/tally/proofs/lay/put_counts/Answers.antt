@@ -1,9 +1,6 @@
-use borrow.Author.Rules.{rules}
 use mathlib.Core.Path.{◌≡◌}
-use Prim.Native.Nat.{◌-◌, ◌≤◌}
 use native.Mathlib.Omega.{arith}
 use Rattle.limit.specs.Limit.{table_size}
-use Rattle.tally.specs.Inner.{Copied}
 use Rattle.tally.proofs.Copying.{copied_none, copied_next}
 use Rattle.tally.proofs.lay.put_counts.Goals as goal
 

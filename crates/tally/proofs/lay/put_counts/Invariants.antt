@@ -1,11 +1,7 @@
 -- `tally::lay::put_counts` meets its contract: at the loop's head so many entries are copied. Assumes nothing.
-use borrow.Author.Rules.{rules}
-use mathlib.Core.Path.{◌≡◌}
 use Prim.Native.Nat.{◌-◌, ◌≤◌}
-use native.Mathlib.Omega.{arith}
 use Rattle.limit.specs.Limit.{table_size}
 use Rattle.tally.specs.Inner.{Copied}
-use Rattle.tally.proofs.Copying.{copied_none, copied_next}
 use Rattle.tally.proofs.lay.put_counts.Given as goal
 
 abbrev pub invariant-loop-k : goal.invariant-loop-k

@@ -1,10 +1,6 @@
 -- `tally::lay::put_row` meets its contract: at the loop's head so many entries are copied. Assumes nothing.
-use borrow.Author.Rules.{rules}
-use mathlib.Core.Path.{◌≡◌}
 use Prim.Native.Nat.{◌-◌, ◌≤◌}
-use native.Mathlib.Omega.{arith}
 use Rattle.tally.specs.Inner.{Copied}
-use Rattle.tally.proofs.Copying.{copied_none, copied_next}
 use Rattle.tally.proofs.lay.put_row.Given as goal
 
 abbrev pub invariant-loop-k : goal.invariant-loop-k

@@ -1,12 +1,10 @@
-use borrow.Author.Rules.{rules}
 use mathlib.Core.Path.{◌≡◌, refl, ap, ◌∙◌}
 use Prim.Native.Nat.{ℕ, ◌+◌, ◌-◌}
 use native.Mathlib.Omega.{arith}
 use Rattle.fold.specs.First.{FirstFrom}
 use Rattle.arrays.specs.Arrays.{at}
 use Rattle.tree.specs.Family.{helps}
-use Rattle.tree.proofs.Linking.{link_first, link_next, Left, left-first, left-next, left-all}
-use Rattle.tally.specs.Layout.{total_at, least_at}
+use Rattle.tree.proofs.Linking.{link_first, link_next, left-first, left-next, left-all}
 use Rattle.tally.proofs.renew.least_from.Goals.{In-loop-k}
 use Rattle.tally.proofs.renew.least_from.Goals as goal
 

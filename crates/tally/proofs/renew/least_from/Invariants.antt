@@ -1,12 +1,7 @@
 -- `tally::renew::least_from` meets its contract: at the loop's head the helpers passed have taken what they can spare. Assumes nothing.
-use borrow.Author.Rules.{rules}
-use mathlib.Core.Path.{◌≡◌, refl, ap, ◌∙◌}
-use Prim.Native.Nat.{ℕ, ◌+◌, ◌-◌}
-use native.Mathlib.Omega.{arith}
-use Rattle.fold.specs.First.{FirstFrom}
+use Prim.Native.Nat.{◌-◌}
 use Rattle.arrays.specs.Arrays.{at}
-use Rattle.tree.specs.Family.{helps}
-use Rattle.tree.proofs.Linking.{link_first, link_next, Left, left-first, left-next, left-all}
+use Rattle.tree.proofs.Linking.{Left}
 use Rattle.tally.specs.Layout.{total_at, least_at}
 use Rattle.tally.proofs.renew.least_from.Given as goal
 

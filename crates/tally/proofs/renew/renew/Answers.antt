@@ -1,11 +1,9 @@
-use borrow.Author.Rules.{rules}
 use mathlib.Core.Path.{◌≡◌, sym, ◌∙◌}
-use Prim.Native.Nat.{ℕ, suc, ◌<◌}
+use Prim.Native.Nat.{◌<◌}
 use mathlib.Core.Logic.{◌≢◌}
 use native.Mathlib.Numerals.{add-one}
 use native.Mathlib.Omega.{arith}
 use Rattle.arrays.specs.Arrays.{at}
-use Rattle.tally.specs.Renew.{renewed}
 use Rattle.tally.proofs.Renewing.{renewed-none, renewed-same, renewed-root, renewed_up}
 use Rattle.tally.proofs.renew.renew.Goals.{In-loop-more}
 use Rattle.tally.proofs.renew.renew.Goals as goal

@@ -1,14 +1,9 @@
 -- `tally::renew::renew` meets its contract: what is still to be renewed from the loop's head is what was to be renewed at first.
 -- Assumes nothing.
-use borrow.Author.Rules.{rules}
-use mathlib.Core.Path.{◌≡◌, sym, ◌∙◌}
-use Prim.Native.Nat.{ℕ, suc, ◌<◌}
-use mathlib.Core.Logic.{◌≢◌}
-use native.Mathlib.Numerals.{add-one}
-use native.Mathlib.Omega.{arith}
+use mathlib.Core.Path.{◌≡◌}
+use Prim.Native.Nat.{suc, ◌<◌}
 use Rattle.arrays.specs.Arrays.{at}
 use Rattle.tally.specs.Renew.{renewed}
-use Rattle.tally.proofs.Renewing.{renewed-none, renewed-same, renewed-root, renewed_up}
 use Rattle.tally.proofs.renew.renew.Given as goal
 
 abbrev pub invariant-loop-more : goal.invariant-loop-more

@@ -1,8 +1,5 @@
-use Rattle.std.proofs.Common.{◌≡◌, ℕ, ◌+◌, ◌-◌, ◌≤◌, ◌<◌, true, List, length, arith, refl, sym, ap, ◌∙◌}
+use Rattle.std.proofs.Common.{◌≡◌, ℕ, ◌-◌, ◌≤◌, ◌<◌, List, length, arith, refl, sym, ap, ◌∙◌}
 use lib.ListN.{set, length-set}
-use Rattle.fold.specs.First.{FirstFrom}
-use Rattle.arrays.specs.Arrays.{at}
-use Rattle.tree.specs.Family.{helps}
 use Rattle.tree.specs.Least.{least}
 use Rattle.tree.specs.Inner.{LinkedTree, Descended}
 use Rattle.tree.proofs.Linking.{link_first, link_next, left-first, left-next, left-all}

@@ -1,6 +1,6 @@
 -- The cycle {least, spare}. Each call goes one step down: the measure is twice the depth for `least`, and one more for `spare`. At the
 -- loop's head the helpers passed are weighed. Assumes nothing.
-use Rattle.std.proofs.Common.{◌-◌, ◌≡◌, ℕ, ◌≤◌, ◌<◌, ◌+◌, List, length}
+use Rattle.std.proofs.Common.{◌-◌, ◌≡◌, ℕ, ◌+◌, List, length}
 use Rattle.arrays.specs.Arrays.{at}
 use Rattle.tree.specs.Least.{least}
 use Rattle.tree.proofs.Linking.{Left}

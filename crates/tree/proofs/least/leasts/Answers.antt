@@ -1,6 +1,5 @@
 -- `tree::least::leasts` meets its contract: every chain comes to the root, so the pass down from there leaves every least.
 -- Assumes nothing.
-use borrow.Author.Rules.{rules}
 use mathlib.Core.Path.{refl}
 use Rattle.arrays.specs.Arrays.{at}
 use Rattle.tree.proofs.Weighing.{root_shallow}

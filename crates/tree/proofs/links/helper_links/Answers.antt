@@ -1,8 +1,8 @@
 use borrow.Author.Rules.{rules}
 use mathlib.Core.Path.{◌≡◌, refl}
-use Prim.Native.Nat.{ℕ, ◌+◌, ◌-◌, ◌≤◌, ◌<◌}
+use Prim.Native.Nat.{ℕ, ◌+◌, ◌-◌, ◌<◌}
 use native.Mathlib.Omega.{arith}
-use lib.ListN.{length, length-set}
+use lib.ListN.{length-set}
 use Rattle.arrays.specs.Arrays.{at}
 use Rattle.tree.proofs.Linking.{Linking, linking_none, linking_root, linking_helper, linked-all}
 use Rattle.tree.proofs.links.helper_links.Goals.{After-helpand-1}

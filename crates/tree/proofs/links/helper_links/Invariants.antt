@@ -1,11 +1,9 @@
 -- `tree::links::helper_links` meets its contract: the nodes from k on are linked. Assumes nothing.
-use borrow.Author.Rules.{rules}
-use mathlib.Core.Path.{◌≡◌, refl}
-use Prim.Native.Nat.{ℕ, ◌+◌, ◌-◌, ◌≤◌, ◌<◌}
-use native.Mathlib.Omega.{arith}
-use lib.ListN.{length, length-set}
+use mathlib.Core.Path.{◌≡◌}
+use Prim.Native.Nat.{◌≤◌}
+use lib.ListN.{length}
 use Rattle.arrays.specs.Arrays.{at}
-use Rattle.tree.proofs.Linking.{Linking, linking_none, linking_root, linking_helper, linked-all}
+use Rattle.tree.proofs.Linking.{Linking}
 use Rattle.tree.proofs.links.helper_links.Given as goal
 
 abbrev pub invariant-loop-k : goal.invariant-loop-k
