@@ -2,47 +2,59 @@
 // bytes that follow, and these bytes. Prints the text of each.
 #![tactic(auto)]
 
-use libc::{STDIN_FILENO, STDOUT_FILENO};
 use run::TEXT_SIZE;
+use std::io;
+use std::io::{ErrorKind, Read};
 
 // The longest input that can be accepted: one byte less than the bench program keeps.
 const MOST: usize = run::FRONT_SIZE - 1;
 
 // Prints the text for this input.
-fn print(input: &[u8]) {
+fn print(rt: &impl Print, input: &[u8]) -> io::Result<()> {
     let mut text = [0u8; TEXT_SIZE];
     let size = run::run(input, &mut text);
-    io::write_all(STDOUT_FILENO, &text[..size]);
+    rt.write_all(&text[..size])
+}
+
+// Fills the bytes; answers whether all of them were there.
+fn fill(input: &mut impl Read, bytes: &mut [u8]) -> io::Result<bool> {
+    match input.read_exact(bytes) {
+        Ok(()) => Ok(true),
+        Err(e) if e.kind() == ErrorKind::UnexpectedEof => Ok(false),
+        Err(e) => Err(e),
+    }
 }
 
 // Fills a case and prints its text; answers whether all its bytes were there.
-fn read_case(case: &mut [u8]) -> bool {
-    let n = io::read_full(STDIN_FILENO, case);
-    if n < case.len() {
-        return false;
+fn read_case(rt: &impl Print, input: &mut impl Read, case: &mut [u8]) -> io::Result<bool> {
+    if !fill(input, case)? {
+        return Ok(false);
     }
-    print(case);
-    true
+    print(rt, case)?;
+    Ok(true)
 }
 
 // Reads a case and prints its text; answers whether there may be another. A longer case than any that can be accepted ends the run.
-fn next_case() -> bool {
+fn next_case(rt: &impl Print, input: &mut impl Read) -> io::Result<bool> {
     let mut head = [0u8; 4];
-    if io::read_full(STDIN_FILENO, &mut head) < 4 {
-        return false;
+    if !fill(input, &mut head)? {
+        return Ok(false);
     }
     let size = words::word_number(&head, 0) as usize;
     if size > MOST {
-        return false;
+        return Ok(false);
     }
     let mut case = [0u8; MOST];
-    read_case(&mut case[..size])
+    read_case(rt, input, &mut case[..size])
 }
 
-// A proved loop has to end, and nothing says that an input does: the turns are counted down from a number that no run uses up.
-fn main() {
-    let mut turns = u64::MAX;
-    while turns > 0 && next_case() {
-        turns -= 1;
+// A proved loop has to end, and nothing says that an input does: the turns are bounded by a number that no run uses up.
+fn main(rt: HostRuntime) -> io::Result<()> {
+    let mut input = rt.stdin();
+    for _ in 0..u64::MAX {
+        if !next_case(&rt, &mut input)? {
+            break;
+        }
     }
+    Ok(())
 }

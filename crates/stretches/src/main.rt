@@ -3,73 +3,89 @@
 // stretch that it hands back.
 #![tactic(auto)]
 
-use libc::{STDIN_FILENO, STDOUT_FILENO};
+use std::io;
+use std::io::{ErrorKind, Read};
 use text::put::{BLANK, put_byte, put_number};
 
 // The bytes of the longest plan.
 const MOST: usize = 524;
 
 // Prints a blank and a helpand.
-fn print_helpand(helpand: u32) {
+fn print_helpand(rt: &impl Print, helpand: u32) -> io::Result<()> {
     let mut text = [0u8; 16];
     let at = put_byte(&mut text, 0, BLANK);
     let size = put_number(&mut text, at, helpand);
-    io::write_all(STDOUT_FILENO, &text[..size]);
+    rt.write_all(&text[..size])
 }
 
 // Prints the line of a stretch of helpands.
-fn print_stretch(stretch: &[u8]) {
+fn print_stretch(rt: &impl Print, stretch: &[u8]) -> io::Result<()> {
     let nodes = stretch.len() / 4;
-    io::write_all(STDOUT_FILENO, b"stretch");
-    let mut k = 0;
-    while k < nodes {
-        print_helpand(words::word_number(stretch, k));
-        k += 1;
+    rt.write_all(b"stretch")?;
+    for k in 0..nodes {
+        print_helpand(rt, words::word_number(stretch, k))?;
     }
-    io::write_all(STDOUT_FILENO, b"\n");
+    rt.write_all(b"\n")
 }
 
 // Prints the line of two plans. The stretch is a part of one of them, so that both are lent for as long.
-fn print_pair<'a>(old: &'a [u8], new: &'a [u8]) {
+fn print_pair<'a>(rt: &impl Print, old: &'a [u8], new: &'a [u8]) -> io::Result<()> {
     let stretch = in_force::tree_in_force(old, new);
-    print_stretch(stretch);
+    print_stretch(rt, stretch)
+}
+
+// Fills the bytes; answers whether all of them were there.
+fn fill(input: &mut impl Read, bytes: &mut [u8]) -> io::Result<bool> {
+    match input.read_exact(bytes) {
+        Ok(()) => Ok(true),
+        Err(e) if e.kind() == ErrorKind::UnexpectedEof => Ok(false),
+        Err(e) => Err(e),
+    }
 }
 
 // Fills the two plans and prints their line; answers whether all their bytes were there.
-fn read_pair(old: &mut [u8], new: &mut [u8]) -> bool {
-    if io::read_full(STDIN_FILENO, old) < old.len() {
-        return false;
+fn read_pair(
+    rt: &impl Print,
+    input: &mut impl Read,
+    old: &mut [u8],
+    new: &mut [u8],
+) -> io::Result<bool> {
+    if !fill(input, old)? {
+        return Ok(false);
     }
-    if io::read_full(STDIN_FILENO, new) < new.len() {
-        return false;
+    if !fill(input, new)? {
+        return Ok(false);
     }
-    print_pair(old, new);
-    true
+    print_pair(rt, old, new)?;
+    Ok(true)
 }
 
 // Reads a pair and prints its line; answers whether there may be another. A longer plan than any that can be accepted ends the run.
-fn next_pair() -> bool {
+fn next_pair(rt: &impl Print, input: &mut impl Read) -> io::Result<bool> {
     let mut head = [0u8; 8];
-    if io::read_full(STDIN_FILENO, &mut head) < 8 {
-        return false;
+    if !fill(input, &mut head)? {
+        return Ok(false);
     }
     let old_size = words::word_number(&head, 0) as usize;
     let new_size = words::word_number(&head, 1) as usize;
     if old_size > MOST {
-        return false;
+        return Ok(false);
     }
     if new_size > MOST {
-        return false;
+        return Ok(false);
     }
     let mut old = [0u8; MOST];
     let mut new = [0u8; MOST];
-    read_pair(&mut old[..old_size], &mut new[..new_size])
+    read_pair(rt, input, &mut old[..old_size], &mut new[..new_size])
 }
 
-// A proved loop has to end, and nothing says that an input does: the turns are counted down from a number that no run uses up.
-fn main() {
-    let mut turns = u64::MAX;
-    while turns > 0 && next_pair() {
-        turns -= 1;
+// A proved loop has to end, and nothing says that an input does: the turns are bounded by a number that no run uses up.
+fn main(rt: HostRuntime) -> io::Result<()> {
+    let mut input = rt.stdin();
+    for _ in 0..u64::MAX {
+        if !next_pair(&rt, &mut input)? {
+            break;
+        }
     }
+    Ok(())
 }

@@ -1,15 +1,12 @@
 -- `carry::carry_read` meets its contract: each way out gives the answer of the first check that refuses, and the writer's own test
 -- is 43. Assumes nothing.
-use borrow.Author.Rules.{rules}
 use mathlib.Core.Path.{◌≡◌, sym, ◌∙◌}
 use mathlib.Core.Bool.{true}
 use mathlib.Core.List.{List}
 use Prim.Native.Nat.{ℕ, ◌≤◌}
 use native.Mathlib.Omega.{arith}
-use borrow.Author.Tests.{not-true, not-false}
 use Rattle.limit.specs.Limit.{max_nodes}
 use Rattle.words.proofs.Buffer.{writing-bytes}
-use Rattle.sheet.specs.declared.Sheet.{Sheet}
 use Rattle.sheet.specs.Write.{sheet_bytes}
 use Rattle.sheet.proofs.Accepted.{sheet_unpackable}
 use Rattle.sheet.proofs.Filled.{length_most}
@@ -33,20 +30,18 @@ within-is-here c = c.apply_moves.ensures.answer ∙ within-is c.requires c.unpac
 pub returns-then-not-apply_moves : goal.returns-then-not-apply_moves
 returns-then-not-apply_moves c =
     let whole =
-        ends_sends c.requires _ (sym (within-is-here (goal.at.returns-then-not-apply_moves c).After-apply_moves) ∙ c.if-not-apply_moves.true) in
+    ends_sends c.requires _ (sym (within-is-here (goal.at.returns-then-not-apply_moves c).After-apply_moves) ∙ c.if-not-apply_moves.true) in
     record { answer = whole.0; bytes = whole.1 }
 
 within : (c : Else-not-apply_moves) → within_in c.args.sheet.now c.args.moves.now ≡ true
 within c =
-    let within-is-here' : c.apply_moves.result ≡ within_in c.args.sheet.now c.args.moves.now =
-        c.apply_moves.ensures.answer ∙ within-is c.requires c.unpack-table.ensures in
-    sym within-is-here' ∙ c.if-not-apply_moves.false
+    sym (c.apply_moves.ensures.answer ∙ within-is c.requires c.unpack-table.ensures) ∙ c.if-not-apply_moves.false
 
-table_is : (c : Else-not-apply_moves) → c.apply_moves.last.0 ≡ next_table c.args.sheet.now c.args.moves.now
+table_is : (c : Else-not-apply_moves) → c.apply_moves.new.table ≡ next_table c.args.sheet.now c.args.moves.now
 table_is c = c.apply_moves.ensures.next (c.if-not-apply_moves.false) ∙ carried-is c.requires c.unpack-table.ensures
 
 abbrev rec : (c : After-write_sheet) → List ℕ
-rec c = sheet_bytes c.args.s.n c.args.s.t c.apply_moves.last.0
+rec c = sheet_bytes c.args.s.n c.args.s.t c.apply_moves.new.table
 
 pub returns-in-Bytes : goal.returns-in-Bytes
 returns-in-Bytes c =
@@ -65,7 +60,7 @@ pub overflow_cast-result : goal.overflow_cast-result
 overflow_cast-result c =
     let h = c.args.s in
     let z = writing-bytes (rec (goal.at.overflow_cast-result c).After-write_sheet) c.args.next.now c.in-Bytes.size (sym c.in-Bytes.is ∙ c.write_sheet.ensures.answer) in
-    omega (arith, z.0, length_most h.n h.t c.apply_moves.last.0 (n_high (goal.at.overflow_cast-result c).After-unpack-table))
+    omega (arith, z.0, length_most h.n h.t c.apply_moves.new.table (n_high (goal.at.overflow_cast-result c).After-unpack-table))
 
 pub unpack-table-requires : goal.unpack-table-requires
 unpack-table-requires c = (_, sheet_unpackable _ _ (sheet_facts c.requires))

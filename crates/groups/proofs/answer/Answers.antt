@@ -1,5 +1,4 @@
 -- `groups::answer` meets its contract, case by case. Assumes nothing.
-use borrow.Author.Rules.{rules}
 use mathlib.Core.Path.{sym, ap, ◌∙◌}
 use Rattle.words.specs.Answer.{refused}
 use Rattle.groups.specs.Groups.{answer_of}

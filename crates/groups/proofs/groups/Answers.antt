@@ -1,5 +1,4 @@
 -- `groups::groups` meets its contract: the plan's refusal, or what its groups give. Assumes nothing.
-use borrow.Author.Rules.{rules}
 use mathlib.Core.Path.{sym, ap, ◌∙◌}
 use native.Mathlib.Omega.{arith}
 use Rattle.plan.specs.declared.PlanAnswer.{PlanAnswer}
@@ -11,7 +10,7 @@ use Rattle.groups.proofs.groups.Goals as goal
 pub returns-in-Refused : goal.returns-in-Refused
 returns-in-Refused c =
     let whole =
-        ends_plan _ _ (refusal_number c.in-Refused.r)
+    ends_plan _ _ (refusal_number c.in-Refused.r)
     (ap (λ (x : PlanAnswer). x.refusal) (ap answer_of (sym c.in-Refused.is) ∙ c.read_plan.ensures))
     (λ z. omega (arith, number_more c.in-Refused.r)) in
     record { answer = whole.0; bytes = whole.1 }
@@ -23,5 +22,5 @@ groups_read-requires c =
 pub returns-in-Accepted : goal.returns-in-Accepted
 returns-in-Accepted c =
     let whole =
-        c.groups_read.ensures in
-    record { answer = whole.0; bytes = whole.1 }
+    c.groups_read.ensures in
+    record { answer = whole.answer; bytes = whole.bytes }

@@ -1,13 +1,11 @@
-use borrow.Author.Rules.{rules}
 use mathlib.Core.Path.{◌≡◌, refl, ap}
-use Prim.Native.Nat.{◌+◌, ◌*◌, ◌-◌, ◌≤◌}
+use Prim.Native.Nat.{◌+◌, ◌*◌, ◌≤◌}
 use native.Mathlib.Omega.{arith}
 use lib.ListN.{length}
 use Rattle.arrays.specs.Arrays.{at}
 use Rattle.words.proofs.Buffer.{length_put}
 use Rattle.groups.specs.Group.{group_in}
 use Rattle.groups.specs.Groups.{groups_size}
-use Rattle.groups.specs.Inner.{with_entries}
 use Rattle.groups.proofs.Placing.{entries_none, entries-stored}
 use Rattle.groups.proofs.put_entries.Goals.{In-loop-k}
 use Rattle.groups.proofs.put_entries.Goals as goal
@@ -30,8 +28,8 @@ loop-k-preserved c =
     (omega (arith, c.loop-k-test.true), s.0, s.1)
 
 -- the record fits
-fits : (i : In-loop-k) → groups_size (start i).args.nodes ≤ length i.loop-k.out-1
-fits i = omega (arith, (start i).requires.1, i.loop-k.invariant.2)
+fits : (c : In-loop-k) → groups_size c.args.nodes ≤ length c.loop-k.out
+fits c = omega (arith, c.requires.1, c.loop-k.invariant.2)
 
 pub returns : goal.returns
 returns c =
@@ -43,10 +41,10 @@ put_word-requires c = omega (arith, c.loop-k-test.true, fits (goal.at.put_word-r
 
 pub put_word-requires-in-loop-k : goal.put_word-requires-in-loop-k
 put_word-requires-in-loop-k c =
-        omega (
+    omega (
       arith,
       c.loop-k-test.true,
       fits (goal.at.put_word-requires-in-loop-k c).In-loop-k,
       ap length c.put_word.ensures,
-      length_put c.loop-k.out-1 (4 * (1 + c.loop-k.k)) c.entries_of-entries.result.even,
+      length_put c.loop-k.out (4 * (1 + c.loop-k.k)) c.entries_of-entries.result.even,
     )

@@ -1,15 +1,10 @@
 -- `groups::put_entries` meets its contract: the entries of the nodes passed are stored. Assumes nothing.
-use borrow.Author.Rules.{rules}
-use mathlib.Core.Path.{◌≡◌, refl, ap}
-use Prim.Native.Nat.{◌+◌, ◌*◌, ◌-◌, ◌≤◌}
-use native.Mathlib.Omega.{arith}
+use mathlib.Core.Path.{◌≡◌}
+use Prim.Native.Nat.{◌-◌, ◌≤◌}
 use lib.ListN.{length}
 use Rattle.arrays.specs.Arrays.{at}
-use Rattle.words.proofs.Buffer.{length_put}
 use Rattle.groups.specs.Group.{group_in}
-use Rattle.groups.specs.Groups.{groups_size}
 use Rattle.groups.specs.Inner.{with_entries}
-use Rattle.groups.proofs.Placing.{entries_none, entries-stored}
 use Rattle.groups.proofs.put_entries.Given as goal
 
 abbrev pub invariant-loop-k : goal.invariant-loop-k

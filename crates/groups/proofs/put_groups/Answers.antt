@@ -1,23 +1,17 @@
 -- `groups::put_groups` meets its contract: N and the entries behind it are one record. Assumes nothing.
-use borrow.Author.Rules.{rules}
 use mathlib.Core.Path.{◌∙◌}
 use native.Mathlib.Omega.{arith}
 use Rattle.arrays.specs.Arrays.{at}
-use Rattle.groups.specs.Inner.{Rooted, Groupable}
+use Rattle.groups.specs.Inner.{Groupable}
 use Rattle.groups.proofs.Placing.{groups-placed}
-use Rattle.groups.proofs.put_groups.Goals.{After-own_groups-own, After-slice_known-1}
+use Rattle.groups.proofs.put_groups.Goals.{After-own_groups-own}
 use Rattle.groups.proofs.put_groups.Goals as goal
-
-rooted : (c : After-slice_known-1) → Rooted c.args.n (at c.args.helpands)
-rooted c = c.requires.0
 
 groupable : (c : After-own_groups-own) →
     let a = c.args in
     Groupable a.n (at a.helpands) c.distances-distances.result c.own_groups-own.result
 groupable c =
-    let rooted' : Rooted c.args.n (at c.args.helpands) =
-        c.requires.0 in
-    record { rooted = rooted'; each_distance = c.distances-distances.ensures; each_own = c.own_groups-own.ensures }
+    record { rooted = c.requires.0; each_distance = c.distances-distances.ensures; each_own = c.own_groups-own.ensures }
 
 pub put_entries-requires : goal.put_entries-requires
 put_entries-requires c =
@@ -28,7 +22,7 @@ returns c =
     c.put_entries.ensures ∙ groups-placed c.args.n (at c.args.helpands) c.args.out.now _ c.requires.1 c.put_word.ensures
 
 pub distances-distances-requires : goal.distances-distances-requires
-distances-distances-requires c = rooted (goal.at.distances-distances-requires c).After-slice_known-1
+distances-distances-requires c = c.requires.0
 
 pub own_groups-own-requires : goal.own_groups-own-requires
-own_groups-own-requires c = rooted (goal.at.own_groups-own-requires c).After-slice_known-1
+own_groups-own-requires c = c.requires.0

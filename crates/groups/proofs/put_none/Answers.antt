@@ -1,5 +1,4 @@
 -- `groups::put_none` meets its contract: N and two rows of 64 are one record. Assumes nothing.
-use borrow.Author.Rules.{rules}
 use mathlib.Core.Path.{ap, ◌∙◌}
 use mathlib.Core.List.{List}
 use Prim.Native.Nat.{ℕ, ◌+◌, ◌*◌}

@@ -1,5 +1,4 @@
 -- `in_force::choose` meets its contract, each way out by the law of its way. Assumes nothing.
-use borrow.Author.Rules.{rules}
 use mathlib.Core.Path.{◌≡◌, sym, ap, ◌∙◌}
 use native.Mathlib.Omega.{arith}
 use Rattle.plan.specs.declared.PlanReading.TheVariants.{Accepted}

@@ -1,5 +1,4 @@
 -- `in_force::part_in_force` meets its contract: the numbers of each case are those of its stretch. Assumes nothing.
-use borrow.Author.Rules.{rules}
 use native.Mathlib.Omega.{arith}
 use mathlib.Core.Path.{◌≡◌, sym, ap, ◌∙◌}
 use Rattle.in_force.specs.declared.Chosen.{Chosen}
@@ -14,6 +13,7 @@ use Rattle.in_force.proofs.part_in_force.Goals as goal
 module _ (c : After-choose-chosen) (k : Chosen) (e : c.choose-chosen.result ≡ k) where
   found : (let a = c.args in where_of k ≡ in_force a.old.now a.new.now)
   found = ap where_of (sym e) ∙ c.choose-chosen.ensures
+
   inside : (let a = c.args in Within (where_of k) a.old.now a.new.now)
   inside = in_force_within _ _ (where_of k) found
 

@@ -1,8 +1,6 @@
 use borrow.Author.Rules.{rules}
 use borrow.Author.Tests.{eq-eqb, ne_eqb}
 use mathlib.Core.Path.{◌≡◌, sym, ap₂, ◌∙◌}
-use mathlib.Core.Bool.{true}
-use Prim.Native.Nat.{◌-◌, ◌≤◌}
 use native.Mathlib.Omega.{arith}
 use lib.Dec.{eqb}
 use Rattle.fold.proofs.Tests.{all_none, all_more, all_fails}
@@ -10,7 +8,6 @@ use Rattle.words.specs.Words.{words}
 use Rattle.words.proofs.Words.{part_at}
 use Rattle.arrays.specs.Arrays.{at}
 use Rattle.plan.specs.Plan.{helpands_of}
-use Rattle.in_force.specs.InForce.{same_helpands}
 use Rattle.in_force.proofs.same_helpands.Goals.{After-word_number-after}
 use Rattle.in_force.proofs.same_helpands.Goals as goal
 

@@ -53,16 +53,17 @@ pub write_records-requires : goal.write_records-requires
 write_records-requires c =
     let e = c.all_moves-e.ensures in
     let few = here_few c.requires (worked (goal.at.write_records-requires c).After-decide-d) in
-    let long = here_long c.requires (worked (goal.at.write_records-requires c).After-decide-d) _ _ _ _ _ e.0 e.1.0 e.1.1 in
-    ((known (goal.at.write_records-requires c).After-struct_known-2-1).n_high, omega (arith, few, e.0), long.0, long.1)
+    let long = here_long c.requires (worked (goal.at.write_records-requires c).After-decide-d) _ _ _ _ _ e.entries e.routes e.counts in
+    ((known (goal.at.write_records-requires c).After-struct_known-2-1).n_high, omega (arith, few, e.entries), long.0, long.1)
 
 pub returns : goal.returns
 returns c =
+    let e = c.all_moves-e.ensures in
+    let w = c.write_records.ensures in
     let whole =
-        let e = c.all_moves-e.ensures in
-    here_ends c.requires (worked (goal.at.returns c).After-decide-d) _ _ _ _ _ e.0 e.1.0 e.1.1
-    (answer_of c.write_records.result) c.args.plan.now c.args.moves.now _ _ c.write_records.ensures in
-    record { answer = whole.0; plan = whole.1; moves = whole.2 }
+    here_ends c.requires (worked (goal.at.returns c).After-decide-d) _ _ _ _ _ e.entries e.routes e.counts
+    (answer_of c.write_records.result) c.args.plan.now c.args.moves.now _ _ (w.answer, (w.plan, w.moves)) in
+    record { answer = whole.0; plan = whole.1.0; moves = whole.1.1 }
 
 pub unpack-table-requires : goal.unpack-table-requires
 unpack-table-requires c = (_, sheet_unpackable _ _ (known (goal.at.unpack-table-requires c).After-struct_known-2-1))

@@ -22,12 +22,10 @@ not-zero c = refusal_more _ _ c.in_default.is
 
 pub returns-in_default : goal.returns-in_default
 returns-in_default c =
-    let whole =
-        let k = (sheet_answer c.read_sheet-reading.result).refusal in
+    let k = (sheet_answer c.read_sheet-reading.result).refusal in
     let e = ap (λ (x : SheetAnswer). x.refusal) c.read_sheet-reading.ensures in
     let ends = ends_sheet _ _ _ _ k e (not-zero (goal.at.returns-in_default c).In_default) in
-    (c.not_read.ensures ∙ ends.0, ends.1) in
-    record { answer = whole.0; plan = whole.1; moves = whole.2 }
+    record { answer = c.not_read.ensures ∙ ends.0; plan = ends.1.0; moves = ends.1.1 }
 
 sheet-read : (c : After-read_old) → sheet_answer (Accepted c.in-Accepted.s) ≡ read_sheet c.args.sheet.now
 sheet-read c = ap sheet_answer (sym c.in-Accepted.is) ∙ c.read_sheet-reading.ensures
@@ -42,7 +40,7 @@ returns-in-Refused c =
         let refused = ap old_of (sym c.in-Refused.is) ∙ c.read_old.ensures in
     ends_old _ _ _ _ c.in-Accepted.s.n (ap (λ (x : SheetAnswer). x.refusal) (sheet-read (goal.at.returns-in-Refused c).After-read_old))
     (ap (λ (x : SheetAnswer). x.n) (sheet-read (goal.at.returns-in-Refused c).After-read_old)) (number_of c.in-Refused.r) refused (number_more c.in-Refused.r) in
-    record { answer = whole.0; plan = whole.1; moves = whole.2 }
+    record { answer = whole.0; plan = whole.1.0; moves = whole.1.1 }
 
 pub not_read-requires : goal.not_read-requires
 not_read-requires c = not-zero (goal.at.not_read-requires c).In_default
@@ -57,10 +55,10 @@ pub returns-in-Tree : goal.returns-in-Tree
 returns-in-Tree c =
     let whole =
         c.plan_read.ensures in
-    record { answer = whole.0; plan = whole.1; moves = whole.2 }
+    record { answer = whole.answer; plan = whole.plan; moves = whole.moves }
 
 pub returns-in-NoTree : goal.returns-in-NoTree
 returns-in-NoTree c =
     let whole =
         c.plan_read-in-NoTree.ensures in
-    record { answer = whole.0; plan = whole.1; moves = whole.2 }
+    record { answer = whole.answer; plan = whole.plan; moves = whole.moves }

@@ -33,20 +33,18 @@ pub returns-then-plan-plan_size : goal.returns-then-plan-plan_size
 returns-then-plan-plan_size c =
     let whole =
         writes_plan_short _ _ _ _ _ _ _ (plan-size (goal.at.returns-then-plan-plan_size c).After-shared_slice_known-2-1) c.if-plan-plan_size.true in
-    record { answer = whole.0; plan = whole.1; moves = whole.2 }
+    record { answer = whole.0; plan = whole.1.0; moves = whole.1.1 }
 
 pub returns-then-moves-moves_size : goal.returns-then-moves-moves_size
 returns-then-moves-moves_size c =
     let whole =
         writes_moves_short _ _ _ _ _ _ _ (plan-size (goal.at.returns-then-moves-moves_size c).After-shared_slice_known-2-1) c.if-plan-plan_size.false _
     (moves-size (goal.at.returns-then-moves-moves_size c).After-shared_slice_known-2-1) c.if-moves-moves_size.true in
-    record { answer = whole.0; plan = whole.1; moves = whole.2 }
+    record { answer = whole.0; plan = whole.1.0; moves = whole.1.1 }
 
 pub returns : goal.returns
 returns c =
-    let whole =
-        let put = c.put_records.ensures in
-    let w = writes_both _ _ _ _ _ _ _ (plan-size (goal.at.returns c).After-shared_slice_known-2-1) c.if-plan-plan_size.false _
-    (moves-size (goal.at.returns c).After-shared_slice_known-2-1) c.if-moves-moves_size.false in
-    (w.0, (put.0 ∙ w.1.0, put.1 ∙ w.1.1)) in
-    record { answer = whole.0; plan = whole.1; moves = whole.2 }
+    let put = c.put_records.ensures in
+    let at = (goal.at.returns c).After-shared_slice_known-2-1 in
+    let w = writes_both _ _ _ _ _ _ _ (plan-size at) c.if-plan-plan_size.false _ (moves-size at) c.if-moves-moves_size.false in
+    record { answer = w.0; plan = put.plan ∙ w.1.0; moves = put.moves ∙ w.1.1 }

@@ -1,7 +1,6 @@
-use borrow.Author.Rules.{rules}
 use mathlib.Core.Path.{◌≡◌, refl}
 use mathlib.Core.List.{List}
-use Prim.Native.Nat.{ℕ, ◌+◌, ◌-◌, ◌≤◌, ◌<◌}
+use Prim.Native.Nat.{ℕ, ◌+◌, ◌≤◌, ◌<◌}
 use native.Mathlib.Omega.{arith}
 use lib.ListN.{length, set, replicate, length-set}
 use Rattle.fold.specs.Sum.{total}
@@ -10,7 +9,7 @@ use Rattle.arrays.specs.Arrays.{at}
 use Rattle.arrays.proofs.Padded.{zeros-at}
 use Rattle.moves.specs.Moves.{sender, receiver, routes_of, counts_of}
 use Rattle.transfer.specs.Apply.{moved}
-use Rattle.transfer.proofs.Applied.{Entry, entry_read, moved_from, moved-from-none, moved-from_more, moved-from-here, plus-at}
+use Rattle.transfer.proofs.Applied.{Entry, entry_read, moved-from-none, moved-from_more, moved-from-here, plus-at}
 use Rattle.transfer.proofs.Counts.{moved-most}
 use Rattle.traffic.proofs.count_traffic.Goals.{After-receiver, After-sender, After-word_number-count}
 use Rattle.traffic.proofs.count_traffic.Invariants.{Column}
@@ -28,6 +27,7 @@ module _ (end : ℕ → ℕ) (moves : List ℕ) (e : ℕ) (column : List ℕ) (i
           moved-from-here end moves e i route count entry,
           moved-most end (routes_of moves e) (counts_of moves e) (end route),
         ))
+
     after : (k : ℕ) → k ≡ end route → end route < 64 → Column end moves e (set column k (at column k + count)) (i + 1)
     after k is below =
         let b : end route < length column = omega (arith, s.size) in
@@ -36,6 +36,7 @@ module _ (end : ℕ → ℕ) (moves : List ℕ) (e : ℕ) (column : List ℕ) (i
           size = simp length-set s.size;
           added = λ c. omega (arith, s.added c, moved-from_more end moves e i route count entry c, plus-at column (end route) count b c);
         })
+
   -- no move is left
   all : e ≤ i → (k : ℕ) → at column k ≡ moved end (routes_of moves e) (counts_of moves e) k
   all h k = omega (arith, s.added k, moved-from-none end moves e i h k)
@@ -59,7 +60,7 @@ sender-lt c = omega (arith, c.sender.ensures)
 sent-fits : (c : After-sender) → at c.loop-i.sent c.sender.result + c.word_number-count.result ≤ max_total
 sent-fits c =
     let read' : Entry c.args.moves.now c.args.e c.loop-i.i c.word_number-r.result c.word_number-count.result =
-        entry_read _ _ _ c.requires.entries c.loop-i-test.true _ _ c.word_number-r.ensures c.word_number-count.ensures in
+    entry_read _ _ _ c.requires.entries c.loop-i-test.true _ _ c.word_number-r.ensures c.word_number-count.ensures in
     let l = c.loop-i in
     let a = c.args in
     fits sender a.moves.now a.e l.sent l.i l.invariant.1 c.word_number-r.result c.word_number-count.result read' c.requires.small
@@ -71,7 +72,7 @@ receiver-lt c = omega (arith, c.receiver.ensures)
 received-fits : (c : After-receiver) → at c.loop-i.received c.receiver.result + c.word_number-count.result ≤ max_total
 received-fits c =
     let read' : Entry c.args.moves.now c.args.e c.loop-i.i c.word_number-r.result c.word_number-count.result =
-        entry_read _ _ _ c.requires.entries c.loop-i-test.true _ _ c.word_number-r.ensures c.word_number-count.ensures in
+    entry_read _ _ _ c.requires.entries c.loop-i-test.true _ _ c.word_number-r.ensures c.word_number-count.ensures in
     let l = c.loop-i in
     let a = c.args in
     fits receiver a.moves.now a.e l.received l.i l.invariant.2 c.word_number-r.result c.word_number-count.result read' c.requires.small

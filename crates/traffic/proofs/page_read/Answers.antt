@@ -1,18 +1,15 @@
 -- `traffic::page_read` meets its contract: each way out gives the answer of the first check that refuses, and past them the page is
 -- that of the traffic that was added up. Assumes nothing.
-use borrow.Author.Rules.{rules}
 use mathlib.Core.Path.{◌≡◌, sym, ◌∙◌}
 use mathlib.Core.Bool.{true}
-use mathlib.Core.List.{List}
-use Prim.Native.Nat.{ℕ, ◌≤◌}
+use Prim.Native.Nat.{◌≤◌}
 use native.Mathlib.Omega.{arith}
-use borrow.Author.Tests.{not-true, not-false}
 use Rattle.limit.specs.Limit.{max_nodes}
 use Rattle.sheet.proofs.Accepted.{sheet_unpackable}
 use Rattle.carry.specs.Checks.{within_in}
 use Rattle.carry.proofs.Checks.{sheet_facts, ready, within-is}
 use Rattle.traffic.proofs.Printed.{countable, sums_fit, ends_sends, ends_short, ends_printed}
-use Rattle.traffic.proofs.page_read.Goals.{After-struct_known-3-1, After-subtract_sends, After-unpack-table, Else-not-subtract_sends}
+use Rattle.traffic.proofs.page_read.Goals.{After-subtract_sends, After-unpack-table, Else-not-subtract_sends}
 use Rattle.traffic.proofs.page_read.Goals as goal
 
 n_high : (c : After-unpack-table) → c.args.s.n ≤ max_nodes
@@ -28,19 +25,17 @@ within-here c = c.subtract_sends.ensures.answer ∙ within-is c.requires c.unpac
 pub returns-then-not-subtract_sends : goal.returns-then-not-subtract_sends
 returns-then-not-subtract_sends c =
     let whole =
-        ends_sends c.requires _ (sym (within-here (goal.at.returns-then-not-subtract_sends c).After-subtract_sends) ∙ c.if-not-subtract_sends.true) in
+    ends_sends c.requires _ (sym (within-here (goal.at.returns-then-not-subtract_sends c).After-subtract_sends) ∙ c.if-not-subtract_sends.true) in
     record { answer = whole.0; bytes = whole.1 }
 
 within : (c : Else-not-subtract_sends) → within_in c.args.sheet.now c.args.moves.now ≡ true
 within c =
-    let within-here' : c.subtract_sends.result ≡ within_in c.args.sheet.now c.args.moves.now =
-        c.subtract_sends.ensures.answer ∙ within-is c.requires c.unpack-table.ensures in
-    sym within-here' ∙ c.if-not-subtract_sends.false
+    sym (c.subtract_sends.ensures.answer ∙ within-is c.requires c.unpack-table.ensures) ∙ c.if-not-subtract_sends.false
 
 pub returns-then-page-size : goal.returns-then-page-size
 returns-then-page-size c =
     let whole =
-        ends_short c.requires c.args.page.now (within (goal.at.returns-then-page-size c).Else-not-subtract_sends) (omega (arith, c.if-page-size.true)) in
+    ends_short c.requires c.args.page.now (within (goal.at.returns-then-page-size c).Else-not-subtract_sends) (omega (arith, c.if-page-size.true)) in
     record { answer = whole.0; bytes = whole.1 }
 
 pub count_traffic-t-requires : goal.count_traffic-t-requires
@@ -59,18 +54,12 @@ returns c =
     (omega (arith, c.if-page-size.false)) in
     record { answer = x.0; bytes = c.put_page.ensures ∙ x.1 }
 
--- N is at most 64, so that the page's length fits
-size_fits : (c : After-struct_known-3-1) → c.args.s.n ≤ max_nodes
-size_fits c =
-    let n_high' : c.args.s.n ≤ max_nodes =
-        (sheet_facts c.requires).n_high in
-    n_high'
-
 pub unpack-table-requires : goal.unpack-table-requires
 unpack-table-requires c = (_, sheet_unpackable _ _ (sheet_facts c.requires))
 
+-- N is at most 64, so that the page's length fits
 pub overflow_mul-size : goal.overflow_mul-size
-overflow_mul-size c = omega (arith, size_fits (goal.at.overflow_mul-size c).After-struct_known-3-1)
+overflow_mul-size c = omega (arith, n_high (goal.at.overflow_mul-size c).After-unpack-table)
 
 pub overflow_cast-result : goal.overflow_cast-result
-overflow_cast-result c = omega (arith, size_fits (goal.at.overflow_cast-result c).After-struct_known-3-1)
+overflow_cast-result c = omega (arith, n_high (goal.at.overflow_cast-result c).After-unpack-table)

@@ -1,5 +1,4 @@
 -- `archive::read::answer` meets its contract, case by case. Assumes nothing.
-use borrow.Author.Rules.{rules}
 use mathlib.Core.Path.{sym, ap, ◌∙◌}
 use Rattle.words.specs.Answer.{refused}
 use Rattle.archive.specs.Archive.{reading_of}

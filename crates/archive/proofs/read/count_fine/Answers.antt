@@ -1,5 +1,4 @@
 -- `archive::read::count_fine` meets its contract: a count of 0 may stand anywhere, and others as the cell's nodes say. Assumes nothing.
-use borrow.Author.Rules.{rules}
 use borrow.Author.Tests.{eq-eqb, ne_eqb}
 use mathlib.Core.Path.{sym, ap, ◌∙◌}
 use mathlib.Core.Bool.{Bool, ◌||◌, or-true, or-false}

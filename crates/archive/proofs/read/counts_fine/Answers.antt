@@ -1,15 +1,7 @@
-use borrow.Author.Rules.{rules}
-use borrow.Author.Tests.{not-true, not-false}
 use mathlib.Core.Path.{◌≡◌, sym, ◌∙◌}
-use mathlib.Core.Bool.{true, ◌||◌}
-use Prim.Native.Nat.{◌-◌, ◌≤◌}
 use native.Mathlib.Omega.{arith}
-use lib.Dec.{eqb}
-use Rattle.fold.specs.All.{all}
 use Rattle.fold.proofs.Tests.{all_none, all_more, all_fails}
 use Rattle.limit.specs.Limit.{table_size}
-use Rattle.arrays.specs.Arrays.{at}
-use Rattle.sheet.specs.Sheet.{cell_fine}
 use Rattle.archive.proofs.read.counts_fine.Goals as goal
 
 pub returns-then-not-count_fine : goal.returns-then-not-count_fine

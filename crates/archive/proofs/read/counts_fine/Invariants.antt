@@ -1,13 +1,9 @@
 -- `archive::read::counts_fine` meets its contract: the cells passed that have a count name two nodes below n. Assumes nothing.
-use borrow.Author.Rules.{rules}
-use borrow.Author.Tests.{not-true, not-false}
-use mathlib.Core.Path.{◌≡◌, sym, ◌∙◌}
+use mathlib.Core.Path.{◌≡◌}
 use mathlib.Core.Bool.{true, ◌||◌}
 use Prim.Native.Nat.{◌-◌, ◌≤◌}
-use native.Mathlib.Omega.{arith}
 use lib.Dec.{eqb}
 use Rattle.fold.specs.All.{all}
-use Rattle.fold.proofs.Tests.{all_none, all_more, all_fails}
 use Rattle.limit.specs.Limit.{table_size}
 use Rattle.arrays.specs.Arrays.{at}
 use Rattle.sheet.specs.Sheet.{cell_fine}

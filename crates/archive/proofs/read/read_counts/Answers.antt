@@ -1,7 +1,5 @@
 -- `archive::read::read_counts` meets its contract: each way out gives the answer of the first check that refuses, and the writer's own test
 -- is 56. Assumes nothing.
-use borrow.Author.Rules.{rules}
-use borrow.Author.Tests.{not-true, not-false}
 use mathlib.Core.Path.{◌≡◌, sym, ap, ◌∙◌}
 use mathlib.Core.Bool.{true}
 use mathlib.Core.List.{List}
@@ -24,16 +22,16 @@ table_is c = c.unpack-table.ensures
 pub returns-then-not-counts_fine : goal.returns-then-not-counts_fine
 returns-then-not-counts_fine c =
     let whole =
-        ends_other-nodes c.args.a.now c.args.out.now c.requires (table_is (goal.at.returns-then-not-counts_fine c).After-counts_fine) (sym c.counts_fine_lem.ensures ∙ c.if-not-counts_fine.true) in
+    ends_other-nodes c.args.a.now c.args.out.now c.requires (table_is (goal.at.returns-then-not-counts_fine c).After-counts_fine) (sym c.counts_fine.ensures ∙ c.if-not-counts_fine.true) in
     record { answer = whole.0; bytes = whole.1 }
 
 fine : (c : After-sum_counts) → counts_fine c.args.n c.unpack-table.result ≡ true
-fine c = sym c.counts_fine_lem.ensures ∙ c.if-not-counts_fine.false
+fine c = sym c.counts_fine.ensures ∙ c.if-not-counts_fine.false
 
 sum_is : (c : After-sum_counts) → c.sum_counts.result ≡ total_in c.args.a.now
 sum_is c =
     let table_is' : c.unpack-table.result ≡ table_from c.args.a.now =
-        c.unpack-table.ensures in
+    c.unpack-table.ensures in
     c.sum_counts.ensures ∙ ap (λ (x : List ℕ). sum table_size (at x)) table_is'
 
 bound_is : (c : After-sum_counts) → c.wide.result ≡ max_total
@@ -42,13 +40,13 @@ bound_is c = c.wide.ensures.0
 pub returns-then-wide-sum_counts : goal.returns-then-wide-sum_counts
 returns-then-wide-sum_counts c =
     let whole =
-        ends_total c.args.a.now c.args.out.now c.requires (table_is (goal.at.returns-then-wide-sum_counts c).After-counts_fine) (fine (goal.at.returns-then-wide-sum_counts c).After-sum_counts) (sum_is (goal.at.returns-then-wide-sum_counts c).After-sum_counts) (omega (arith, bound_is (goal.at.returns-then-wide-sum_counts c).After-sum_counts, c.if-wide-sum_counts.true)) in
+    ends_total c.args.a.now c.args.out.now c.requires (table_is (goal.at.returns-then-wide-sum_counts c).After-counts_fine) (fine (goal.at.returns-then-wide-sum_counts c).After-sum_counts) (sum_is (goal.at.returns-then-wide-sum_counts c).After-sum_counts) (omega (arith, bound_is (goal.at.returns-then-wide-sum_counts c).After-sum_counts, c.if-wide-sum_counts.true)) in
     record { answer = whole.0; bytes = whole.1 }
 
 sum_fits : (c : After-write_sheet) → c.sum_counts.result ≤ max_total
 sum_fits c =
     let bound_is' : c.wide.result ≡ max_total =
-        c.wide.ensures.0 in
+    c.wide.ensures.0 in
     omega (arith, bound_is', c.if-wide-sum_counts.false)
 
 abbrev rec : (c : After-write_sheet) → List ℕ

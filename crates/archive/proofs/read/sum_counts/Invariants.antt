@@ -1,11 +1,8 @@
 -- `archive::read::sum_counts` meets its contract: the sum is that of the cells passed, each of them below 2 to the power 32.
 -- Assumes nothing.
-use borrow.Author.Rules.{rules}
-use mathlib.Core.Path.{◌≡◌, sym}
+use mathlib.Core.Path.{◌≡◌}
 use Prim.Native.Nat.{◌*◌, ◌-◌, ◌≤◌, ◌^◌}
-use native.Mathlib.Omega.{arith}
 use Rattle.fold.specs.Sum.{sum}
-use Rattle.fold.proofs.Sums.{sum-none, sum_more}
 use Rattle.limit.specs.Limit.{table_size}
 use Rattle.arrays.specs.Arrays.{at}
 use Rattle.archive.proofs.read.sum_counts.Given as goal

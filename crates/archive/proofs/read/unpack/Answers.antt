@@ -1,13 +1,12 @@
-use borrow.Author.Rules.{rules}
 use mathlib.Core.Path.{◌≡◌, ap, ◌∙◌}
-use Prim.Native.Nat.{ℕ, ◌+◌, ◌-◌, ◌≤◌, ◌<◌}
+use Prim.Native.Nat.{ℕ, ◌+◌, ◌<◌}
 use native.Mathlib.Omega.{arith}
-use lib.ListN.{length, get_or, length-set, length-replicate}
+use lib.ListN.{get_or, length-set, length-replicate}
 use Rattle.limit.specs.Limit.{table_size}
 use Rattle.arrays.specs.Arrays.{at}
 use Rattle.arrays.proofs.Tabulate.{filled_more}
 use Rattle.words.specs.Words.{words}
-use Rattle.archive.specs.ZOrder.{position_of, Positions}
+use Rattle.archive.specs.ZOrder.{position_of}
 use Rattle.archive.specs.Archive.{count_in}
 use Rattle.archive.proofs.Bits.{position-below}
 use Rattle.archive.proofs.Ordered.{from_is}

@@ -1,17 +1,11 @@
 -- `archive::read::unpack` meets its contract: the cells passed have the counts at their positions. Assumes nothing.
-use borrow.Author.Rules.{rules}
-use mathlib.Core.Path.{◌≡◌, ap, ◌∙◌}
-use Prim.Native.Nat.{ℕ, ◌+◌, ◌-◌, ◌≤◌, ◌<◌}
-use native.Mathlib.Omega.{arith}
-use lib.ListN.{length, get_or, length-set, length-replicate}
+use mathlib.Core.Path.{◌≡◌}
+use Prim.Native.Nat.{ℕ, ◌-◌, ◌≤◌, ◌<◌}
+use lib.ListN.{length}
 use Rattle.limit.specs.Limit.{table_size}
 use Rattle.arrays.specs.Arrays.{at}
-use Rattle.arrays.proofs.Tabulate.{filled_more}
-use Rattle.words.specs.Words.{words}
 use Rattle.archive.specs.ZOrder.{position_of, Positions}
 use Rattle.archive.specs.Archive.{count_in}
-use Rattle.archive.proofs.Bits.{position-below}
-use Rattle.archive.proofs.Ordered.{from_is}
 use Rattle.archive.proofs.read.unpack.Given as goal
 
 abbrev pub invariant-loop-c : goal.invariant-loop-c

@@ -1,10 +1,9 @@
-use borrow.Author.Rules.{rules}
 use mathlib.Core.Path.{◌≡◌, refl, sym, ap, ◌∙◌}
 use mathlib.Core.List.{List, [], ◌∷◌, ◌++◌}
-use Prim.Native.Nat.{ℕ, zero, suc, ◌+◌, ◌-◌, ◌≤◌}
+use Prim.Native.Nat.{ℕ, zero, suc, ◌+◌}
 use native.Mathlib.Numerals.{add-one}
 use native.Mathlib.Omega.{arith}
-use lib.ListN.{length, set, replicate, length-set, length-replicate}
+use lib.ListN.{set, replicate, length-set, length-replicate}
 use lib.Seq.{sets}
 use Rattle.words.proofs.Buffer.{sets-append}
 use Rattle.archive.specs.Inner.{zero_bytes}
@@ -17,7 +16,6 @@ loop-i-init c = (omega arith, refl, refl)
 -- one zero more
 zeros_more : (i : ℕ) → ◌≡◌ {A = List ℕ} (replicate (suc i) 0) (replicate i 0 ++ (0 ∷ []))
 zeros_more zero = refl
-
 zeros_more (suc i) = ap (λ (l : List ℕ). 0 ∷ l) (zeros_more i)
 
 more : (out : List ℕ) (first i : ℕ) → set (sets out first (zero_bytes i)) (first + i) 0 ≡ sets out first (zero_bytes (i + 1))

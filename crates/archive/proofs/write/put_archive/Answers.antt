@@ -1,7 +1,6 @@
-use borrow.Author.Rules.{rules}
 use mathlib.Core.Path.{◌≡◌, refl, ap, ◌∙◌}
 use mathlib.Core.List.{List, ◌∷◌}
-use Prim.Native.Nat.{ℕ, ◌+◌, ◌*◌, ◌-◌, ◌≤◌, ◌<◌}
+use Prim.Native.Nat.{ℕ, ◌+◌, ◌*◌, ◌≤◌, ◌<◌}
 use native.Mathlib.Omega.{arith}
 use lib.ListN.{length, get_or, set}
 use Rattle.limit.specs.Limit.{table_size}
@@ -9,12 +8,11 @@ use Rattle.arrays.specs.Arrays.{at}
 use Rattle.words.specs.Words.{words, encode, put_word}
 use Rattle.words.specs.Buffer.{placed}
 use Rattle.words.proofs.Buffer.{length_put}
-use Rattle.sheet.specs.Inner.{Unpackable}
-use Rattle.archive.specs.ZOrder.{position_of, Positions}
-use Rattle.archive.specs.Archive.{archive_size, no_counts, archive_bytes}
+use Rattle.archive.specs.ZOrder.{position_of}
+use Rattle.archive.specs.Archive.{no_counts, archive_bytes}
 use Rattle.archive.proofs.Bits.{position-below}
-use Rattle.archive.proofs.Storing.{Storing, begin, end, index_below, again, put_count}
-use Rattle.archive.proofs.write.put_archive.Goals.{After-put_word, After-word_number-c}
+use Rattle.archive.proofs.Storing.{begin, end, index_below, again, put_count}
+use Rattle.archive.proofs.write.put_archive.Goals.{After-word_number-c}
 use Rattle.archive.proofs.write.put_archive.Goals as goal
 
 pub loop-i-init : goal.loop-i-init
@@ -43,18 +41,19 @@ p-is c = c.loop-i.invariant.2 c.word_number-c.result (below c)
 p-below : (c : After-word_number-c) → (p c) < table_size
 p-below c = omega (arith, (p-is c), position-below c.word_number-c.result)
 
-stored : (c : After-put_word) → c.put_word.new.0 ≡ put_word c.loop-i.out-1 (4 * (2 + position_of c.word_number-c.result)) c.word_number.result
-stored c =
-    let p-is' : (p c) ≡ position_of c.word_number-c.result =
-        c.loop-i.invariant.2 c.word_number-c.result (below c) in
-    c.put_word.ensures ∙ ap (λ (q : ℕ). put_word c.loop-i.out-1 (4 * (2 + q)) c.word_number.result) p-is'
+-- the position that was read is the cell's, so the count was stored there
+stored : (o y : List ℕ) (q q' v : ℕ) → y ≡ put_word o (4 * (2 + q)) v → q ≡ q' → y ≡ put_word o (4 * (2 + q')) v
+stored o y q q' v e s = e ∙ ap (λ (r : ℕ). put_word o (4 * (2 + r)) v) s
 
 pub loop-i-preserved : goal.loop-i-preserved
 loop-i-preserved c =
     let a = c.args in
     let l = c.loop-i in
     let v = l.invariant in
-    let size = ap length (stored (goal.at.loop-i-preserved c).After-put_word) ∙ length_put l.out (4 * (2 + position_of c.word_number-c.result)) c.word_number.result in (
+    let r = (goal.at.loop-i-preserved c).After-word_number-c in
+    let x = c.word_number-c.result in
+    let there = stored l.out c.put_word.new.out (p r) (position_of x) c.word_number.result c.put_word.ensures (p-is r) in
+    let size = ap length there ∙ length_put l.out (4 * (2 + position_of x)) c.word_number.result in (
       set v.0 (position_of c.word_number-c.result) c.word_number.result,
       v.1,
       v.2,
@@ -62,7 +61,7 @@ loop-i-preserved c =
       size ∙ v.4,
       again a.s.now a.n a.e v.1 v.0 l.i v.5 c.loop-i-test.true c.word_number-c.result c.word_number.result c.word_number-c.ensures
           c.word_number.ensures,
-      λ base e. stored (goal.at.loop-i-preserved c).After-put_word ∙ ap (λ (o : List ℕ). put_word o (4 * (2 + position_of c.word_number-c.result)) c.word_number.result) (v.6 base e)
+      λ base e. there ∙ ap (λ (o : List ℕ). put_word o (4 * (2 + position_of c.word_number-c.result)) c.word_number.result) (v.6 base e)
           ∙ put_count base a.n a.t v.0 c.word_number-c.result c.word_number.result v.5.size,
     )
 

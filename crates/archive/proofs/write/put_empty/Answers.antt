@@ -1,5 +1,4 @@
 -- `archive::write::put_empty` meets its contract: two words and the zeros behind them are one record. Assumes nothing.
-use borrow.Author.Rules.{rules}
 use native.Mathlib.Omega.{arith}
 use Rattle.archive.proofs.Storing.{empty_placed}
 use Rattle.archive.proofs.write.put_empty.Goals as goal

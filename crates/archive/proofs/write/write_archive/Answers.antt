@@ -1,5 +1,4 @@
 -- `archive::write::write_archive` meets its contract: the sheet's refusal, or what writing gives. Assumes nothing.
-use borrow.Author.Rules.{rules}
 use mathlib.Core.Path.{sym, ap, ◌∙◌}
 use native.Mathlib.Omega.{arith}
 use Rattle.sheet.specs.declared.SheetAnswer.{SheetAnswer}
@@ -11,7 +10,7 @@ use Rattle.archive.proofs.write.write_archive.Goals as goal
 pub returns-in-Refused : goal.returns-in-Refused
 returns-in-Refused c =
     let whole =
-        ends_sheet _ _ (refusal_number c.in-Refused.r)
+    ends_sheet _ _ (refusal_number c.in-Refused.r)
     (ap (λ (x : SheetAnswer). x.refusal) (ap answer_of (sym c.in-Refused.is) ∙ c.read_sheet.ensures))
     (λ z. omega (arith, number_more c.in-Refused.r)) in
     record { answer = whole.0; bytes = whole.1 }
@@ -23,5 +22,5 @@ write_read-requires c =
 pub returns-in-Accepted : goal.returns-in-Accepted
 returns-in-Accepted c =
     let whole =
-        c.write_read.ensures in
-    record { answer = whole.0; bytes = whole.1 }
+    c.write_read.ensures in
+    record { answer = whole.answer; bytes = whole.bytes }

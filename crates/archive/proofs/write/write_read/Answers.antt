@@ -1,5 +1,4 @@
 -- `archive::write::write_read` meets its contract: the buffer's test is 56, and past it the archive is written. Assumes nothing.
-use borrow.Author.Rules.{rules}
 use native.Mathlib.Omega.{arith}
 use Rattle.sheet.proofs.Accepted.{reading_accepted, sheet_unpackable}
 use Rattle.archive.proofs.Checks.{ends_buffer, ends_archived}
@@ -8,7 +7,7 @@ use Rattle.archive.proofs.write.write_read.Goals as goal
 pub returns-then-out-lt-ARCHIVE_SIZE : goal.returns-then-out-lt-ARCHIVE_SIZE
 returns-then-out-lt-ARCHIVE_SIZE c =
     let whole =
-        ends_buffer _ _ c.requires (omega (arith, c.if-out-lt-ARCHIVE_SIZE.true)) in
+    ends_buffer _ _ c.requires (omega (arith, c.if-out-lt-ARCHIVE_SIZE.true)) in
     record { answer = whole.0; bytes = whole.1 }
 
 pub put_archive-requires : goal.put_archive-requires
@@ -18,5 +17,5 @@ put_archive-requires c =
 pub returns : goal.returns
 returns c =
     let whole =
-        ends_archived _ _ c.requires (omega (arith, c.if-out-lt-ARCHIVE_SIZE.false)) c.put_archive.ensures in
+    ends_archived _ _ c.requires (omega (arith, c.if-out-lt-ARCHIVE_SIZE.false)) c.put_archive.ensures in
     record { answer = whole.0; bytes = whole.1 }

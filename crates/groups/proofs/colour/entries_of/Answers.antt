@@ -1,6 +1,5 @@
 -- `groups::colour::entries_of` meets its contract: a node's own family has the colour of its distance, and its helpand's the other.
 -- Assumes nothing.
-use borrow.Author.Rules.{rules}
 use mathlib.Core.Path.{◌≡◌, sym, ap, ◌∙◌}
 use mathlib.Core.Bool.{true, false}
 use Prim.Native.Nat.{ℕ, ◌<◌}

@@ -1,39 +1,30 @@
-use borrow.Author.Rules.{rules}
 use mathlib.Core.Path.{◌≡◌, ◌∙◌}
-use mathlib.Core.Logic.{⊎_elim}
-use Prim.Native.Nat.{ℕ, ◌-◌, ◌≤◌, ◌<◌}
+use Prim.Native.Nat.{ℕ, ◌<◌}
 use native.Mathlib.Omega.{arith}
-use lib.ListN.{length, length-set, length-replicate}
+use lib.ListN.{length-set, length-replicate}
 use Rattle.arrays.specs.Arrays.{at}
-use Rattle.groups.proofs.Owners.{Owning, owning_none, owning_root, owning_helper}
-use Rattle.groups.proofs.colour.own_groups.Goals.{After-helpand-1, else-helpand-k, then-helpand-k}
+use Rattle.groups.proofs.Owners.{owning_none, owning_root, owning_helper}
+use Rattle.groups.proofs.colour.own_groups.Goals.{else-helpand-k, then-helpand-k}
 use Rattle.groups.proofs.colour.own_groups.Goals as goal
-
--- its helpand is a node
-below : (c : After-helpand-1) →
-    let a = c.args in
-    at a.helpands.now c.loop-k.k < a.nodes
-below c = c.requires.inside c.loop-k.k c.loop-k-test.true
-
-fits : (c : After-helpand-1) → at c.args.helpands.now c.loop-k.k < 64
-fits c = omega (arith, below c, c.requires.few)
 
 pub loop-k-preserved : goal.loop-k-preserved
 loop-k-preserved c =
     let a = c.args in
     let h = at a.helpands.now in
     let v = c.loop-k.invariant in
+    -- its helpand is a node
+    let below : h c.loop-k.k < a.nodes = c.requires.inside c.loop-k.k c.loop-k-test.true in
     elim c.if-helpand-k.branch [
-      | then-helpand-k w ↦ rw w.1 (
-      omega (arith, c.loop-k-test.true),
-      length-set c.loop-k.own _ _ ∙ v.1,
-      owning_helper a.nodes h c.loop-k.k c.loop-k.own v.2 w.if-helpand-k.true (omega (arith, fits (goal.at.loop-k-preserved c).After-helpand-1, v.1)),
-    )
-      | else-helpand-k w ↦ rw w.1 (
-      omega (arith, c.loop-k-test.true),
-      v.1,
-      owning_root a.nodes h c.loop-k.k c.loop-k.own v.2 w.if-helpand-k.false,
-    )
+      | then-helpand-k w ↦ rw w.own-is (
+        omega (arith, c.loop-k-test.true),
+        length-set c.loop-k.own _ _ ∙ v.1,
+        owning_helper a.nodes h c.loop-k.k c.loop-k.own v.2 w.if-helpand-k.true (omega (arith, below, c.requires.few, v.1)),
+      )
+      | else-helpand-k w ↦ rw w.own-is (
+        omega (arith, c.loop-k-test.true),
+        v.1,
+        owning_root a.nodes h c.loop-k.k c.loop-k.own v.2 w.if-helpand-k.false,
+      )
     ]
 
 pub returns : goal.returns
@@ -51,13 +42,13 @@ pub bounds-helpands-k : goal.bounds-helpands-k
 bounds-helpands-k c = omega (arith, c.loop-k-test.true, c.requires.few)
 
 pub overflow_cast-helpand : goal.overflow_cast-helpand
-overflow_cast-helpand c = omega (arith, fits (goal.at.overflow_cast-helpand c).After-helpand-1)
+overflow_cast-helpand c = omega (arith, c.requires.inside c.loop-k.k c.loop-k-test.true, c.requires.few)
 
 pub overflow_cast-own : goal.overflow_cast-own
-overflow_cast-own c = omega (arith, fits (goal.at.overflow_cast-own c).After-helpand-1)
+overflow_cast-own c = omega (arith, c.requires.inside c.loop-k.k c.loop-k-test.true, c.requires.few)
 
 pub offset_bounds-own-helpand : goal.offset_bounds-own-helpand
-offset_bounds-own-helpand c = omega (arith, fits (goal.at.offset_bounds-own-helpand c).After-helpand-1)
+offset_bounds-own-helpand c = omega (arith, c.requires.inside c.loop-k.k c.loop-k-test.true, c.requires.few)
 
 pub bounds-own-helpand : goal.bounds-own-helpand
-bounds-own-helpand c = omega (arith, fits (goal.at.bounds-own-helpand c).After-helpand-1)
+bounds-own-helpand c = omega (arith, c.requires.inside c.loop-k.k c.loop-k-test.true, c.requires.few)

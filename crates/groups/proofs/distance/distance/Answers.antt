@@ -1,5 +1,5 @@
 use mathlib.Core.Path.{◌≡◌}
-use Prim.Native.Nat.{◌+◌, ◌≤◌, ◌<◌}
+use Prim.Native.Nat.{◌+◌, ◌≤◌}
 use native.Mathlib.Omega.{arith}
 use Rattle.arrays.specs.Arrays.{at}
 use Rattle.groups.specs.Colour.{distance}
@@ -12,10 +12,10 @@ use Rattle.groups.proofs.distance.distance.Goals as goal
 nearer : (c : In-loop-node) →
     let a = c.args in
     let h = at a.helpands.now in
-    distance a.nodes h c.loop-node.node-1 ≡ distance a.nodes h (h c.loop-node.node-1) + 1
+    distance a.nodes h c.loop-node.node ≡ distance a.nodes h (h c.loop-node.node) + 1
 nearer c =
     let p = c.requires in
-    unknown-step p.0 p.1 c.loop-node.node-1 c.loop-node.invariant.0 c.loop-node-test.true
+    unknown-step p.0 p.1 c.loop-node.node c.loop-node.invariant.0 c.loop-node-test.true
 
 -- so few steps do not wrap
 short : (l : At-loop-node) → l.loop-node.steps ≤ 64
@@ -23,14 +23,14 @@ short l = omega (arith, l.loop-node.invariant.1, distance_most l.requires.0 l.ar
 
 pub loop-node-preserved : goal.loop-node-preserved
 loop-node-preserved c =
-    (c.requires.0.inside c.loop-node.node-1 c.loop-node.invariant.0, omega (arith, c.loop-node.invariant.1, nearer (goal.at.loop-node-preserved c).In-loop-node))
+    (c.requires.0.inside c.loop-node.node c.loop-node.invariant.0, omega (arith, c.loop-node.invariant.1, nearer (goal.at.loop-node-preserved c).In-loop-node))
 
 -- a node that is known
 known-right : (c : After-loop-node) →
     let a = c.args in
-    at a.known.now c.loop-node.node-1 ≡ distance a.nodes (at a.helpands.now) c.loop-node.node-1
+    at a.known.now c.loop-node.node ≡ distance a.nodes (at a.helpands.now) c.loop-node.node
 known-right c =
-    c.requires.1.right c.loop-node.node-1 c.loop-node.invariant.0 c.loop-node-test.false
+    c.requires.1.right c.loop-node.node c.loop-node.invariant.0 c.loop-node-test.false
 
 pub returns : goal.returns
 returns c =
@@ -53,8 +53,8 @@ bounds-helpands-node c = omega (arith, c.loop-node.invariant.0, c.requires.0.few
 
 pub overflow_cast-node : goal.overflow_cast-node
 overflow_cast-node c =
-        let p = c.requires.0 in
-    omega (arith, p.inside c.loop-node.node-1 c.loop-node.invariant.0, p.few)
+    let p = c.requires.0 in
+    omega (arith, p.inside c.loop-node.node c.loop-node.invariant.0, p.few)
 
 pub overflow_add-steps : goal.overflow_add-steps
 overflow_add-steps c = omega (arith, short (goal.at.overflow_add-steps c).At-loop-node)
@@ -69,4 +69,4 @@ pub bounds-known-node-2 : goal.bounds-known-node-2
 bounds-known-node-2 c = omega (arith, c.loop-node.invariant.0, c.requires.0.few)
 
 pub overflow_add-result : goal.overflow_add-result
-overflow_add-result c =     omega (arith, short (goal.at.overflow_add-result c).At-loop-node, known-right (goal.at.overflow_add-result c).After-loop-node, distance_most c.requires.0 c.loop-node.node-1)
+overflow_add-result c = omega (arith, short (goal.at.overflow_add-result c).At-loop-node, known-right (goal.at.overflow_add-result c).After-loop-node, distance_most c.requires.0 c.loop-node.node)

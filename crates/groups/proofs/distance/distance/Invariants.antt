@@ -1,11 +1,8 @@
 -- `groups::distance::distance` meets its contract: what is left of the distance is that of the node reached. Assumes nothing.
 use mathlib.Core.Path.{◌≡◌}
-use Prim.Native.Nat.{◌+◌, ◌≤◌, ◌<◌}
-use native.Mathlib.Omega.{arith}
+use Prim.Native.Nat.{◌+◌, ◌<◌}
 use Rattle.arrays.specs.Arrays.{at}
 use Rattle.groups.specs.Colour.{distance}
-use Rattle.groups.proofs.Distances.{distance_most}
-use Rattle.groups.proofs.Noting.{unknown-step}
 use Rattle.groups.proofs.distance.distance.Given as goal
 
 abbrev pub invariant-loop-node : goal.invariant-loop-node

@@ -1,10 +1,5 @@
-use borrow.Author.Rules.{rules}
-use mathlib.Core.Logic.{◌≢◌}
-use Prim.Native.Nat.{ℕ, ◌-◌, ◌≤◌, ◌<◌}
 use native.Mathlib.Decide.{ℕ_discrete}
 use native.Mathlib.Omega.{arith}
-use Rattle.arrays.specs.Arrays.{at}
-use Rattle.groups.specs.Inner.{Known, unknown}
 use Rattle.groups.proofs.distance.distances.Goals as goal
 
 pub distance-from-requires : goal.distance-from-requires
@@ -19,7 +14,7 @@ pub loop-k-preserved : goal.loop-k-preserved
 loop-k-preserved c =
     let n = c.note_chain.ensures in (
       omega (arith, c.loop-k-test.true),
-      n.known-1,
+      n.known,
       λ j b. elim (ℕ_discrete j c.loop-k.k) [
         | yes e ↦ rw e n.noted
         | no d ↦ n.kept j (c.loop-k.invariant.2 j (omega arith))

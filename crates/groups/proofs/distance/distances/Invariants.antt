@@ -1,9 +1,6 @@
 -- `groups::distance::distances` meets its contract: the distances of the nodes passed are known. Assumes nothing.
-use borrow.Author.Rules.{rules}
 use mathlib.Core.Logic.{◌≢◌}
 use Prim.Native.Nat.{ℕ, ◌-◌, ◌≤◌, ◌<◌}
-use native.Mathlib.Decide.{ℕ_discrete}
-use native.Mathlib.Omega.{arith}
 use Rattle.arrays.specs.Arrays.{at}
 use Rattle.groups.specs.Inner.{Known, unknown}
 use Rattle.groups.proofs.distance.distances.Given as goal

@@ -1,22 +1,17 @@
-use borrow.Author.Rules.{rules}
 use mathlib.Core.Path.{◌≡◌}
-use mathlib.Core.Logic.{⊎_elim}
-use Prim.Native.Nat.{◌-◌, ◌≤◌}
 use native.Mathlib.Omega.{arith}
-use Rattle.arrays.specs.Arrays.{at}
-use Rattle.groups.proofs.Noting.{RootsKnown, roots-none, roots-helper, roots-root, roots-all}
+use Rattle.groups.proofs.Noting.{roots-none, roots-helper, roots-root, roots-all}
 use Rattle.groups.proofs.distance.root_distances.Goals.{else-helpands-k, then-helpands-k}
 use Rattle.groups.proofs.distance.root_distances.Goals as goal
 
 pub loop-k-preserved : goal.loop-k-preserved
-loop-k-preserved c =
-    (
-      omega (arith, c.loop-k-test.true),
-      elim c.if-helpands-k.branch [
-      | then-helpands-k w ↦ rw w.1 (roots-root c.loop-k.invariant.1 (omega (arith, c.requires, c.loop-k-test.true)) w.if-helpands-k.true)
-      | else-helpands-k w ↦ rw w.1 (roots-helper c.loop-k.invariant.1 w.if-helpands-k.false)
-    ],
-    )
+loop-k-preserved c = (
+  omega (arith, c.loop-k-test.true),
+  elim c.if-helpands-k.branch [
+    | then-helpands-k w ↦ rw w.known-is (roots-root c.loop-k.invariant.1 (omega (arith, c.requires, c.loop-k-test.true)) w.if-helpands-k.true)
+    | else-helpands-k w ↦ rw w.known-is (roots-helper c.loop-k.invariant.1 w.if-helpands-k.false)
+  ],
+)
 
 pub returns : goal.returns
 returns c =

@@ -1,11 +1,7 @@
 -- `groups::distance::root_distances` meets its contract: the roots passed are known. Assumes nothing.
-use borrow.Author.Rules.{rules}
-use mathlib.Core.Path.{◌≡◌}
-use mathlib.Core.Logic.{⊎_elim}
 use Prim.Native.Nat.{◌-◌, ◌≤◌}
-use native.Mathlib.Omega.{arith}
 use Rattle.arrays.specs.Arrays.{at}
-use Rattle.groups.proofs.Noting.{RootsKnown, roots-none, roots-helper, roots-root, roots-all}
+use Rattle.groups.proofs.Noting.{RootsKnown}
 use Rattle.groups.proofs.distance.root_distances.Given as goal
 
 abbrev pub invariant-loop-k : goal.invariant-loop-k

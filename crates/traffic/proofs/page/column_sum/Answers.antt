@@ -1,8 +1,6 @@
-use borrow.Author.Rules.{rules}
 use mathlib.Core.Path.{◌≡◌, sym}
-use Prim.Native.Nat.{◌+◌, ◌-◌, ◌≤◌}
+use Prim.Native.Nat.{◌+◌, ◌≤◌}
 use native.Mathlib.Omega.{arith}
-use Rattle.fold.specs.Sum.{sum}
 use Rattle.fold.proofs.Sums.{sum-none, sum_more, sum_fewer}
 use Rattle.limit.specs.Limit.{max_total}
 use Rattle.arrays.specs.Arrays.{at}

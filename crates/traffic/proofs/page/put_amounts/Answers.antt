@@ -1,5 +1,4 @@
 -- `traffic::page::put_amounts` meets its contract: its five parts stand one behind the other. Assumes nothing.
-use borrow.Author.Rules.{rules}
 use mathlib.Core.Path.{◌≡◌}
 use Prim.Native.Nat.{◌+◌}
 use native.Mathlib.Omega.{arith}
@@ -17,15 +16,15 @@ at_1 c = c.put_byte-a.ensures.index
 at_11 : (c : After-put_right-b) → c.put_right-b.result ≡ c.args.at + 11
 at_11 c =
     let at_1' : c.put_byte-a.result ≡ c.args.at + 1 =
-        c.put_byte-a.ensures.index in
+    c.put_byte-a.ensures.index in
     let x = c.args.sent in
     omega (arith, c.put_right-b.ensures.index, at_1', length_aligned 10 (decimal x) (decimal-le x))
 
 at_12 : (c : After-put_byte-c) → c.put_byte-c.result ≡ c.args.at + 12
 at_12 c =
     let at_11' : c.put_right-b.result ≡ c.args.at + 11 =
-        let at_1' : c.put_byte-a.result ≡ c.args.at + 1 =
-        c.put_byte-a.ensures.index in
+    let at_1' : c.put_byte-a.result ≡ c.args.at + 1 =
+    c.put_byte-a.ensures.index in
     let x = c.args.sent in
     omega (arith, c.put_right-b.ensures.index, at_1', length_aligned 10 (decimal x) (decimal-le x)) in
     omega (arith, c.put_byte-c.ensures.index, at_11')
@@ -33,9 +32,9 @@ at_12 c =
 at_22 : (c : After-put_right-d) → c.put_right-d.result ≡ c.args.at + 22
 at_22 c =
     let at_12' : c.put_byte-c.result ≡ c.args.at + 12 =
-        let at_11' : c.put_right-b.result ≡ c.args.at + 11 =
-        let at_1' : c.put_byte-a.result ≡ c.args.at + 1 =
-        c.put_byte-a.ensures.index in
+    let at_11' : c.put_right-b.result ≡ c.args.at + 11 =
+    let at_1' : c.put_byte-a.result ≡ c.args.at + 1 =
+    c.put_byte-a.ensures.index in
     let x = c.args.sent in
     omega (arith, c.put_right-b.ensures.index, at_1', length_aligned 10 (decimal x) (decimal-le x)) in
     omega (arith, c.put_byte-c.ensures.index, at_11') in

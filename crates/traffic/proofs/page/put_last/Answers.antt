@@ -1,5 +1,4 @@
 -- `traffic::page::put_last` meets its contract: `==`, and what stands behind it. Assumes nothing.
-use borrow.Author.Rules.{rules}
 use Rattle.text.specs.Text.{ascii}
 use Rattle.text.proofs.Writing.{put_then}
 use Rattle.traffic.proofs.Lines.{line-is}

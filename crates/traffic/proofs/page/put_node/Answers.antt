@@ -1,5 +1,4 @@
 -- `traffic::page::put_node` meets its contract: the node in its two columns, and what stands behind it. Assumes nothing.
-use borrow.Author.Rules.{rules}
 use native.Mathlib.Omega.{arith}
 use Rattle.text.specs.Text.{decimal}
 use Rattle.text.proofs.Columns.{length_aligned}

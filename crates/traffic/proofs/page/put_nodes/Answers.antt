@@ -1,13 +1,8 @@
-use borrow.Author.Rules.{rules}
 use mathlib.Core.Path.{◌≡◌, refl}
-use Prim.Native.Nat.{◌-◌, ◌≤◌}
 use native.Mathlib.Omega.{arith}
-use lib.ListN.{length}
 use Rattle.fold.proofs.Lists.{collect-none, collect_more}
 use Rattle.arrays.specs.Arrays.{at}
-use Rattle.text.specs.Inner.{Put}
 use Rattle.text.proofs.Writing.{put_none, put_then}
-use Rattle.traffic.specs.Page.{node_lines}
 use Rattle.traffic.proofs.Lines.{length-nodes}
 use Rattle.traffic.proofs.page.put_nodes.Goals as goal
 

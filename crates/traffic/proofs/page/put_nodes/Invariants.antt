@@ -1,15 +1,10 @@
 -- `traffic::page::put_nodes` meets its contract: after k turns the lines of the nodes below k are written. Assumes nothing.
-use borrow.Author.Rules.{rules}
-use mathlib.Core.Path.{◌≡◌, refl}
+use mathlib.Core.Path.{◌≡◌}
 use Prim.Native.Nat.{◌-◌, ◌≤◌}
-use native.Mathlib.Omega.{arith}
 use lib.ListN.{length}
-use Rattle.fold.proofs.Lists.{collect-none, collect_more}
 use Rattle.arrays.specs.Arrays.{at}
 use Rattle.text.specs.Inner.{Put}
-use Rattle.text.proofs.Writing.{put_none, put_then}
 use Rattle.traffic.specs.Page.{node_lines}
-use Rattle.traffic.proofs.Lines.{length-nodes}
 use Rattle.traffic.proofs.page.put_nodes.Given as goal
 
 abbrev pub invariant-loop-k : goal.invariant-loop-k

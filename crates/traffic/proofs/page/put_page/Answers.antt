@@ -1,5 +1,4 @@
 -- `traffic::page::put_page` meets its contract: the lines of the nodes, and the last one behind them. Assumes nothing.
-use borrow.Author.Rules.{rules}
 use native.Mathlib.Omega.{arith}
 use Rattle.arrays.specs.Arrays.{at}
 use Rattle.traffic.proofs.Lines.{length-nodes, page_put}
