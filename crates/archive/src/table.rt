@@ -1,4 +1,4 @@
-// The fixed table of 4,096 positions, request 2026-09: for each holder the positions of its cells, a line for each subdomain. The proof of
+// The fixed table of 4,096 positions, request 2026-09: for each holder the positions of its cells, by rising subdomain. The proof of
 // `order::positions` holds every entry to the rule of the Z order.
 use limit::TABLE_SIZE;
 

@@ -1,13 +1,8 @@
-use borrow.Author.Rules.{rules}
 use borrow.Author.Tests.{le-leb, lt-leb}
 use mathlib.Core.Path.{◌≡◌, sym, ◌∙◌}
-use mathlib.Core.Logic.{⊎_elim}
-use Prim.Native.Nat.{◌+◌, ◌-◌, ◌≤◌}
+use Prim.Native.Nat.{◌+◌}
 use native.Mathlib.Omega.{arith}
-use lib.Dec.{leb}
-use Rattle.fold.specs.All.{all}
 use Rattle.fold.proofs.Tests.{all_none, all-passes, all_fails}
-use Rattle.arrays.specs.Arrays.{at}
 use Rattle.arrays.proofs.all_at_most.Goals.{else-bound-entries, then-bound-entries}
 use Rattle.arrays.proofs.all_at_most.Goals as goal
 
@@ -16,9 +11,9 @@ loop-k-preserved c =
     let l = c.loop-k in (
       omega (arith, c.loop-k-test.true),
       elim c.if-bound-entries.branch [
-      | then-bound-entries w ↦ w.fine-is ∙ sym (all_fails (l.k + 1) _ l.k (omega arith) (lt-leb _ _ w.if-bound-entries.true))
-      | else-bound-entries w ↦ w.fine-is ∙ l.invariant.1 ∙ sym (all-passes l.k _ (le-leb _ _ w.if-bound-entries.false))
-    ],
+        | then-bound-entries w ↦ w.fine-is ∙ sym (all_fails (l.k + 1) _ l.k (omega arith) (lt-leb _ _ w.if-bound-entries.true))
+        | else-bound-entries w ↦ w.fine-is ∙ l.invariant.1 ∙ sym (all-passes l.k _ (le-leb _ _ w.if-bound-entries.false))
+      ],
     )
 
 pub returns : goal.returns

@@ -23,7 +23,7 @@ handed-on s a b x y c d x₁ y₁ e f g h = rw (g, h, f, e) (half_first s a b x 
 size-inside : (c : After-firrozka_carry_out-a) → c.firrozka_carry_out-a.result.bytes ≤ length c.args.between.now
 size-inside c =
     let a = c.args in
-    let inside = carry_inside a.sheet.now a.first.now (length a.between.now) in
+    let inside = carry_inside a.sheet.now a.first.now (length a.between-1.now) in
     omega (arith, ap (λ (r : WrittenAnswer). r.bytes) c.firrozka_carry_out-a.ensures.answer, inside)
 
 pub firrozka_carry_out-a-requires : goal.firrozka_carry_out-a-requires

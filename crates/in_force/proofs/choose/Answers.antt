@@ -33,24 +33,24 @@ returns-then-a-b c =
 
 pub returns-then-b-ne1 : goal.returns-then-b-ne1
 returns-then-b-ne1 c =
-    sym (force_new _ _ _ _ _ (old-read (goal.at.returns-then-b-ne1 c).In-Accepted) _ _ _ (new-read (goal.at.returns-then-b-ne1 c).In-Accepted-read_plan) c.if-a-b.false c.if-b-ne1.true)
+    sym (force_new _ _ _ _ _ (old-read (goal.at.returns-then-b-ne1 c).In-Accepted) _ _ _ (new-read (goal.at.returns-then-b-ne1 c).In-Accepted-read_plan) (omega arith) c.if-b-ne1.true)
 
 pub returns-then-a-eq0 : goal.returns-then-a-eq0
 returns-then-a-eq0 c =
-    sym (force_primary _ _ _ _ _ (old-read (goal.at.returns-then-a-eq0 c).In-Accepted) _ _ _ (new-read (goal.at.returns-then-a-eq0 c).In-Accepted-read_plan) c.if-a-b.false c.if-b-ne1.false c.if-a-eq0.true)
+    sym (force_primary _ _ _ _ _ (old-read (goal.at.returns-then-a-eq0 c).In-Accepted) _ _ _ (new-read (goal.at.returns-then-a-eq0 c).In-Accepted-read_plan) (omega arith) c.if-b-ne1.false c.if-a-eq0.true)
 
 pub same_helpands-requires : goal.same_helpands-requires
 same_helpands-requires c =
     let x = reading_accepted _ c.in-Accepted.a (old-read (goal.at.same_helpands-requires c).In-Accepted) in
     let y = reading_accepted _ c.in-Accepted-read_plan.b (new-read (goal.at.same_helpands-requires c).In-Accepted-read_plan) in
-    omega (arith, x.size, y.size, c.if-a-b.false)
+    omega (arith, x.size, y.size)
 
 pub returns-then-same_helpands : goal.returns-then-same_helpands
 returns-then-same_helpands c =
-    sym (force_kept _ _ _ _ _ (old-read (goal.at.returns-then-same_helpands c).In-Accepted) _ _ _ (new-read (goal.at.returns-then-same_helpands c).In-Accepted-read_plan) c.if-a-b.false c.if-b-ne1.false c.if-a-eq0.false
+    sym (force_kept _ _ _ _ _ (old-read (goal.at.returns-then-same_helpands c).In-Accepted) _ _ _ (new-read (goal.at.returns-then-same_helpands c).In-Accepted-read_plan) (omega arith) c.if-b-ne1.false (omega arith)
     (sym c.same_helpands.ensures ∙ c.if-same_helpands.true))
 
 pub returns-else-same_helpands : goal.returns-else-same_helpands
 returns-else-same_helpands c =
-    sym (force_other _ _ _ _ _ (old-read (goal.at.returns-else-same_helpands c).In-Accepted) _ _ _ (new-read (goal.at.returns-else-same_helpands c).In-Accepted-read_plan) c.if-a-b.false c.if-b-ne1.false c.if-a-eq0.false
+    sym (force_other _ _ _ _ _ (old-read (goal.at.returns-else-same_helpands c).In-Accepted) _ _ _ (new-read (goal.at.returns-else-same_helpands c).In-Accepted-read_plan) (omega arith) c.if-b-ne1.false (omega arith)
     (sym c.same_helpands.ensures ∙ c.if-same_helpands.false))

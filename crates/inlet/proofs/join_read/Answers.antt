@@ -25,19 +25,19 @@ others c = second_facts c.requires
 pub returns-then-a-b : goal.returns-then-a-b
 returns-then-a-b c =
     let whole =
-        ends_nodes c.requires _ c.if-a-b.true in
+    ends_nodes c.requires _ c.if-a-b.true in
     record { answer = whole.0; bytes = whole.1 }
 
 pub returns-then-a-b-2 : goal.returns-then-a-b-2
 returns-then-a-b-2 c =
     let whole =
-        ends_tolerance c.requires _ c.if-a-b-2.true in
+    ends_tolerance c.requires _ c.if-a-b-2.true in
     record { answer = whole.0; bytes = whole.1 }
 
 pub returns-then-a-b-gt-MAX_TOTAL : goal.returns-then-a-b-gt-MAX_TOTAL
 returns-then-a-b-gt-MAX_TOTAL c =
     let whole =
-        ends_total c.requires _ c.if-a-b.false c.if-a-b-2.false c.if-a-b-gt-MAX_TOTAL.true in
+    ends_total c.requires _ c.if-a-b.false c.if-a-b-2.false c.if-a-b-gt-MAX_TOTAL.true in
     record { answer = whole.0; bytes = whole.1 }
 
 table_is : (c : After-add_counts) → c.add_counts.new.table ≡ joined_table c.args.first.now c.args.second.now

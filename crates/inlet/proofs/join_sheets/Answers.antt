@@ -15,7 +15,7 @@ use Rattle.inlet.proofs.join_sheets.Goals as goal
 pub returns-in-Refused : goal.returns-in-Refused
 returns-in-Refused c =
     let whole =
-        ends_first _ _ _ (refusal_number c.in-Refused.r)
+    ends_first _ _ _ (refusal_number c.in-Refused.r)
     (ap (λ (x : SheetAnswer). x.refusal) (ap sheet_answer (sym c.in-Refused.is) ∙ c.read_sheet.ensures))
     (λ z. omega (arith, number_more c.in-Refused.r)) in
     record { answer = whole.0; bytes = whole.1 }
@@ -26,7 +26,7 @@ first_read c = ap sheet_answer (sym c.in-Accepted.is) ∙ c.read_sheet.ensures
 pub returns-in-Refused-read_sheet : goal.returns-in-Refused-read_sheet
 returns-in-Refused-read_sheet c =
     let whole =
-        ends_second _ _ _ (ap (λ (x : SheetAnswer). x.refusal) (first_read (goal.at.returns-in-Refused-read_sheet c).After-read_sheet-in-Accepted)) (refusal_number c.in-Refused-read_sheet.r)
+    ends_second _ _ _ (ap (λ (x : SheetAnswer). x.refusal) (first_read (goal.at.returns-in-Refused-read_sheet c).After-read_sheet-in-Accepted)) (refusal_number c.in-Refused-read_sheet.r)
     (ap (λ (x : SheetAnswer). x.refusal) (ap sheet_answer (sym c.in-Refused-read_sheet.is) ∙ c.read_sheet-in-Accepted.ensures))
     (λ z. omega (arith, number_more c.in-Refused-read_sheet.r)) in
     record { answer = whole.0; bytes = whole.1 }
@@ -38,5 +38,5 @@ join_read-requires c =
 pub returns-in-Accepted-read_sheet : goal.returns-in-Accepted-read_sheet
 returns-in-Accepted-read_sheet c =
     let whole =
-        c.join_read.ensures in
+    c.join_read.ensures in
     record { answer = whole.answer; bytes = whole.bytes }

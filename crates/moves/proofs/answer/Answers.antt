@@ -1,5 +1,4 @@
 -- `moves::answer` meets its contract, case by case. Assumes nothing.
-use borrow.Author.Rules.{rules}
 use mathlib.Core.Path.{sym, ap, ◌∙◌}
 use Rattle.moves.specs.Moves.{refused, answer_of}
 use Rattle.moves.proofs.answer.Goals as goal

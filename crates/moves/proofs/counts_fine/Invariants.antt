@@ -1,19 +1,10 @@
 -- `moves::counts_fine` meets its contract: at the loop's head the whole answer is that of the counts that are left. Assumes
 -- nothing.
-use borrow.Author.Rules.{rules}
-use mathlib.Core.Path.{◌≡◌, refl, sym, ◌∙◌}
-use mathlib.Core.Bool.{true, false, and-false}
-use mathlib.Core.List.{◌∷◌}
-use Prim.Native.Nat.{◌+◌, ◌-◌, ◌≤◌}
-use native.Mathlib.Omega.{arith}
-use borrow.Author.Tests.{lt-leb}
+use mathlib.Core.Path.{◌≡◌}
+use Prim.Native.Nat.{◌-◌, ◌≤◌}
 use lib.ListN.{drop}
 use Rattle.fold.specs.All.{every}
-use Rattle.fold.proofs.Tests.{every_more, every_fails}
-use Rattle.limit.specs.Limit.{max_total}
-use Rattle.words.proofs.Words.{part_more, part_end}
 use Rattle.moves.specs.Moves.{counts_of, count_fine}
-use Rattle.moves.proofs.Laws.{count_of_lem}
 use Rattle.moves.proofs.counts_fine.Given as goal
 
 abbrev pub invariant-loop-i : goal.invariant-loop-i

@@ -1,8 +1,6 @@
 -- `moves::read_entries` meets its contract: each way out gives the answer of the first check that refuses. Assumes nothing.
-use borrow.Author.Rules.{rules}
 use mathlib.Core.Path.{◌≡◌, sym, ◌∙◌}
 use mathlib.Core.Bool.{true}
-use borrow.Author.Tests.{not-true, not-false}
 use Rattle.fold.specs.Rising.{rising}
 use Rattle.moves.specs.Moves.{routes_of, route_fine}
 use Rattle.moves.proofs.read_entries.Goals.{Else-not-routes_fine}

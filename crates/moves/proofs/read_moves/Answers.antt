@@ -1,5 +1,4 @@
 -- `moves::read_moves` meets its contract: each way out gives the answer of the first check that refuses. Assumes nothing.
-use borrow.Author.Rules.{rules}
 use mathlib.Core.Path.{◌≡◌, sym, ◌∙◌}
 use mathlib.Core.Bool.{true, false, not}
 use mathlib.Core.List.{List}
@@ -8,7 +7,7 @@ use native.Mathlib.Nat.{mul-le-mul}
 use native.Mathlib.Omega.{arith}
 use lib.Dec.{ltb, eqb}
 use lib.ListN.{length}
-use borrow.Author.Tests.{lt-ltb, le-ltb, eq-eqb, ne_eqb, not-true, not-false}
+use borrow.Author.Tests.{lt-ltb, le-ltb, eq-eqb, ne_eqb}
 use Rattle.limit.specs.Limit.{max_nodes, one_to}
 use Rattle.limit.proofs.Laws.{one-to-is}
 use Rattle.moves.specs.Moves.{refused, head_answer, entries_answer, read_moves}
@@ -20,10 +19,13 @@ use Rattle.moves.proofs.read_moves.Goals as goal
 module _ (c : After-word_number-e) where
   abbrev s : List ℕ
   s = c.args.s.now
+
   abbrev n : ℕ
   n = c.word_number-n.result
+
   abbrev e : ℕ
   e = c.word_number-e.result
+
   head : read_moves s ≡ head_answer s n e
   unfolding read_moves
   head = simp (le-ltb (length s) 8 (omega arith), ← c.word_number-n.ensures, ← c.word_number-e.ensures)
@@ -41,7 +43,7 @@ ranges : (c : Else-not-one_to) →
 unfolding read_moves
 ranges c =
     let first : read_moves c.args.s.now ≡ head_answer c.args.s.now c.word_number-n.result c.word_number-e.result =
-        simp (le-ltb (length c.args.s.now) 8 (omega arith), ← c.word_number-n.ensures, ← c.word_number-e.ensures) in
+    simp (le-ltb (length c.args.s.now) 8 (omega arith), ← c.word_number-n.ensures, ← c.word_number-e.ensures) in
     first ∙ rw (nodes c)
 
 pub returns-then-s-lt8 : goal.returns-then-s-lt8

@@ -1,5 +1,4 @@
 -- `plan::answer` meets its contract, one case at a time. Assumes nothing.
-use borrow.Author.Rules.{rules}
 use mathlib.Core.Path.{sym, ap, ◌∙◌}
 use Rattle.plan.specs.Plan.{refused, answer_of}
 use Rattle.plan.proofs.answer.Goals as goal

@@ -1,6 +1,5 @@
 -- `plan::read_arrays` meets its contract: each check's answer is that of its definition on the words read. Assumes nothing.
 use borrow.Author.Rules.{rules}
-use borrow.Author.Tests.{not-true, not-false}
 use mathlib.Core.Path.{◌≡◌, sym, ap, ap₂, ◌∙◌}
 use mathlib.Core.Bool.{true}
 use Prim.Native.Nat.{ℕ}
@@ -29,7 +28,7 @@ below : (c : After-helpands_below) →
 below c =
     let same' : let a = c.args in
     at c.words_64-helpands.result ≡ at (helpands_of a.s.now a.n) =
-        let a = c.args in
+    let a = c.args in
     ap at c.words_64-helpands.ensures ∙ padded-same (helpands_of a.s.now a.n) in
     let a = c.args in
     c.helpands_below.ensures ∙ ap (λ (h : ℕ → ℕ). helpands_below a.n h) same'
@@ -40,7 +39,7 @@ shape : (c : After-check_shape-shape) →
 shape c =
     let same' : let a = c.args in
     at c.words_64-helpands.result ≡ at (helpands_of a.s.now a.n) =
-        let a = c.args in
+    let a = c.args in
     ap at c.words_64-helpands.ensures ∙ padded-same (helpands_of a.s.now a.n) in
     let a = c.args in
     c.check_shape-shape.ensures ∙ ap (λ (h : ℕ → ℕ). checked_of (shape_fine a.n a.kind h)) same'
@@ -51,7 +50,7 @@ fine : (c : After-shares_fine) →
 fine c =
     let same' : let a = c.args in
     at c.words_64-helpands.result ≡ at (helpands_of a.s.now a.n) =
-        let a = c.args in
+    let a = c.args in
     ap at c.words_64-helpands.ensures ∙ padded-same (helpands_of a.s.now a.n) in
     let a = c.args in
     let x = ap at c.words_64-shares.ensures ∙ padded-same (shares_of a.s.now a.n) in
@@ -64,9 +63,9 @@ passed : (c : Else-not-helpands_below) →
 passed c =
     let below' : let a = c.args in
     c.helpands_below.result ≡ helpands_below a.n (at (helpands_of a.s.now a.n)) =
-        let same' : let a = c.args in
+    let same' : let a = c.args in
     at c.words_64-helpands.result ≡ at (helpands_of a.s.now a.n) =
-        let a = c.args in
+    let a = c.args in
     ap at c.words_64-helpands.ensures ∙ padded-same (helpands_of a.s.now a.n) in
     let a = c.args in
     c.helpands_below.ensures ∙ ap (λ (h : ℕ → ℕ). helpands_below a.n h) same' in

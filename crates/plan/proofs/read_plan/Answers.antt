@@ -1,6 +1,4 @@
 -- `plan::read_plan` meets its contract: the checks passed take the definition's answer to what is left of it. Assumes nothing.
-use borrow.Author.Rules.{rules}
-use borrow.Author.Tests.{not-true, not-false}
 use mathlib.Core.Path.{◌≡◌, sym, ◌∙◌}
 use mathlib.Core.Bool.{true}
 use native.Mathlib.Omega.{arith}

@@ -37,7 +37,7 @@ both_read c x tree e f = record { sheet = (sheet-read c); old = sym c.read_old.e
 pub returns-in-Refused : goal.returns-in-Refused
 returns-in-Refused c =
     let whole =
-        let refused = ap old_of (sym c.in-Refused.is) ∙ c.read_old.ensures in
+    let refused = ap old_of (sym c.in-Refused.is) ∙ c.read_old.ensures in
     ends_old _ _ _ _ c.in-Accepted.s.n (ap (λ (x : SheetAnswer). x.refusal) (sheet-read (goal.at.returns-in-Refused c).After-read_old))
     (ap (λ (x : SheetAnswer). x.n) (sheet-read (goal.at.returns-in-Refused c).After-read_old)) (number_of c.in-Refused.r) refused (number_more c.in-Refused.r) in
     record { answer = whole.0; plan = whole.1.0; moves = whole.1.1 }
@@ -54,11 +54,11 @@ plan_read-requires-in-NoTree c = both_read (goal.at.plan_read-requires-in-NoTree
 pub returns-in-Tree : goal.returns-in-Tree
 returns-in-Tree c =
     let whole =
-        c.plan_read.ensures in
+    c.plan_read.ensures in
     record { answer = whole.answer; plan = whole.plan; moves = whole.moves }
 
 pub returns-in-NoTree : goal.returns-in-NoTree
 returns-in-NoTree c =
     let whole =
-        c.plan_read-in-NoTree.ensures in
+    c.plan_read-in-NoTree.ensures in
     record { answer = whole.answer; plan = whole.plan; moves = whole.moves }

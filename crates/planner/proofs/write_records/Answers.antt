@@ -32,13 +32,13 @@ moves-size c = let q = c.requires in length-moves c.args.n c.args.e _ _ q.2 q.3
 pub returns-then-plan-plan_size : goal.returns-then-plan-plan_size
 returns-then-plan-plan_size c =
     let whole =
-        writes_plan_short _ _ _ _ _ _ _ (plan-size (goal.at.returns-then-plan-plan_size c).After-shared_slice_known-2-1) c.if-plan-plan_size.true in
+    writes_plan_short _ _ _ _ _ _ _ (plan-size (goal.at.returns-then-plan-plan_size c).After-shared_slice_known-2-1) c.if-plan-plan_size.true in
     record { answer = whole.0; plan = whole.1.0; moves = whole.1.1 }
 
 pub returns-then-moves-moves_size : goal.returns-then-moves-moves_size
 returns-then-moves-moves_size c =
     let whole =
-        writes_moves_short _ _ _ _ _ _ _ (plan-size (goal.at.returns-then-moves-moves_size c).After-shared_slice_known-2-1) c.if-plan-plan_size.false _
+    writes_moves_short _ _ _ _ _ _ _ (plan-size (goal.at.returns-then-moves-moves_size c).After-shared_slice_known-2-1) c.if-plan-plan_size.false _
     (moves-size (goal.at.returns-then-moves-moves_size c).After-shared_slice_known-2-1) c.if-moves-moves_size.true in
     record { answer = whole.0; plan = whole.1.0; moves = whole.1.1 }
 

@@ -27,17 +27,17 @@ loop-k-preserved c =
     let h : k < 64 = omega arith in
     elim c.if-in_b.branch [
       | then-in_b w ↦ (
-      search rules,
-      v.1,
-      w.helpands-is ∙ tabulate-next (new_helpand s root) k root c.loop-k.helpands h v.2 (sym (helpand_in s k root (o ∙ w.if-in_b.true))),
-      w.shares-is ∙ tabulate-next (new_share s) k 0 c.loop-k.shares h v.3 (sym (share_in s k (o ∙ w.if-in_b.true))),
-    )
+        search rules,
+        v.1,
+        w.helpands-is ∙ tabulate-next (new_helpand s root) k root c.loop-k.helpands h v.2 (sym (helpand_in s k root (o ∙ w.if-in_b.true))),
+        w.shares-is ∙ tabulate-next (new_share s) k 0 c.loop-k.shares h v.3 (sym (share_in s k (o ∙ w.if-in_b.true))),
+      )
       | else-in_b w ↦ (
-      search rules,
-      v.1,
-      w.helpands-is ∙ tabulate-next (new_helpand s root) k _ c.loop-k.helpands h v.2 (sym (helpand-out s k root (o ∙ w.if-in_b.false))),
-      w.shares-is ∙ tabulate-next (new_share s) k _ c.loop-k.shares h v.3 (sym (share-out s k (o ∙ w.if-in_b.false))),
-    )
+        search rules,
+        v.1,
+        w.helpands-is ∙ tabulate-next (new_helpand s root) k _ c.loop-k.helpands h v.2 (sym (helpand-out s k root (o ∙ w.if-in_b.false))),
+        w.shares-is ∙ tabulate-next (new_share s) k _ c.loop-k.shares h v.3 (sym (share-out s k (o ∙ w.if-in_b.false))),
+      )
     ]
 
 pub returns : goal.returns
@@ -47,14 +47,13 @@ returns c =
     rw (v.2, v.3, e) (sym (finish-at _ _ _ v.1))
 
 pub loop-k-init : goal.loop-k-init
-loop-k-init c =
-    (
-      search rules,
-      sym c.lowest_in_b.ensures
-          ∙ c.in-At.is,
-      sym (tabulate-none _),
-      sym (tabulate-none _),
-    )
+loop-k-init c = (
+  search rules,
+  sym c.lowest_in_b.ensures
+      ∙ c.in-At.is,
+  sym (tabulate-none _),
+  sym (tabulate-none _),
+)
 
 pub overflow_cast-helpands : goal.overflow_cast-helpands
 overflow_cast-helpands c = omega (arith, (best-found _ _ _ _ c.loop-k.invariant.1).0)

@@ -63,7 +63,7 @@ g_is c = sym c.choose.ensures ∙ c.in-At-choose.is
 g_fits : (c : In-At-choose) → Served c.args.nodes c.loop-l.s c.in-At.l c.in-At-choose.g
 g_fits c =
     let l_is' : next_l c.args.nodes c.loop-l.s ≡ At c.in-At.l =
-        sym c.smallest_in_a.ensures ∙ c.in-At.is in
+    sym c.smallest_in_a.ensures ∙ c.in-At.is in
     reached_served c.args.nodes c.args.p c.requires.1 (at c.args.totals)
     c.args.old (old_below c.args.nodes c.args.old c.requires.2)
     _ c.loop-l.s c.loop-l.invariant c.in-At.l c.in-At-choose.g l_is' (g_is c)
@@ -87,9 +87,9 @@ returns c =
     c.finish.ensures
     ∙ ap (finish_of a.nodes) (sym (elim c.match-smallest_in_a.branch [
       | in-At+in_default-choose w ↦ absurd (reached-some a.nodes a.p c.requires.1 (at a.totals) a.old (old_below a.nodes a.old c.requires.2) _ _
-        c.loop-l.invariant _ (sym c.smallest_in_a.ensures ∙ w.in-At.is) (sym w.choose.ensures ∙ w.in_default-choose.is))
+          c.loop-l.invariant _ (sym c.smallest_in_a.ensures ∙ w.in-At.is) (sym w.choose.ensures ∙ w.in_default-choose.is))
       | in_default w ↦ reached-end a.nodes a.p c.requires.1 (at a.totals) a.old (old_below a.nodes a.old c.requires.2) _ _
-        c.loop-l.invariant (sym c.smallest_in_a.ensures ∙ w.in_default.is)
+          c.loop-l.invariant (sym c.smallest_in_a.ensures ∙ w.in_default.is)
     ]))
 
 pub offset_bounds-s-l : goal.offset_bounds-s-l

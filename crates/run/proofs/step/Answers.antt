@@ -12,23 +12,17 @@ use Rattle.run.proofs.Planned.{Answered, number_text, plan_in_front, moves_in_fr
 use Rattle.run.proofs.step.Goals.{After-answer-answer, Else-answer-ne0}
 use Rattle.run.proofs.step.Goals as goal
 
--- the two buffers, which began as zeros: the last of the four that were lent
-abbrev plan : (c : After-answer-answer) → List ℕ
-plan c = let buffers = c.plan_step.last.1.1 in buffers.0
-
-abbrev moves : (c : After-answer-answer) → List ℕ
-moves c = let buffers = c.plan_step.last.1.1 in buffers.1.0
-
+-- the two buffers began as zeros
 answered : (c : After-answer-answer) → Answered c.args.sheet.now c.args.old.now c.answer-answer.result (replicate plan_size 0) (replicate moves_size 0)
-    (plan c) (moves c)
+    c.plan_step.new.plan c.plan_step.new.moves
 answered c =
     let e = c.plan_step.ensures in
     record {
       plan_long = length-replicate {A = ℕ} plan_size 0;
       moves_long = length-replicate {A = ℕ} moves_size 0;
-      answer = c.answer-answer.ensures ∙ e.0;
-      plan_after_lem = e.1.0;
-      moves_after_lem = e.1.1;
+      answer = c.answer-answer.ensures ∙ e.answer;
+      plan_after_lem = e.plan;
+      moves_after_lem = e.moves;
     }
 
 pub returns-then-answer-ne0 : goal.returns-then-answer-ne0
@@ -36,31 +30,31 @@ returns-then-answer-ne0 c =
     let same = number_text (answered (goal.at.returns-then-answer-ne0 c).After-answer-answer) c.if-answer-ne0.true in
     record { size = c.write_refused.ensures.size ∙ ap length same; bytes = c.write_refused.ensures.bytes ∙ ap (λ (x : List ℕ). placed x c.args.out.now) same }
 
-plan-within : (c : Else-answer-ne0) → c.answer-answer.result.plan-1 ≤ length (plan c)
+plan-within : (c : Else-answer-ne0) → c.answer-answer.result.plan ≤ length c.plan_step.new.plan
 plan-within c =
     let answered' : Answered c.args.sheet.now c.args.old.now c.answer-answer.result (replicate plan_size 0) (replicate moves_size 0)
-    (plan c) (moves c) =
+    c.plan_step.new.plan c.plan_step.new.moves =
         let e = c.plan_step.ensures in
     record {
       plan_long = length-replicate {A = ℕ} plan_size 0;
       moves_long = length-replicate {A = ℕ} moves_size 0;
-      answer = c.answer-answer.ensures ∙ e.0;
-      plan_after_lem = e.1.0;
-      moves_after_lem = e.1.1;
+      answer = c.answer-answer.ensures ∙ e.answer;
+      plan_after_lem = e.plan;
+      moves_after_lem = e.moves;
     } in
     (plan_in_front answered' c.if-answer-ne0.false).within
 
-moves-within : (c : Else-answer-ne0) → c.answer-answer.result.moves-1 ≤ length (moves c)
+moves-within : (c : Else-answer-ne0) → c.answer-answer.result.moves ≤ length c.plan_step.new.moves
 moves-within c =
     let answered' : Answered c.args.sheet.now c.args.old.now c.answer-answer.result (replicate plan_size 0) (replicate moves_size 0)
-    (plan c) (moves c) =
+    c.plan_step.new.plan c.plan_step.new.moves =
         let e = c.plan_step.ensures in
     record {
       plan_long = length-replicate {A = ℕ} plan_size 0;
       moves_long = length-replicate {A = ℕ} moves_size 0;
-      answer = c.answer-answer.ensures ∙ e.0;
-      plan_after_lem = e.1.0;
-      moves_after_lem = e.1.1;
+      answer = c.answer-answer.ensures ∙ e.answer;
+      plan_after_lem = e.plan;
+      moves_after_lem = e.moves;
     } in
     (moves_in_front answered' c.if-answer-ne0.false).within
 

@@ -1,5 +1,4 @@
 -- `sheet::answer` meets its contract, case by case. Assumes nothing.
-use borrow.Author.Rules.{rules}
 use mathlib.Core.Path.{sym, ap, ◌∙◌}
 use Rattle.sheet.specs.Sheet.{refused, answer_of}
 use Rattle.sheet.proofs.answer.Goals as goal

@@ -1,5 +1,4 @@
 -- `sheet::read_entries` meets its contract: each way out gives the answer of the first check that refuses. Assumes nothing.
-use borrow.Author.Rules.{rules}
 use borrow.Author.Tests.{eq-eqb, ne_eqb}
 use mathlib.Core.Path.{sym, ◌∙◌}
 use native.Mathlib.Omega.{arith}

@@ -1,6 +1,5 @@
 -- `sheet::read_header` meets its contract: each way out gives the answer of the first check that refuses. Assumes nothing.
-use borrow.Author.Rules.{rules}
-use borrow.Author.Tests.{lt-ltb, le-ltb, not-true, not-false}
+use borrow.Author.Tests.{lt-ltb, le-ltb}
 use mathlib.Core.Path.{◌≡◌, sym, ◌∙◌}
 use mathlib.Core.Bool.{true, false}
 use Prim.Native.Nat.{◌*◌}
@@ -58,7 +57,7 @@ ranges : (c : Else-not-one_to-2) →
 unfolding read_header
 ranges c =
     let first : read_header c.args.s.now ≡ ranges_answer c.word_number-n.result c.word_number-t.result c.word_number-e.result =
-        simp (le-ltb _ _ c.if-s-lt12.false, ← c.word_number-n.ensures, ← c.word_number-t.ensures, ← c.word_number-e.ensures) in
+    simp (le-ltb _ _ c.if-s-lt12.false, ← c.word_number-n.ensures, ← c.word_number-t.ensures, ← c.word_number-e.ensures) in
     let nodes : one_to max_nodes c.word_number-n.result ≡ true = sym c.one_to.ensures ∙ c.if-not-one_to.false in
     let fine : one_to max_tolerance c.word_number-t.result ≡ true = sym c.one_to-2.ensures ∙ c.if-not-one_to-2.false in
     first ∙ rw (nodes, fine)

@@ -1,5 +1,4 @@
 -- `sheet::read_sheet` meets its contract: a header that is refused refuses the sheet, and past it the entries decide. Assumes nothing.
-use borrow.Author.Rules.{rules}
 use mathlib.Core.Path.{◌≡◌, sym, ap, ◌∙◌}
 use native.Mathlib.Omega.{arith}
 use lib.ListN.{get_or}

@@ -1,10 +1,8 @@
-use borrow.Author.Rules.{rules}
 use mathlib.Core.Path.{◌≡◌, refl, sym, ◌∙◌}
 use mathlib.Core.List.{◌∷◌}
-use Prim.Native.Nat.{◌+◌, ◌-◌, ◌≤◌}
+use Prim.Native.Nat.{◌+◌}
 use native.Mathlib.Omega.{arith}
 use lib.ListN.{drop}
-use Rattle.limit.specs.Limit.{max_total}
 use Rattle.words.proofs.Words.{part_more, part_end}
 use Rattle.sheet.specs.Sheet.{counts_of, running_sum}
 use Rattle.sheet.proofs.Laws.{running_more, running_none, running_over}

@@ -16,9 +16,9 @@ loop-k-preserved c =
     let l = c.loop-k in (
       omega (arith, c.loop-k-test.true),
       elim c.if-limit-cells.branch [
-      | then-limit-cells w ↦ w.fine-is ∙ sym (all_fails (l.k + 1) _ l.k (omega arith) (lt-leb _ _ w.if-limit-cells.true))
-      | else-limit-cells w ↦ w.fine-is ∙ l.invariant.1 ∙ sym (all-passes l.k _ (le-leb _ _ w.if-limit-cells.false))
-    ],
+        | then-limit-cells w ↦ w.fine-is ∙ sym (all_fails (l.k + 1) _ l.k (omega arith) (lt-leb _ _ w.if-limit-cells.true))
+        | else-limit-cells w ↦ w.fine-is ∙ l.invariant.1 ∙ sym (all-passes l.k _ (le-leb _ _ w.if-limit-cells.false))
+      ],
     )
 
 pub returns : goal.returns

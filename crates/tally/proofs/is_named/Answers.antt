@@ -23,4 +23,4 @@ returns c =
     c.helpands_below.ensures
 
 pub helpands_below-requires : goal.helpands_below-requires
-helpands_below-requires c =     (omega (arith, c.if-holder-n.false), omega (arith, c.if-n-gt-MAX_NODES.false))
+helpands_below-requires c = (omega (arith, c.if-holder-n.false), omega (arith, c.if-n-gt-MAX_NODES.false))

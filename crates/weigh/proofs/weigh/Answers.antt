@@ -20,7 +20,7 @@ use Rattle.weigh.proofs.weigh.Goals as goal
 pub returns-in-Refused : goal.returns-in-Refused
 returns-in-Refused c =
     let whole =
-        ends_refused _ _ _ (Sheet c.in-Refused.r)
+    ends_refused _ _ _ (Sheet c.in-Refused.r)
     (stops_sheet _ _ (sheet_number c.in-Refused.r)
     (ap (λ (x : SheetAnswer). x.refusal) (ap sheet_answer (sym c.in-Refused.is) ∙ c.read_sheet.ensures))
     (λ z. omega (arith, sheet-more c.in-Refused.r))) in
@@ -32,7 +32,7 @@ sheet-read c = ap sheet_answer (sym c.in-Accepted.is) ∙ c.read_sheet.ensures
 pub returns-in-Refused-read_plan : goal.returns-in-Refused-read_plan
 returns-in-Refused-read_plan c =
     let whole =
-        ends_refused _ _ _ (Plan c.in-Refused-read_plan.r)
+    ends_refused _ _ _ (Plan c.in-Refused-read_plan.r)
     (stops_plan _ _ (ap (λ (x : SheetAnswer). x.refusal) (sheet-read (goal.at.returns-in-Refused-read_plan c).After-read_plan)) (plan_number c.in-Refused-read_plan.r)
     (ap (λ (x : PlanAnswer). x.refusal) (ap plan_answer (sym c.in-Refused-read_plan.is) ∙ c.read_plan.ensures)) (λ z. omega (arith, plan-more c.in-Refused-read_plan.r))) in
     record { answer = whole.0; bytes = whole.1 }
@@ -44,5 +44,5 @@ weigh_read-requires c =
 pub returns-in-Accepted-read_plan : goal.returns-in-Accepted-read_plan
 returns-in-Accepted-read_plan c =
     let whole =
-        c.weigh_read.ensures in
+    c.weigh_read.ensures in
     record { answer = whole.answer; bytes = whole.bytes }

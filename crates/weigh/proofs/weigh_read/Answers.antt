@@ -20,14 +20,14 @@ use Rattle.weigh.proofs.weigh_read.Goals as goal
 pub returns-then-s-p : goal.returns-then-s-p
 returns-then-s-p c =
     let whole =
-        let r = c.requires in
+    let r = c.requires in
     ends_refused _ _ _ NodesDiffer (stops_differ _ _ r.sheet r.plan c.if-s-p.true) in
     record { answer = whole.0; bytes = whole.1 }
 
 pub returns-then-p-eq0 : goal.returns-then-p-eq0
 returns-then-p-eq0 c =
     let whole =
-        let r = c.requires in
+    let r = c.requires in
     ends_refused _ _ _ Primary (stops_primary _ _ r.sheet r.plan c.if-s-p.false c.if-p-eq0.true) in
     record { answer = whole.0; bytes = whole.1 }
 
@@ -42,14 +42,14 @@ few c = (facts c.args.sheet.now c.args.plan.now c.args.s (can_weigh c)).n_high
 pub returns-then-least-nodes : goal.returns-then-least-nodes
 returns-then-least-nodes c =
     let whole =
-        ends_short (can_weigh (goal.at.returns-then-least-nodes c).Else-p-eq0) _ c.if-least-nodes.true in
+    ends_short (can_weigh (goal.at.returns-then-least-nodes c).Else-p-eq0) _ c.if-least-nodes.true in
     record { answer = whole.0; bytes = whole.1 }
 
 -- the leasts were worked out
 long : (c : After-leasts_of-leasts) → length c.leasts_of-leasts.result ≡ 64
 long c =
     let w : Weighable c.args.sheet.now c.args.plan.now c.args.s =
-        stops_nowhere _ _ c.requires.sheet c.requires.plan c.if-s-p.false c.if-p-eq0.false in
+    stops_nowhere _ _ c.requires.sheet c.requires.plan c.if-s-p.false c.if-p-eq0.false in
     let few' : c.args.s.n ≤ max_nodes = (facts c.args.sheet.now c.args.plan.now c.args.s w).n_high in
     ap length c.leasts_of-leasts.ensures ∙ length-tabulate c.args.s.n (least_in c.args.sheet.now c.args.plan.now) few'
 
@@ -62,7 +62,7 @@ pub leasts_of-leasts-requires : goal.leasts_of-leasts-requires
 leasts_of-leasts-requires c = can_weigh (goal.at.leasts_of-leasts-requires c).Else-p-eq0
 
 pub put_words-requires : goal.put_words-requires
-put_words-requires c =     omega (arith, long (goal.at.put_words-requires c).After-leasts_of-leasts, few (goal.at.put_words-requires c).Else-p-eq0, c.if-least-nodes.false)
+put_words-requires c = omega (arith, long (goal.at.put_words-requires c).After-leasts_of-leasts, few (goal.at.put_words-requires c).Else-p-eq0, c.if-least-nodes.false)
 
 pub holds-requires : goal.holds-requires
 holds-requires c = few (goal.at.holds-requires c).Else-p-eq0

@@ -1,5 +1,4 @@
 -- `words::put_head` meets its contract: three words in a row are one run of bytes. Assumes nothing.
-use borrow.Author.Rules.{rules}
 use mathlib.Core.Path.{ap, ◌∙◌}
 use mathlib.Core.List.{List}
 use Prim.Native.Nat.{ℕ}

@@ -1,5 +1,4 @@
 -- `words::put_word` meets its contract: its four stores are those of `putWord`. Assumes nothing.
-use borrow.Author.Rules.{rules}
 use native.Mathlib.Omega.{arith}
 use lib.ListN.{length-set}
 use Rattle.words.proofs.put_word.Goals as goal

@@ -1,5 +1,4 @@
 -- `words::word_number` meets its contract: the four bytes from 4 k on are word k. Assumes nothing.
-use borrow.Author.Rules.{rules}
 use mathlib.Core.Path.{sym, ◌∙◌}
 use Rattle.words.proofs.Words.{words-at}
 use Rattle.words.proofs.word_number.Goals as goal

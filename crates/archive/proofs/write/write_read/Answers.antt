@@ -7,15 +7,15 @@ use Rattle.archive.proofs.write.write_read.Goals as goal
 pub returns-then-out-lt-ARCHIVE_SIZE : goal.returns-then-out-lt-ARCHIVE_SIZE
 returns-then-out-lt-ARCHIVE_SIZE c =
     let whole =
-    ends_buffer _ _ c.requires (omega (arith, c.if-out-lt-ARCHIVE_SIZE.true)) in
+    ends_buffer _ _ c.requires (omega arith) in
     record { answer = whole.0; bytes = whole.1 }
 
 pub put_archive-requires : goal.put_archive-requires
 put_archive-requires c =
-    (sheet_unpackable _ _ (reading_accepted _ c.args.h c.requires), omega (arith, c.if-out-lt-ARCHIVE_SIZE.false))
+    (sheet_unpackable _ _ (reading_accepted _ c.args.h c.requires), omega arith)
 
 pub returns : goal.returns
 returns c =
     let whole =
-    ends_archived _ _ c.requires (omega (arith, c.if-out-lt-ARCHIVE_SIZE.false)) c.put_archive.ensures in
+    ends_archived _ _ c.requires (omega arith) c.put_archive.ensures in
     record { answer = whole.0; bytes = whole.1 }

@@ -1,6 +1,5 @@
 -- `moves::write::put_moves` meets its contract: the two words of the head and the two runs behind it are one record. Assumes
 -- nothing.
-use borrow.Author.Rules.{rules}
 use mathlib.Core.Path.{◌≡◌, refl}
 use mathlib.Core.List.{List, [], ◌∷◌}
 use Prim.Native.Nat.{ℕ, ◌+◌, ◌*◌, ◌≤◌}

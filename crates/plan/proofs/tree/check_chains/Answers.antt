@@ -1,34 +1,26 @@
 use borrow.Author.Rules.{rules}
 use borrow.Author.Tests.{ltb-true}
 use mathlib.Core.Path.{◌≡◌, refl, sym, ap, ◌∙◌}
-use mathlib.Core.Bool.{true}
-use Prim.Native.Nat.{◌≤◌, ◌<◌, ◌-◌}
 use native.Mathlib.Omega.{arith}
-use Rattle.fold.specs.All.{all}
 use Rattle.fold.proofs.Tests.{all_none, all_more, all_fails, all-at}
-use Rattle.plan.specs.declared.Checked.TheVariants.{Passed}
-use Rattle.plan.specs.Tree.{reaches}
 use Rattle.plan.specs.Inner.{checked_of}
 use Rattle.plan.proofs.Chains.{reaches-root, reaches-none, reaches_step}
-use Rattle.arrays.specs.Arrays.{at}
 use Rattle.plan.proofs.tree.check_chains.Goals as goal
 
 pub steps-preserved : goal.steps-preserved
-steps-preserved c =
-    (
-      ltb-true _ _ (all-at _ _ c.requires.1 c.steps.here c.steps.invariant.0),
-      search rules,
-      c.steps.invariant.2 ∙ reaches_step _ _ _ c.if-next-here.false c.if-left-eq0.false,
-      c.steps.invariant.3,
-    )
+steps-preserved c = (
+  ltb-true _ _ (all-at _ _ c.requires.1 c.steps.here c.steps.invariant.0),
+  search rules,
+  c.steps.invariant.2 ∙ reaches_step _ _ _ c.if-next-here.false c.if-left-eq0.false,
+  c.steps.invariant.3,
+)
 
 pub nodes-preserved : goal.nodes-preserved
-nodes-preserved c =
-    (
-      search rules,
-      all_more _ _ c.nodes.invariant.1 (c.steps.invariant.2 ∙ reaches-root _ _ _ c.if-next-here.true),
-      c.steps.invariant.3,
-    )
+nodes-preserved c = (
+  search rules,
+  all_more _ _ c.nodes.invariant.1 (c.steps.invariant.2 ∙ reaches-root _ _ _ c.if-next-here.true),
+  c.steps.invariant.3,
+)
 
 pub returns-after-nodes : goal.returns-after-nodes
 returns-after-nodes c =

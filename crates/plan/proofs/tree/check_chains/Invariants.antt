@@ -1,17 +1,11 @@
 -- `plan::tree::check_chains` meets its contract. Outer loop: the chains of the nodes passed reach a root. Inner loop: the node's
 -- chain reaches a root if what is left of it does, in the steps that are left. Assumes nothing.
-use borrow.Author.Rules.{rules}
-use borrow.Author.Tests.{ltb-true}
-use mathlib.Core.Path.{◌≡◌, refl, sym, ap, ◌∙◌}
+use mathlib.Core.Path.{◌≡◌}
 use mathlib.Core.Bool.{true}
 use Prim.Native.Nat.{◌≤◌, ◌<◌, ◌-◌}
-use native.Mathlib.Omega.{arith}
 use Rattle.fold.specs.All.{all}
-use Rattle.fold.proofs.Tests.{all_none, all_more, all_fails, all-at}
 use Rattle.plan.specs.declared.Checked.TheVariants.{Passed}
 use Rattle.plan.specs.Tree.{reaches}
-use Rattle.plan.specs.Inner.{checked_of}
-use Rattle.plan.proofs.Chains.{reaches-root, reaches-none, reaches_step}
 use Rattle.arrays.specs.Arrays.{at}
 use Rattle.plan.proofs.tree.check_chains.Given as goal
 

@@ -1,5 +1,4 @@
 -- `plan::tree::check_shape` meets its contract, each way out by the tests on it. Assumes nothing.
-use borrow.Author.Rules.{rules}
 use borrow.Author.Tests.{eq-eqb, ne_eqb}
 use mathlib.Core.Path.{sym, ◌∙◌}
 use Rattle.arrays.specs.Arrays.{at}

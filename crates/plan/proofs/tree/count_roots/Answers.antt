@@ -1,13 +1,11 @@
 use borrow.Author.Rules.{rules}
 use borrow.Author.Tests.{eq-eqb, ne_eqb}
 use mathlib.Core.Path.{◌≡◌, sym}
-use mathlib.Core.Logic.{⊎_elim}
-use Prim.Native.Nat.{◌≤◌, ◌-◌}
 use native.Mathlib.Omega.{arith}
 use Rattle.fold.specs.Sum.{only}
 use Rattle.fold.proofs.Tests.{only-is, only-not}
 use Rattle.fold.proofs.Sums.{sum-none, sum_more}
-use Rattle.plan.specs.Tree.{is_root, roots}
+use Rattle.plan.specs.Tree.{is_root}
 use Rattle.arrays.specs.Arrays.{at}
 use Rattle.plan.proofs.tree.count_roots.Goals.{else-helpands-k, then-helpands-k}
 use Rattle.plan.proofs.tree.count_roots.Goals as goal

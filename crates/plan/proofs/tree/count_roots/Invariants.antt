@@ -1,14 +1,7 @@
 -- `plan::tree::count_roots` meets its contract: count is the number of roots among the nodes passed. Assumes nothing.
-use borrow.Author.Rules.{rules}
-use borrow.Author.Tests.{eq-eqb, ne_eqb}
-use mathlib.Core.Path.{◌≡◌, sym}
-use mathlib.Core.Logic.{⊎_elim}
+use mathlib.Core.Path.{◌≡◌}
 use Prim.Native.Nat.{◌≤◌, ◌-◌}
-use native.Mathlib.Omega.{arith}
-use Rattle.fold.specs.Sum.{only}
-use Rattle.fold.proofs.Tests.{only-is, only-not}
-use Rattle.fold.proofs.Sums.{sum-none, sum_more}
-use Rattle.plan.specs.Tree.{is_root, roots}
+use Rattle.plan.specs.Tree.{roots}
 use Rattle.arrays.specs.Arrays.{at}
 use Rattle.plan.proofs.tree.count_roots.Given as goal
 

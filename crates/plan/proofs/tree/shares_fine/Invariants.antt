@@ -1,14 +1,9 @@
 -- `plan::tree::shares_fine` meets its contract: the shares of the nodes passed are fine. Assumes nothing.
-use borrow.Author.Rules.{rules}
-use mathlib.Core.Path.{◌≡◌, sym}
-use mathlib.Core.Logic.{⊎_elim}
+use mathlib.Core.Path.{◌≡◌}
 use mathlib.Core.Bool.{true}
 use Prim.Native.Nat.{◌≤◌, ◌-◌}
-use native.Mathlib.Omega.{arith}
 use Rattle.fold.specs.All.{all}
-use Rattle.fold.proofs.Tests.{all_none, all_more, all_fails}
 use Rattle.plan.specs.Tree.{share_fine}
-use Rattle.plan.proofs.Shares.{share-over, share-root, share_fine_lem}
 use Rattle.arrays.specs.Arrays.{at}
 use Rattle.plan.proofs.tree.shares_fine.Given as goal
 

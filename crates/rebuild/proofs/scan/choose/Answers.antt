@@ -18,8 +18,8 @@ returns c =
     c.largest_in_b.ensures
     ∙ sym (elim c.if-old-l.branch [
       | then-old-l+then-in_b+else-need-loads w ↦
-        chosen-lacks a.nodes a.loads.now a.targets.now a.finished.now a.l a.need a.old w.if-need-loads.false
+          chosen-lacks a.nodes a.loads.now a.targets.now a.finished.now a.l a.need a.old w.if-need-loads.false
       | then-old-l+else-in_b w ↦
-        chosen-out a.nodes a.loads.now a.targets.now a.finished.now a.l a.need a.old (sym w.in_b.ensures ∙ w.if-in_b.false)
+          chosen-out a.nodes a.loads.now a.targets.now a.finished.now a.l a.need a.old (sym w.in_b.ensures ∙ w.if-in_b.false)
       | else-old-l w ↦ chosen-root a.nodes a.loads.now a.targets.now a.finished.now a.l a.need a.old w.if-old-l.false
     ])

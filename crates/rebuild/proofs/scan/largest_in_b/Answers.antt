@@ -27,11 +27,11 @@ loop-k-preserved c =
     let o = sym c.in_b.ensures in
     elim c.if-in_b.branch [
       | then-in_b+in-Nothing w ↦
-        (search rules, w.best-is ∙ sym (best_begins _ _ l.k (o ∙ w.if-in_b.true) (e ∙ w.in-Nothing.is)))
+          (search rules, w.best-is ∙ sym (best_begins _ _ l.k (o ∙ w.if-in_b.true) (e ∙ w.in-Nothing.is)))
       | then-in_b+in-At+then-loads-b w ↦
-        (search rules, w.best-is ∙ sym (best_takes _ _ l.k _ (o ∙ w.if-in_b.true) (e ∙ w.in-At.is) (lt-ltb _ _ w.if-loads-b.true)))
+          (search rules, w.best-is ∙ sym (best_takes _ _ l.k _ (o ∙ w.if-in_b.true) (e ∙ w.in-At.is) (lt-ltb _ _ w.if-loads-b.true)))
       | then-in_b+in-At+else-loads-b w ↦
-        (search rules, w.best-is ∙ sym (best-stays _ _ l.k _ (o ∙ w.if-in_b.true) (e ∙ w.in-At.is) (le-ltb _ _ w.if-loads-b.false)))
+          (search rules, w.best-is ∙ sym (best-stays _ _ l.k _ (o ∙ w.if-in_b.true) (e ∙ w.in-At.is) (le-ltb _ _ w.if-loads-b.false)))
       | else-in_b w ↦ (search rules, w.best-is ∙ l.invariant.1 ∙ sym (best_skips _ _ l.k (o ∙ w.if-in_b.false)))
     ]
 

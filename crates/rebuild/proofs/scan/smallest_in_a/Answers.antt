@@ -27,11 +27,11 @@ loop-k-preserved c =
     let o = sym c.in_a.ensures in
     elim c.if-in_a.branch [
       | then-in_a+in-Nothing w ↦
-        (search rules, w.best-is ∙ sym (best_begins _ _ l.k (o ∙ w.if-in_a.true) (e ∙ w.in-Nothing.is)))
+          (search rules, w.best-is ∙ sym (best_begins _ _ l.k (o ∙ w.if-in_a.true) (e ∙ w.in-Nothing.is)))
       | then-in_a+in-At+then-loads-k w ↦
-        (search rules, w.best-is ∙ sym (best_takes _ _ l.k _ (o ∙ w.if-in_a.true) (e ∙ w.in-At.is) (lt-ltb _ _ w.if-loads-k.true)))
+          (search rules, w.best-is ∙ sym (best_takes _ _ l.k _ (o ∙ w.if-in_a.true) (e ∙ w.in-At.is) (lt-ltb _ _ w.if-loads-k.true)))
       | then-in_a+in-At+else-loads-k w ↦
-        (search rules, w.best-is ∙ sym (best-stays _ _ l.k _ (o ∙ w.if-in_a.true) (e ∙ w.in-At.is) (le-ltb _ _ w.if-loads-k.false)))
+          (search rules, w.best-is ∙ sym (best-stays _ _ l.k _ (o ∙ w.if-in_a.true) (e ∙ w.in-At.is) (le-ltb _ _ w.if-loads-k.false)))
       | else-in_a w ↦ (search rules, w.best-is ∙ l.invariant.1 ∙ sym (best_skips _ _ l.k (o ∙ w.if-in_a.false)))
     ]
 

@@ -1,15 +1,12 @@
 -- `sheet::table::unpack` meets its contract: at the loop's head the whole table is the present one with the entries that are left
 -- stored. Assumes nothing.
-use borrow.Author.Rules.{rules}
-use mathlib.Core.Path.{◌≡◌, refl, sym, ◌∙◌}
-use Prim.Native.Nat.{◌+◌, ◌*◌, ◌-◌, ◌≤◌, ◌<◌}
-use native.Mathlib.Omega.{arith}
-use lib.ListN.{length, set, drop, length-set}
-use Rattle.words.proofs.Words.{part_more, part_end}
+use mathlib.Core.Path.{◌≡◌}
+use Prim.Native.Nat.{◌-◌, ◌≤◌}
+use lib.ListN.{length, drop}
 use Rattle.sheet.specs.Sheet.{cells_of, counts_of}
 use Rattle.limit.specs.Limit.{table_size}
 use Rattle.sheet.specs.Table.{table_of}
-use Rattle.sheet.proofs.Tables.{stored, zeros, table-stored, index_below}
+use Rattle.sheet.proofs.Tables.{stored}
 use Rattle.sheet.proofs.table.unpack.Given as goal
 
 abbrev pub invariant-loop-i : goal.invariant-loop-i

@@ -1,18 +1,11 @@
 -- `sheet::totals::add_row` meets its contract: the entries of the subdomains passed have the holder's count too, the others are as they
 -- were.
 -- Assumes nothing.
-use borrow.Author.Rules.{rules}
-use mathlib.Core.Path.{◌≡◌, refl, ap, ◌∙◌}
-use mathlib.Core.List.{List}
+use mathlib.Core.Path.{◌≡◌}
 use Prim.Native.Nat.{ℕ, ◌+◌, ◌≤◌, ◌<◌, ◌-◌}
-use native.Mathlib.Omega.{arith}
-use lib.ListN.{length, length-set}
-use Rattle.fold.proofs.Sums.{sum_more}
+use lib.ListN.{length}
 use Rattle.arrays.specs.Arrays.{at}
-use Rattle.sheet.specs.Table.{held}
 use Rattle.sheet.specs.Totals.{total_of}
-use Rattle.sheet.proofs.Totalled.{total-le}
-use Rattle.arrays.proofs.Tabulate.{tabulate-at, tabulate-behind, tabulate-is, stored-below, stored-behind, length-tabulate}
 use Rattle.sheet.proofs.totals.add_row.Given as goal
 
 abbrev pub invariant-loop-n : goal.invariant-loop-n

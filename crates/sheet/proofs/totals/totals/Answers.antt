@@ -1,12 +1,9 @@
-use borrow.Author.Rules.{rules}
 use mathlib.Core.Path.{◌≡◌, refl, sym, ◌∙◌}
-use Prim.Native.Nat.{◌≤◌, ◌-◌}
 use native.Mathlib.Omega.{arith}
 use lib.ListN.{replicate, get_or-replicate}
 use Rattle.fold.proofs.Sums.{sum-none}
 use Rattle.sheet.specs.Table.{held}
 use Rattle.sheet.specs.Totals.{total_of}
-use Rattle.arrays.specs.Arrays.{tabulate}
 use Rattle.arrays.proofs.Padded.{zeros-at}
 use Rattle.arrays.proofs.Tabulate.{tabulate-is}
 use Rattle.sheet.proofs.totals.totals.Goals as goal

@@ -1,8 +1,6 @@
-use borrow.Author.Rules.{rules}
 use mathlib.Core.Path.{◌≡◌, sym, ap, ◌∙◌}
-use mathlib.Core.Logic.{⊎_elim}
 use mathlib.Core.List.{[], ◌∷◌}
-use Prim.Native.Nat.{◌+◌, ◌*◌, ◌-◌, ◌≤◌}
+use Prim.Native.Nat.{◌+◌, ◌*◌}
 use native.Mathlib.Omega.{arith}
 use lib.ListN.{length, length-append}
 use Rattle.fold.specs.Collect.{collect}
@@ -18,8 +16,8 @@ loop-c-preserved c =
     let k = c.loop-c.c in
     elim c.if-table-c-ne0.branch [
       | then-table-c-ne0 w ↦ let one : length (collect (k + 1) (filled table)) ≡ length (collect k (filled table)) + 1 =
-    rw (cells-one table k w.if-table-c-ne0.true) (length-append (collect k (filled table)) (k ∷ [])) in
-    (omega arith, omega arith, omega arith)
+          rw (cells-one table k w.if-table-c-ne0.true) (length-append (collect k (filled table)) (k ∷ [])) in
+          (omega arith, omega arith, omega arith)
       | else-table-c-ne0 w ↦ (omega arith, omega arith, w.e-is ∙ c.loop-c.invariant.2 ∙ sym (ap length (cells_skip table k w.if-table-c-ne0.false)))
     ]
 

@@ -1,11 +1,8 @@
-use borrow.Author.Rules.{rules}
 use mathlib.Core.Path.{◌≡◌, refl, sym, ap, ◌∙◌}
-use mathlib.Core.Logic.{⊎_elim}
 use mathlib.Core.List.{List, [], ◌∷◌}
-use Prim.Native.Nat.{ℕ, ◌+◌, ◌*◌, ◌-◌, ◌≤◌, ◌<◌}
+use Prim.Native.Nat.{ℕ, ◌+◌, ◌*◌, ◌<◌}
 use native.Mathlib.Omega.{arith}
 use lib.ListN.{length, get_or, length-append, length-set, length-map}
-use lib.Seq.{sets}
 use Rattle.fold.specs.Collect.{collect}
 use Rattle.words.specs.Words.{encode, put_word}
 use Rattle.words.proofs.Buffer.{record_placed}
@@ -34,24 +31,24 @@ loop-c-preserved c =
     let table = a.table.now in
     elim c.if-count-ne0.branch [
       | then-count-ne0 w ↦ let new = w.out-is ∙ w.put_entry.ensures in
-    let one : length (collect (k + 1) (filled table)) ≡ length (collect k (filled table)) + 1 =
-    rw (cells-one table k w.if-count-ne0.true) (length-append (collect k (filled table)) (k ∷ [])) in (
-      omega arith,
-      omega arith,
-      omega arith,
-      new ∙ ap (λ (o : List ℕ). put_word (put_word o (4 * (3 + c.loop-c.i)) k) (4 * (3 + a.e + c.loop-c.i)) (get_or table k 0))
-          c.loop-c.invariant.3
-          ∙ store_one c.put_head.new.out table a.e c.loop-c.i k w.if-count-ne0.true c.loop-c.invariant.2
-          (omega (arith, cell_more a.table.now a.n k c.loop-c-test.true w.if-count-ne0.true, c.requires.1)),
-      ap length new ∙ simp length-set c.loop-c.invariant.4,
-    )
+          let one : length (collect (k + 1) (filled table)) ≡ length (collect k (filled table)) + 1 =
+          rw (cells-one table k w.if-count-ne0.true) (length-append (collect k (filled table)) (k ∷ [])) in (
+            omega arith,
+            omega arith,
+            omega arith,
+            new ∙ ap (λ (o : List ℕ). put_word (put_word o (4 * (3 + c.loop-c.i)) k) (4 * (3 + a.e + c.loop-c.i)) (get_or table k 0))
+                c.loop-c.invariant.3
+                ∙ store_one c.put_head.new.out table a.e c.loop-c.i k w.if-count-ne0.true c.loop-c.invariant.2
+                (omega (arith, cell_more a.table.now a.n k c.loop-c-test.true w.if-count-ne0.true, c.requires.1)),
+            ap length new ∙ simp length-set c.loop-c.invariant.4,
+          )
       | else-count-ne0 w ↦ (
-      omega arith,
-      omega arith,
-      w.i-is ∙ c.loop-c.invariant.2 ∙ sym (ap length (cells_skip table k w.if-count-ne0.false)),
-      w.out-is ∙ c.loop-c.invariant.3 ∙ rw (cells_skip table k w.if-count-ne0.false),
-      ap length w.out-is ∙ c.loop-c.invariant.4,
-    )
+        omega arith,
+        omega arith,
+        w.i-is ∙ c.loop-c.invariant.2 ∙ sym (ap length (cells_skip table k w.if-count-ne0.false)),
+        w.out-is ∙ c.loop-c.invariant.3 ∙ rw (cells_skip table k w.if-count-ne0.false),
+        ap length w.out-is ∙ c.loop-c.invariant.4,
+      )
     ]
 
 pub returns : goal.returns

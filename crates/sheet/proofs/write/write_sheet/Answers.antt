@@ -1,5 +1,4 @@
 -- `sheet::write::write_sheet` meets its contract: the size that it tests is that of the record. Assumes nothing.
-use borrow.Author.Rules.{rules}
 use mathlib.Core.Path.{◌≡◌, sym, ap, ◌∙◌}
 use Prim.Native.Nat.{ℕ, ◌+◌, ◌*◌}
 use lib.ListN.{length}
@@ -20,7 +19,7 @@ size c =
 pub returns-then-out-size : goal.returns-then-out-size
 returns-then-out-size c =
     let whole =
-        let a = c.args in
+    let a = c.args in
     short_writes (sheet_bytes a.n a.t a.table.now) a.out.now _ (size (goal.at.returns-then-out-size c).After-count_cells-e) c.if-out-size.true in
     record { answer = whole.0; bytes = whole.1 }
 

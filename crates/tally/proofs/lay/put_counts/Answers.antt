@@ -9,8 +9,7 @@ use Rattle.tally.proofs.lay.put_counts.Goals as goal
 
 pub loop-k-preserved : goal.loop-k-preserved
 loop-k-preserved c =
-    let l = c.loop-k in
-    (
+    let l = c.loop-k in (
       omega (arith, c.loop-k-test.true),
       copied_next _ _ _ l.k l.cells l.invariant.1 (omega (arith, c.requires, c.loop-k-test.true)),
     )

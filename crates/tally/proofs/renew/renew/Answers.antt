@@ -70,7 +70,7 @@ pub bounds-helpands-n : goal.bounds-helpands-n
 bounds-helpands-n c = inside (goal.at.bounds-helpands-n c).In-loop-more
 
 pub overflow_cast-helpand : goal.overflow_cast-helpand
-overflow_cast-helpand c =     omega (arith, helpand-below (goal.at.overflow_cast-helpand c).In-loop-more, c.requires.0.few)
+overflow_cast-helpand c = omega (arith, helpand-below (goal.at.overflow_cast-helpand c).In-loop-more, c.requires.0.few)
 
 pub loop-more-smaller : goal.loop-more-smaller
 loop-more-smaller c = omega (arith, c.loop-more-test.true)

@@ -28,12 +28,11 @@ behind c =
     rw e c.loop-k.invariant.2
 
 pub loop-k-preserved-then-helpand-k : goal.loop-k-preserved-then-helpand-k
-loop-k-preserved-then-helpand-k c =
-    (
-      search rules,
-      simp length-set c.loop-k.invariant.1,
-      linking_helper (behind (goal.at.loop-k-preserved-then-helpand-k c).After-helpand-1) c.loop-k.invariant.1 c.requires.0 (omega arith) (below (goal.at.loop-k-preserved-then-helpand-k c).After-helpand-1) c.if-helpand-k.true,
-    )
+loop-k-preserved-then-helpand-k c = (
+  search rules,
+  simp length-set c.loop-k.invariant.1,
+  linking_helper (behind (goal.at.loop-k-preserved-then-helpand-k c).After-helpand-1) c.loop-k.invariant.1 c.requires.0 (omega arith) (below (goal.at.loop-k-preserved-then-helpand-k c).After-helpand-1) c.if-helpand-k.true,
+)
 
 pub loop-k-preserved : goal.loop-k-preserved
 loop-k-preserved c =
