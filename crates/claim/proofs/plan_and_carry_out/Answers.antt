@@ -19,22 +19,27 @@ use Rattle.claim.proofs.plan_and_carry_out.Goals as goal
 -- the demand, of answers and buffers that are what the contracts say
 handed-on : (s o p m x : List ℕ) (a : StepAnswer) (c : WrittenAnswer) (p₁ m₁ x₁ : List ℕ)
     → a ≡ step_answer s o (length p) (length m) → p₁ ≡ plan_after s o p (length m) → m₁ ≡ moves_after s o m (length p)
-    → c ≡ carry_answer s (take a.moves-1 m₁) (length x) → x₁ ≡ next_after s (take a.moves-1 m₁) x → Demand3 s o p m x a c p₁ x₁
+    → c ≡ carry_answer s (take a.moves m₁) (length x) → x₁ ≡ next_after s (take a.moves m₁) x → Demand3 s o p m x a c p₁ x₁
 handed-on s o p m x a c p₁ m₁ x₁ e f g h i = rw (h, i, g, f, e) (demand s o p m x)
 
-size-inside : (c : After-firrozka_plan_step-step) → c.firrozka_plan_step-step.result.moves-1 ≤ length c.args.moves.now
+size-inside : (c : After-firrozka_plan_step-step) → c.firrozka_plan_step-step.result.moves ≤ length c.args.moves.now
 size-inside c =
     let a = c.args in
-    let sizes = moves-inside a.sheet.now a.old.now (length a.plan-1.now) (length c.args.moves.now) in
-    omega (arith, ap (λ (x : StepAnswer). x.moves-1) c.firrozka_plan_step-step.ensures.answer, sizes)
+    let sizes = moves-inside a.sheet.now a.old.now (length a.plan.now) (length c.args.moves.now) in
+    omega (arith, ap (λ (x : StepAnswer). x.moves) c.firrozka_plan_step-step.ensures.answer, sizes)
 
 pub returns : goal.returns
 returns c =
-    let whole =
     let e = c.firrozka_plan_step-step.ensures in
     let f = c.firrozka_carry_out-carry.ensures in
-    (e.0, (e.1.0, (e.1.1, (f.0, (f.1, handed-on _ _ _ _ _ _ _ _ _ _ e.0 e.1.0 e.1.1 f.0 f.1))))) in
-    record { step = whole.0; plan = whole.1; moves = whole.2; carry = whole.3; next = whole.4; demand = whole.5 }
+    record {
+      step = e.answer;
+      plan = e.plan;
+      moves = e.moves;
+      carry = f.answer;
+      next = f.next;
+      demand = handed-on _ _ _ _ _ _ _ _ _ _ e.answer e.plan e.moves f.answer f.next;
+    }
 
 pub slice_bounds-firrozka_carry_out-end : goal.slice_bounds-firrozka_carry_out-end
 slice_bounds-firrozka_carry_out-end c = omega (arith, size-inside (goal.at.slice_bounds-firrozka_carry_out-end c).After-firrozka_plan_step-step)

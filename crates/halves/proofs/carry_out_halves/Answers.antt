@@ -23,8 +23,25 @@ handed-on s a b x y c d x₁ y₁ e f g h = rw (g, h, f, e) (half_first s a b x 
 size-inside : (c : After-firrozka_carry_out-a) → c.firrozka_carry_out-a.result.bytes ≤ length c.args.between.now
 size-inside c =
     let a = c.args in
-    let inside = carry_inside a.sheet.now a.first.now (length a.between-1.now) in
+    let inside = carry_inside a.sheet.now a.first.now (length a.between.now) in
     omega (arith, ap (λ (r : WrittenAnswer). r.bytes) c.firrozka_carry_out-a.ensures.answer, inside)
 
-pub firrozka_carry_out-a-requires : goal.firrozka_carry_out-a-requires
-firrozka_carry_out-a-requires c = ? c
+pub returns : goal.returns
+returns c =
+    let e = c.firrozka_carry_out-a.ensures in
+    let f = c.firrozka_carry_out-b.ensures in
+    record {
+      first = e.answer;
+      between = e.next;
+      second = f.answer;
+      next = f.next;
+      halves = handed-on _ _ _ _ _ _ _ _ _ e.answer e.next f.answer f.next;
+    }
+
+pub slice_bounds-firrozka_carry_out-end : goal.slice_bounds-firrozka_carry_out-end
+slice_bounds-firrozka_carry_out-end c =
+    omega (arith, size-inside (goal.at.slice_bounds-firrozka_carry_out-end c).After-firrozka_carry_out-a)
+
+pub slice_bounds-firrozka_carry_out-end-2 : goal.slice_bounds-firrozka_carry_out-end-2
+slice_bounds-firrozka_carry_out-end-2 c =
+    sym (length-take-le _ _ (omega (arith, size-inside (goal.at.slice_bounds-firrozka_carry_out-end-2 c).After-firrozka_carry_out-a)))
