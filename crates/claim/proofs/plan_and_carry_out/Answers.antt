@@ -37,8 +37,8 @@ returns c =
       plan = e.plan;
       moves = e.moves;
       carry = f.answer;
-      next = f.next;
-      demand = handed-on _ _ _ _ _ _ _ _ _ _ e.answer e.plan e.moves f.answer f.next;
+      next = f.bytes;
+      demand = handed-on _ _ _ _ _ _ _ _ _ _ e.answer e.plan e.moves f.answer f.bytes;
     }
 
 pub slice_bounds-firrozka_carry_out-end : goal.slice_bounds-firrozka_carry_out-end

@@ -32,10 +32,10 @@ returns c =
     let f = c.firrozka_carry_out-b.ensures in
     record {
       first = e.answer;
-      between = e.next;
+      between = e.bytes;
       second = f.answer;
-      next = f.next;
-      halves = handed-on _ _ _ _ _ _ _ _ _ e.answer e.next f.answer f.next;
+      next = f.bytes;
+      halves = handed-on _ _ _ _ _ _ _ _ _ e.answer e.bytes f.answer f.bytes;
     }
 
 pub slice_bounds-firrozka_carry_out-end : goal.slice_bounds-firrozka_carry_out-end
