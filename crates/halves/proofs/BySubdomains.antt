@@ -1,12 +1,13 @@
 -- "The message library would like to send some subdomains early": the moves of any set of subdomains, and the others, are two parts.
 -- Assumes nothing.
-use mathlib.Core.Path.{◌≡◌, refl, sym, ap, ap₂, ◌∙◌}
-use mathlib.Core.Bool.{Bool, true, false, not, cond, true≢false}
+use mathlib.Core.Path.{◌≡◌, refl, sym, ap, ap₂, subst, ◌∙◌}
+use mathlib.Core.Bool.{Bool, true, false, cond, true≢false}
 use mathlib.Core.List.{List, [], ◌∷◌, map}
-use Prim.Native.Nat.{ℕ, ◌-◌, ◌*◌, ◌≤◌}
+use Prim.Native.Nat.{ℕ, ◌-◌, ◌*◌, ◌≤◌, ◌<◌}
 use native.Mathlib.Omega.{arith}
 use borrow.Author.Tests.{not-true}
-use lib.ListN.{length, get_or, take, length-map, take-of-length-le}
+use lib.ListN.{length, get_or, take, length-map}
+use lib.Seq.{take_all}
 use Rattle.fold.specs.All.{every}
 use Rattle.fold.proofs.Tests.{every-at, every_more}
 use Rattle.sheet.specs.Sheet.{read_sheet}
@@ -31,12 +32,12 @@ use Rattle.halves.specs.Parts.{
   part_of,
   others,
 }
-use Rattle.halves.proofs.Merges.{entries_of, merge_exchanged, merge-length, merge-rising, merge-every, chosen-merge}
+use Rattle.halves.proofs.Merges.{entries_of, merge-length, merge-rising, merge-every, chosen-merge}
 use Rattle.halves.proofs.Records.{facts, routes_listed, entries_are, accepted_record, routes-rise, counts_pass}
 
 -- ---- a list that is merged with another into that of accepted moves, written as a record
 
-module _ {m : List ℕ} (q : (read_moves m).refusal ≡ 0) {es fs : List Entry} (merge : Merge (entries_in m) es fs) where
+module _ (m : List ℕ) (q : (read_moves m).refusal ≡ 0) {es fs : List Entry} (merge : Merge (entries_in m) es fs) where
   abbrev n : ℕ
   n = (read_moves m).n
 
@@ -44,10 +45,10 @@ module _ {m : List ℕ} (q : (read_moves m).refusal ≡ 0) {es fs : List Entry} 
   bytes = moves_bytes n (length es) (map route_of es) (map count_of es)
 
   all-routes : take (length es) (map route_of es) ≡ map route_of es
-  all-routes = take-of-length-le (omega (arith, length-map es route_of))
+  all-routes = take_all (length es) (map route_of es) (omega (arith, length-map es route_of))
 
   all-counts : take (length es) (map count_of es) ≡ map count_of es
-  all-counts = take-of-length-le (omega (arith, length-map es count_of))
+  all-counts = take_all (length es) (map count_of es) (omega (arith, length-map es count_of))
 
   few : length es ≤ n * (n - 1)
   few = omega (arith, entries_are (accepted_record m q), merge-length merge, (facts m q).e_is, (facts m q).e_high)
@@ -72,7 +73,7 @@ module _ {m : List ℕ} (q : (read_moves m).refusal ≡ 0) {es fs : List Entry} 
 
   pub written_record : RecordOf n bytes
   written_record =
-      rw (← ap (λ (a : MovesAnswer). a.n) read_back) (accepted_record bytes accepted_back)
+      subst (λ (k : ℕ). RecordOf k bytes) (ap (λ (a : MovesAnswer). a.n) read_back) (accepted_record bytes accepted_back)
 
   size_back : size_in bytes ≡ length es
   size_back = sym (moves-accepted bytes accepted_back).e_is ∙ ap (λ (a : MovesAnswer). a.e) read_back
@@ -96,15 +97,15 @@ chosen_in set (e ∷ es) = split (set (subdomain e.route)) refl (chosen_in set e
     split true f ih = every_more (λ r. set (subdomain r)) e.route (map route_of (chosen set es)) f ∙ ih
     split false f ih = ih
 
-module _ (set : ℕ → Bool) {m : List ℕ} (q : (read_moves m).refusal ≡ 0) where
+module _ (set : ℕ → Bool) (m : List ℕ) (q : (read_moves m).refusal ≡ 0) where
   nodes_are : nodes_in m ≡ (read_moves m).n
   nodes_are = sym (facts m q).n_is
 
   part_record : RecordOf (read_moves m).n (part_of set m)
-  part_record = rw nodes_are (written_record q (chosen-merge set (entries_in m)))
+  part_record = rw nodes_are (written_record m q (chosen-merge set (entries_in m)))
 
   part-entries : entries_in (part_of set m) ≡ chosen set (entries_in m)
-  part-entries = rw nodes_are (entries-written q (chosen-merge set (entries_in m)))
+  part-entries = rw nodes_are (entries-written m q (chosen-merge set (entries_in m)))
 
   part_in : (i : ℕ) → i < length (routes_in (part_of set m)) → set (subdomain (get_or (routes_in (part_of set m)) i 0)) ≡ true
   part_in =
@@ -120,11 +121,11 @@ by_subdomains set s m sheet moves nodes =
       sheet = sheet;
       moves = moves;
       nodes = nodes;
-      first = part_record set moves;
-      second = part_record (others set) moves;
-      merge = rw (part-entries set moves, part-entries (others set) moves) (chosen-merge set (entries_in m));
+      first = part_record set m moves;
+      second = part_record (others set) m moves;
+      merge = rw (part-entries set m moves, part-entries (others set) m moves) (chosen-merge set (entries_in m));
       disjoint = λ i j hi hj e.
           true≢false
-          (sym (part_in set moves i hi) ∙ ap set e
-          ∙ not-true (set (subdomain (get_or (routes_in (part_of (others set) m)) j 0))) (part_in (others set) moves j hj));
+          (sym (part_in set m moves i hi) ∙ ap set e
+          ∙ not-true (set (subdomain (get_or (routes_in (part_of (others set) m)) j 0))) (part_in (others set) m moves j hj));
     }

@@ -21,7 +21,7 @@ use Rattle.carry.specs.Carry.{carry_answer, next_table, next_sheet, next_after}
 use Rattle.carry.proofs.Checks.{Carriable}
 use Rattle.carry.proofs.ReadBack.{carried-out, carries_out, next_back, next-front, next-size}
 use Rattle.carry.proofs.Sizes.{refused_42}
-use Rattle.halves.specs.Parts.{Entry, route_of, entries_in, Parts}
+use Rattle.halves.specs.Parts.{route_of, entries_in, Parts}
 use Rattle.halves.specs.Halves.{LongEnough, Halves, HalfFirst}
 use Rattle.halves.proofs.Merges.{merge_exchanged}
 use Rattle.halves.proofs.Records.{routes_listed, routes-read, counts-read, routes-below, parts_exchanged, first-accepted, second-accepted}
@@ -48,7 +48,7 @@ unfolding carry_answer
 answer_of s m s' m' size e f = rw (e, f)
 
 -- both accepted, of equal N: 42 is the one check left, and *carry out* goes by the list of moves
-module _ {s m : List ℕ} (sheet : (read_sheet s).refusal ≡ 0) (moves : (read_moves m).refusal ≡ 0) (nodes : (read_sheet s).n ≡ (read_moves m).n) where
+module _ (s m : List ℕ) (sheet : (read_sheet s).refusal ≡ 0) (moves : (read_moves m).refusal ≡ 0) (nodes : (read_sheet s).n ≡ (read_moves m).n) where
   checked-is : checked s m ≡ cond (not (within_in s m)) 42 0
   unfolding checked
   checked-is =
@@ -91,13 +91,13 @@ module _ {s m a b : List ℕ} (p : Parts s m a b) where
   table = table_in s
 
   within-m : within_in s m ≡ within_by table (entries_in m)
-  within-m = within-is p.sheet p.moves p.nodes
+  within-m = within-is s m p.sheet p.moves p.nodes
 
   within_a : within_in s a ≡ within_by table (entries_in a)
-  within_a = within-is p.sheet read_first nodes-first
+  within_a = within-is s a p.sheet read_first nodes-first
 
   within_b : within_in s b ≡ within_by table (entries_in b)
-  within_b = within-is p.sheet read-second nodes-second
+  within_b = within-is s b p.sheet read-second nodes-second
 
   -- ---- 42
 
@@ -128,12 +128,12 @@ module _ {s m a b : List ℕ} (p : Parts s m a b) where
 
   checked_42 : (checked s m ≡ 42) ↔ ((checked s a ≡ 42) ⊎ (checked s b ≡ 42))
   checked_42 = (
-    λ e. ⊎_elim (λ (f : within_in s a ≡ false). inl (within-refused p.sheet read_first nodes-first f))
-        (λ (f : within_in s b ≡ false). inr (within-refused p.sheet read-second nodes-second f))
-        (refused-parts (refused-within p.sheet p.moves p.nodes e)),
-    λ o. within-refused p.sheet p.moves p.nodes
-        (⊎_elim (λ (e : checked s a ≡ 42). refused-whole a first-within (refused-within p.sheet read_first nodes-first e))
-        (λ (e : checked s b ≡ 42). refused-whole b second-within (refused-within p.sheet read-second nodes-second e)) o),
+    λ e. ⊎_elim (λ (f : within_in s a ≡ false). inl (within-refused s a p.sheet read_first nodes-first f))
+        (λ (f : within_in s b ≡ false). inr (within-refused s b p.sheet read-second nodes-second f))
+        (refused-parts (refused-within s m p.sheet p.moves p.nodes e)),
+    λ o. within-refused s m p.sheet p.moves p.nodes
+        (⊎_elim (λ (e : checked s a ≡ 42). refused-whole a first-within (refused-within s a p.sheet read_first nodes-first e))
+        (λ (e : checked s b ≡ 42). refused-whole b second-within (refused-within s b p.sheet read-second nodes-second e)) o),
   )
 
   carriable_first : Carriable s m → Carriable s a
@@ -152,22 +152,22 @@ module _ {s m a b : List ℕ} (p : Parts s m a b) where
     nodes-x = ap (λ (r : SheetAnswer). r.n) (next_back d).read ∙ nodes-second
 
     table-x : table_in x ≡ carried_by table (entries_in a)
-    table-x = (next_back d).table ∙ table_is p.sheet read_first nodes-first
+    table-x = (next_back d).table ∙ table_is s a p.sheet read_first nodes-first
 
     within-x : within_in x b ≡ within_by (carried_by table (entries_in a)) (entries_in b)
-    within-x = within-is sheet-x read-second nodes-x ∙ ap (λ (t : List ℕ). within_by t (entries_in b)) table-x
+    within-x = within-is x b sheet-x read-second nodes-x ∙ ap (λ (t : List ℕ). within_by t (entries_in b)) table-x
 
     checked-same : checked x b ≡ checked s m
     checked-same =
         let below-a = routes-below a read_first in
         let below-b = routes-below b read-second in
-        checked-is sheet-x read-second nodes-x
+        checked-is x b sheet-x read-second nodes-x
         ∙ ap (λ (w : Bool). cond (not w) 42 0)
         (same_tests (within_in x b) (within_in s m)
         (λ w. both_within d.within
         (within_b ∙ within_before p.merge table below-a below-b disjoint (sym within-x ∙ w)))
         (λ w. within-x ∙ within-after p.merge table below-a below-b disjoint (sym within_b ∙ second-within w)))
-        ∙ sym (checked-is p.sheet p.moves p.nodes)
+        ∙ sym (checked-is s m p.sheet p.moves p.nodes)
 
     sheet-same : next_sheet x b ≡ next_sheet s m
     sheet-same =
@@ -175,10 +175,10 @@ module _ {s m a b : List ℕ} (p : Parts s m a b) where
         let t = (read_sheet s).t in
         let both : List ℕ = carried_by (carried_by table (entries_in a)) (entries_in b) in
         sheet_of x b both n t (ap (λ (r : SheetAnswer). r.n) (next_back d).read) (ap (λ (r : SheetAnswer). r.t) (next_back d).read)
-        (table_is sheet-x read-second nodes-x ∙ ap (λ (y : List ℕ). carried_by y (entries_in b)) table-x)
+        (table_is x b sheet-x read-second nodes-x ∙ ap (λ (y : List ℕ). carried_by y (entries_in b)) table-x)
         ∙ ap (sheet_bytes n t)
         (carried_twice p.merge table (routes-below a read_first) (routes-below b read-second) disjoint
-        ∙ sym (table_is p.sheet p.moves p.nodes))
+        ∙ sym (table_is s m p.sheet p.moves p.nodes))
         ∙ sym (sheet_of s m (next_table s m) n t refl refl refl)
 
     -- the second is answered as the whole, and leaves the same in every buffer
@@ -201,7 +201,7 @@ half_first s a b x y m p long =
       carried = λ q.
           let d = carriable_first p (carried-out s m (length y) q).0 in
           let e = ap (λ (r : WrittenAnswer). r.refusal) (carries_out s a (length x) d (omega (arith, next-size d))) in
-          (e, after e);
+          (e, (after e).0, (after e).1);
       refused = (
         λ q. ⊎_elim (λ (e : checked s a ≡ 42). inl ((refused_42 s a (length x)).1 e))
             (λ (e : checked s b ≡ 42). inr ((refused_42 s b (length x)).1 e)) ((checked_42 p).0 ((refused_42 s m (length y)).0 q)),

@@ -3,13 +3,12 @@
 use mathlib.Core.Path.{◌≡◌, refl, ap, ◌∙◌}
 use mathlib.Core.Bool.{Bool, true, false, cond, not}
 use mathlib.Core.List.{List, [], ◌∷◌, map}
-use mathlib.Core.Logic.{◌⊎◌, inl, inr}
 use Prim.Native.Nat.{ℕ, ◌+◌}
 use native.Mathlib.Omega.{arith}
-use lib.ListN.{length, length-map}
+use lib.ListN.{length}
 use Rattle.fold.specs.All.{every}
 use Rattle.fold.specs.Rising.{rising}
-use Rattle.fold.proofs.Tests.{either, and_right, and_left, and_both}
+use Rattle.fold.proofs.Tests.{and_right, and_left, and_both}
 use Rattle.fold.proofs.Lists.{rises, rising_more, rising_none, rising-from}
 use Rattle.moves.specs.Moves.{subdomain}
 use Rattle.transfer.specs.Apply.{moved}

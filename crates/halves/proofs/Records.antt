@@ -81,7 +81,7 @@ parts_exchanged p =
     }
 
 -- a list that is merged with another into the list of accepted moves
-module _ {m : List ℕ} (q : (read_moves m).refusal ≡ 0) {a b : List ℕ} (r : RecordOf (read_moves m).n a)
+module _ (m : List ℕ) (q : (read_moves m).refusal ≡ 0) (a b : List ℕ) (r : RecordOf (read_moves m).n a)
     (merge : Merge (entries_in m) (entries_in a) (entries_in b)) where
   few : size_in a ≤ (read_moves m).n * ((read_moves m).n - 1)
   few =
@@ -106,7 +106,7 @@ module _ {m : List ℕ} (q : (read_moves m).refusal ≡ 0) {a b : List ℕ} (r :
 -- THEOREM. Both parts are accepted by *read moves*, with the N of the whole.
 module _ {s m a b : List ℕ} (p : Parts s m a b) where
   pub first-accepted : read_moves a ≡ accepted (read_moves m).n (size_in a)
-  first-accepted = part-accepted p.moves p.first p.merge
+  first-accepted = part-accepted m p.moves a b p.first p.merge
 
   pub second-accepted : read_moves b ≡ accepted (read_moves m).n (size_in b)
-  second-accepted = part-accepted p.moves p.second (merge_exchanged p.merge)
+  second-accepted = part-accepted m p.moves b a p.second (merge_exchanged p.merge)

@@ -1,18 +1,17 @@
 -- Two lists of moves with disjoint subdomains on one table: at each cell the one or the other moves nothing. So the tests of 42 are
 -- those of each list on the first table, and the table that follows is the same. Assumes nothing.
-use mathlib.Core.Path.{◌≡◌, sym, ap, ◌∙◌}
+use mathlib.Core.Path.{◌≡◌, sym, ◌∙◌}
 use mathlib.Core.Logic.{◌≢◌, ◌⊎◌, inl, inr, ⊎_elim}
-use mathlib.Core.Bool.{Bool, true, false}
+use mathlib.Core.Bool.{Bool, true}
 use mathlib.Core.List.{List, [], ◌∷◌, map}
-use Prim.Native.Nat.{ℕ, zero, suc, ◌+◌, ◌-◌, ◌*◌, ◌%◌, ◌≤◌, ◌<◌}
+use Prim.Native.Nat.{ℕ, zero, suc, ◌*◌, ◌%◌, ◌<◌}
 use native.Mathlib.Decide.{ℕ_discrete}
 use native.Mathlib.Omega.{arith}
 use lib.ListN.{length, get_or}
 use lib.Seq.{ext_get_or}
 use Rattle.limit.specs.Limit.{table_size}
-use Rattle.arrays.specs.Arrays.{at}
 use Rattle.moves.specs.Moves.{subdomain}
-use Rattle.transfer.specs.Apply.{from_cell, into_cell, sends, receives, sends_within, carried}
+use Rattle.transfer.specs.Apply.{from_cell, into_cell, sends_within, carried}
 use Rattle.transfer.proofs.Ends.{moved_absent}
 use Rattle.transfer.proofs.Applied.{carried-at, length-carried, within-at, within_of}
 use Rattle.halves.specs.Parts.{Entry, route_of, count_of, Merge}

@@ -1,5 +1,4 @@
 -- `halves::carry_out_halves` meets its contract: what is handed on is the sheet just written, and so the request holds. Assumes nothing.
-use borrow.Author.Rules.{rules}
 use mathlib.Core.Path.{◌≡◌, sym, ap}
 use mathlib.Core.List.{List}
 use Prim.Native.Nat.{ℕ, ◌≤◌}
