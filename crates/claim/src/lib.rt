@@ -1,5 +1,5 @@
-// A step planned and carried out, by the two exported functions one after the other. Its contract is demand 3: nothing stands between
-// what is claimed and what the functions of the library do.
+// A step planned and carried out, by the two functions of `firrozka` one after the other, which the C boundary exports. Its contract is
+// demand 3: nothing stands between what is claimed and what the functions of the library do.
 #![tactic(auto)]
 
 ghost use Rattle.std.specs.Prelude.{◌≡◌, length, take};

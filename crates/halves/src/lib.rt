@@ -1,5 +1,5 @@
-// Half a list first: one part of the moves carried out, and then the other on the sheet that follows, by the exported function. Its
-// contract is request 2026-10: nothing stands between what is shown and what the library does.
+// Half a list first: one part of the moves carried out, and then the other on the sheet that follows, by the function of `firrozka` that
+// the C boundary exports. Its contract is request 2026-10: nothing stands between what is shown and what the library does.
 #![tactic(auto)]
 
 ghost use Rattle.std.specs.Prelude.{◌≡◌, length, take};

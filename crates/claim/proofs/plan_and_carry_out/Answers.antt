@@ -1,5 +1,4 @@
 -- `claim::plan_and_carry_out` meets its contract: what is handed on is the moves just written, and so demand 3 holds. Assumes nothing.
-use borrow.Author.Rules.{rules}
 use mathlib.Core.Path.{◌≡◌, sym, ap}
 use mathlib.Core.List.{List}
 use Prim.Native.Nat.{ℕ, ◌≤◌}
