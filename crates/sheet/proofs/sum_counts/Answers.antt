@@ -35,4 +35,4 @@ pub returns-then-sum-c : goal.returns-then-sum-c
 returns-then-sum-c c = sym (here (goal.at.returns-then-sum-c c).After-word_number-c ∙ running_over _ _ _ c.if-c-eq0.false (omega arith))
 
 pub loop-i-preserved : goal.loop-i-preserved
-loop-i-preserved c = (omega arith, omega arith, here (goal.at.loop-i-preserved c).After-word_number-c ∙ running_more _ _ _ c.if-c-eq0.false (omega arith))
+loop-i-preserved c = (omega arith, omega arith, here (goal.at.loop-i-preserved c).After-word_number-c ∙ running_more _ _ _ (λ e. omega (arith, e)) (omega arith))

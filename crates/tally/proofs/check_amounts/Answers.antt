@@ -1,5 +1,6 @@
 -- `tally::check_amounts` meets its contract: the first test that refuses decides. Assumes nothing.
 use borrow.Author.Tests.{lt-ltb, le-ltb, le-leb, lt-leb}
+use native.Mathlib.Omega.{arith}
 use Rattle.tally.proofs.check_amounts.Goals as goal
 
 pub returns-then-has-own : goal.returns-then-has-own
@@ -18,7 +19,7 @@ returns-then-adds c =
 
 pub returns : goal.returns
 returns c =
-    rw (le-leb _ _ c.if-has-own.false, le-leb _ _ c.if-own-total.false, c.if-adds.false, le-ltb _ _ c.if-has-count.false)
+    rw (le-leb _ _ c.if-has-own.false, le-leb _ _ c.if-own-total.false, c.if-adds.false, le-ltb c.args.has c.args.count (omega arith))
 
 pub returns-then-has-count : goal.returns-then-has-count
 returns-then-has-count c =

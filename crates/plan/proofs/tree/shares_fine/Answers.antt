@@ -4,7 +4,6 @@ use native.Mathlib.Omega.{arith}
 use Rattle.fold.proofs.Tests.{all_none, all_more, all_fails}
 use Rattle.plan.proofs.Shares.{share-over, share-root, share_fine_lem}
 use Rattle.arrays.specs.Arrays.{at}
-use Rattle.plan.proofs.tree.shares_fine.Goals.{then-helpands-k+else-share-ne0, else-helpands-k}
 use Rattle.plan.proofs.tree.shares_fine.Goals as goal
 
 pub returns-then-limit-share : goal.returns-then-limit-share
@@ -23,10 +22,7 @@ loop-k-preserved c =
       search rules,
       all_more _ _ c.loop-k.invariant.1
           (share_fine_lem _ (at a.helpands) (at a.shares) _ c.if-limit-share.false
-          (λ e. elim c.if-helpands-k.branch [
-            | then-helpands-k+else-share-ne0 w ↦ w.if-share-ne0.false
-            | else-helpands-k w ↦ absurd (w.if-helpands-k.false e)
-          ])),
+          (λ e. omega (arith, e))),
     )
 
 pub returns : goal.returns
