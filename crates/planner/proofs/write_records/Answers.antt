@@ -45,5 +45,5 @@ pub returns : goal.returns
 returns c =
     let put = c.put_records.ensures in
     let at = (goal.at.returns c).After-shared_slice_known-2-1 in
-    let w = writes_both _ _ _ _ _ _ _ (plan-size at) c.if-plan-plan_size.false _ (moves-size at) c.if-moves-moves_size.false in
+    let w = writes_both _ _ _ _ _ _ _ (plan-size at) c.if-plan-plan_size.false _ (moves-size at) (omega arith) in
     record { answer = w.0; plan = put.plan ∙ w.1.0; moves = put.moves ∙ w.1.1 }
