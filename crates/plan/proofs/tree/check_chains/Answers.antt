@@ -11,7 +11,7 @@ pub steps-preserved : goal.steps-preserved
 steps-preserved c = (
   ltb-true _ _ (all-at _ _ c.requires.1 c.steps.here c.steps.invariant.0),
   search rules,
-  c.steps.invariant.2 ∙ reaches_step _ _ _ c.if-next-here.false c.if-left-eq0.false,
+  c.steps.invariant.2 ∙ reaches_step _ _ _ c.if-next-here.false (λ e. omega (arith, e)),
   c.steps.invariant.3,
 )
 
