@@ -9,7 +9,7 @@ use Rattle.arrays.specs.Arrays.{at}
 use Rattle.plan.specs.Plan.{helpands_of, read_plan}
 use Rattle.in_force.specs.declared.PartAnswer.{PartAnswer}
 
--- so many bytes from a start on, of the old plan or of the new: `ofOld start length`
+-- so many bytes from a start on, of the old plan or of the new: `of_old start length`
 pub data Where : Type 0 where
   of_old : ℕ → ℕ → Where
   of_new : ℕ → ℕ → Where

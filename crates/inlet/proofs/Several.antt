@@ -1,4 +1,4 @@
--- Three sheets, such as those of two inlets and the resident one: which two are joined first does not matter. With `join-order`, several
+-- Three sheets, such as those of two inlets and the resident one: which two are joined first does not matter. With `join_order`, several
 -- can be joined one after the other in any order. Assumes nothing.
 use mathlib.Core.Path.{◌≡◌, refl, sym, ap, ◌∙◌}
 use mathlib.Core.List.{List}

@@ -1,4 +1,4 @@
--- Laws of the definition `readPlan`, one for each way out of the checks, and one for the way through them. Assumes nothing.
+-- Laws of the definition `read_plan`, one for each way out of the checks, and one for the way through them. Assumes nothing.
 use mathlib.Core.Path.{◌≡◌, ap, ◌∙◌}
 use mathlib.Core.Bool.{Bool, true, false, not}
 use mathlib.Core.List.{List}

@@ -1,4 +1,4 @@
--- `limit::one_to` meets its contract: its two tests are those of `oneTo`. Assumes nothing.
+-- `limit::one_to` meets its contract: its two tests are those of `one_to`. Assumes nothing.
 use borrow.Author.Tests.{lt-leb, le-leb}
 use Rattle.limit.proofs.one_to.Goals as goal
 

@@ -1,4 +1,4 @@
--- `sheet::cell_fine` meets its contract: its two tests are those of `cellFine`. Assumes nothing.
+-- `sheet::cell_fine` meets its contract: its two tests are those of `cell_fine`. Assumes nothing.
 use borrow.Author.Tests.{lt-ltb, le-ltb}
 use Rattle.sheet.proofs.cell_fine.Goals as goal
 

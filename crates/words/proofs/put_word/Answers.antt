@@ -1,4 +1,4 @@
--- `words::put_word` meets its contract: its four stores are those of `putWord`. Assumes nothing.
+-- `words::put_word` meets its contract: its four stores are those of `put_word`. Assumes nothing.
 use native.Mathlib.Omega.{arith}
 use lib.ListN.{length-set}
 use Rattle.words.proofs.put_word.Goals as goal
