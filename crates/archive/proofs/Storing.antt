@@ -5,20 +5,20 @@ use mathlib.Core.List.{List, [], ◌∷◌, ◌++◌}
 use Prim.Native.Nat.{ℕ, suc, ◌+◌, ◌*◌, ◌≤◌, ◌<◌}
 use native.Mathlib.Decide.{ℕ_discrete}
 use native.Mathlib.Omega.{arith}
-use lib.ListN.{length, get_or, set, replicate, length-set, length-append, length-replicate}
-use lib.Seq.{sets}
+use borrow.Rule.Slice.PartMut.{mid_of, put_mid}
+use lib.ListN.{length, take, drop, get_or, set, replicate, length-set, length-take, length-drop, length-replicate}
+use lib.Seq.{drop-drop}
 use Rattle.limit.specs.Limit.{table_size}
 use Rattle.arrays.specs.Arrays.{at}
 use Rattle.words.specs.Words.{words, encode, put_word}
 use Rattle.words.specs.Buffer.{placed}
 use Rattle.words.proofs.Words.{encode-append, encode-zeros}
-use Rattle.words.proofs.Buffer.{sets-append, sets-placed, put_placed}
+use Rattle.words.proofs.Buffer.{sets-placed, put_placed}
 use Rattle.sheet.specs.Table.{table_of}
 use Rattle.sheet.specs.Inner.{Unpackable}
 use Rattle.sheet.proofs.Left.{left, Left, left_begin, left-all, left-none, left_below, left-count, left_gone, left_other, left_again}
 use Rattle.archive.specs.ZOrder.{position_of}
 use Rattle.archive.specs.Archive.{archive_size, no_counts, in_order}
-use Rattle.archive.specs.Inner.{zero_bytes}
 use Rattle.archive.proofs.Bits.{position-below}
 use Rattle.archive.proofs.Ordered.{length_none, none-at, stored_here, stored_other, ordered_is}
 
@@ -77,25 +77,28 @@ module _ (s : List ℕ) (n e : ℕ) (given : Unpackable s n e) where
 
 -- ---- the buffer
 
--- a head of two words, and so many counts of 0 behind it
-head-zeros : (out : List ℕ) (n t m : ℕ) → 4 * (2 + m) ≤ length out
-    → sets (put_word (put_word out 0 n) 4 t) 8 (zero_bytes (4 * m)) ≡ placed (encode (n ∷ t ∷ replicate m 0)) out
-unfolding encode zero_bytes
+-- a head of two words, and so many counts of 0 written behind it
+head-zeros : (out : List ℕ) (n t m : ℕ) → 4 * (2 + m) ≤ length out →
+    let head = put_word (put_word out 0 n) 4 t in
+    put_mid 8 (4 * m) head (replicate (length (mid_of 8 (4 * m) head)) 0) ≡ placed (encode (n ∷ t ∷ replicate m 0)) out
+unfolding encode
 head-zeros out n t m fits =
     let h = encode (n ∷ t ∷ []) in
     let z : encode (n ∷ t ∷ replicate m 0) ≡ h ++ replicate (4 * m) 0 =
     encode-append (n ∷ t ∷ []) (replicate m 0) ∙ ap (λ (l : List ℕ). h ++ l) (encode-zeros m) in
-    let le : length (h ++ replicate (4 * m) 0) ≤ length out = simp (length-append, length-replicate) (omega arith) in
-    sym (sets-append out 0 h (replicate (4 * m) 0))
-    ∙ sets-placed (h ++ replicate (4 * m) 0) out le
-    ∙ ap (λ (l : List ℕ). placed l out) (sym z)
+    let size : length (take (4 * m) (drop 8 out)) ≡ 4 * m = simp (length-take, length-drop) (omega arith) in
+    let all : 8 + 4 * m ≡ length (h ++ replicate (4 * m) 0) = simp length-replicate (omega arith) in
+    let rest : drop (4 * m) (drop 8 out) ≡ drop (length (h ++ replicate (4 * m) 0)) out =
+    drop-drop (4 * m) 8 out ∙ ap (λ (k : ℕ). drop k out) all in
+    rw (sets-placed h out (omega arith), size)
+    (ap (λ (l : List ℕ). h ++ (replicate (4 * m) 0 ++ l)) rest ∙ ap (λ (l : List ℕ). placed l out) (sym z))
 
 -- the buffer after the two words and the zeros
-pub empty_placed : (out : List ℕ) {out₁ out₂ out₃ : List ℕ} (n t : ℕ) {k : ℕ} → out₁ ≡ put_word out 0 n → out₂ ≡ put_word out₁ 4 t
-    → out₃ ≡ sets out₂ 8 (zero_bytes k) → k ≡ 4 * table_size → archive_size ≤ length out → out₃ ≡ placed (encode (n ∷ t ∷ no_counts)) out
+pub empty_placed : (out : List ℕ) {out₁ out₂ zeros : List ℕ} (n t : ℕ) → out₁ ≡ put_word out 0 n → out₂ ≡ put_word out₁ 4 t
+    → zeros ≡ replicate (length (mid_of 8 (4 * table_size) out₂)) 0 → archive_size ≤ length out
+    → put_mid 8 (4 * table_size) out₂ zeros ≡ placed (encode (n ∷ t ∷ no_counts)) out
 unfolding no_counts
-empty_placed out n t first second third size fits =
-    rw (third, second, first, size) (head-zeros out n t table_size (omega arith))
+empty_placed out n t first second third fits = rw (third, second, first) (head-zeros out n t table_size (omega arith))
 
 -- one count more in the buffer
 pub put_count : (out : List ℕ) (n t : ℕ) (xs : List ℕ) (c k : ℕ) → length xs ≡ table_size

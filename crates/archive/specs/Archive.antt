@@ -1,6 +1,6 @@
 -- Request 2026-05: the record, *write archive* and *read archive*. "The archive wants every sheet at one size, with neighbouring cells
 -- close together. Write N, t and then 4,096 counts (16,392 bytes)."
-use Rattle.std.specs.Prelude.{◌≡◌, Bool, not, ◌||◌, List, [], ◌∷◌, ℕ, zero, suc, ◌+◌, ◌<◌, eqb, ltb, length, get_or, set, replicate}
+use Rattle.std.specs.Prelude.{◌≡◌, Bool, not, ◌||◌, List, [], ◌∷◌, ℕ, zero, suc, ◌+◌, ◌<◌, eqb, ltb, length, get_or, set, replicate, Result}
 use Rattle.fold.specs.All.{all}
 use Rattle.fold.specs.Collect.{collect}
 use Rattle.fold.specs.Sum.{sum}
@@ -9,7 +9,7 @@ use Rattle.arrays.specs.Arrays.{at}
 use Rattle.words.specs.Checks.{refuse_if, refuse_as}
 use Rattle.words.specs.Words.{words, encode}
 use Rattle.words.specs.Buffer.{after_call}
-use Rattle.words.specs.Answer.{refused, accepted}
+use Rattle.words.specs.Answer.{refused, accepted, answer_of}
 use Rattle.words.specs.declared.WrittenAnswer.{WrittenAnswer}
 use Rattle.sheet.specs.Sheet.{read_sheet, cell_fine, refusal_number as sheet_number}
 use Rattle.sheet.specs.Table.{table_in, held}
@@ -17,12 +17,8 @@ use Rattle.sheet.specs.Write.{sheet_bytes}
 use Rattle.archive.specs.ZOrder.{position, position_of}
 use Rattle.archive.specs.declared.write.WriteRefusal.{WriteRefusal}
 use Rattle.archive.specs.declared.write.WriteRefusal.TheVariants.{Sheet as OfSheet, Buffer as WriteBuffer}
-use Rattle.archive.specs.declared.write.ArchiveWriting.{ArchiveWriting}
-use Rattle.archive.specs.declared.write.ArchiveWriting.TheVariants.{Archived, Refused as NotArchived}
 use Rattle.archive.specs.declared.read.ReadRefusal.{ReadRefusal}
 use Rattle.archive.specs.declared.read.ReadRefusal.TheVariants.{Length, Nodes, Tolerance, Count, Buffer as ReadBuffer}
-use Rattle.archive.specs.declared.read.ArchiveReading.{ArchiveReading}
-use Rattle.archive.specs.declared.read.ArchiveReading.TheVariants.{Restored, Refused as NotRestored}
 
 -- ---- answers: the paper's number of each refusal, and its number and values for each case of the enums
 
@@ -41,13 +37,11 @@ read_number ReadBuffer = 56
 abbrev pub archive_size : ℕ
 archive_size = 16392
 
-abbrev pub writing_of : ArchiveWriting → WrittenAnswer
-writing_of Archived = accepted archive_size
-writing_of (NotArchived r) = refused (write_number r)
+abbrev pub writing_of : Result ℕ WriteRefusal → WrittenAnswer
+writing_of = answer_of write_number
 
-abbrev pub reading_of : ArchiveReading → WrittenAnswer
-reading_of (Restored bytes) = accepted bytes
-reading_of (NotRestored r) = refused (read_number r)
+abbrev pub reading_of : Result ℕ ReadRefusal → WrittenAnswer
+reading_of = answer_of read_number
 
 -- ---- the record: "Write N, t and then 4,096 counts"
 

@@ -1,11 +1,7 @@
 -- What the inner functions of this crate ask of each other and give. No promise to a caller rests on these definitions.
-use Rattle.std.specs.Prelude.{◌≡◌, List, ℕ, ◌≤◌, length, replicate}
+use Rattle.std.specs.Prelude.{◌≡◌, List, ℕ, ◌≤◌, length}
 use Rattle.limit.specs.Limit.{max_nodes, max_tolerance}
 use Rattle.archive.specs.Archive.{archive_size, nodes_in, tolerance_in}
-
--- so many bytes of 0
-unfoldable pub zero_bytes : ℕ → List ℕ
-zero_bytes k = replicate k 0
 
 -- the archive passes 54, 2 and 3, and its N and t are these
 pub record HeadRead (a : List ℕ) (n t : ℕ) : Type 0 where

@@ -1,42 +1,40 @@
 // *Write archive*: a sheet's counts, each at its cell's position, in a lent buffer.
 ghost use Rattle.std.specs.Prelude.{◌≡◌, ◌∷◌, ◌+◌, ◌≤◌, length};
-ghost use Rattle.std.proofs.lemmas.List.Edits.{sets};
 ghost use Rattle.words.specs.Words.{encode};
 ghost use Rattle.words.specs.Buffer.{placed};
 ghost use Rattle.sheet.specs.Sheet.{read_sheet, accepted};
 ghost use Rattle.sheet.specs.Table.{table_of};
 ghost use Rattle.sheet.specs.Inner.{Unpackable};
 ghost use Rattle.archive.specs.Archive.{archive_size, no_counts, archive_bytes, write_answer, archive_after, write_number, writing_of};
-ghost use Rattle.archive.specs.Inner.{zero_bytes};
+ghost use Rattle.archive.specs.declared.write.WriteRefusal.TheVariants.{Sheet as OfSheet};
 
 use crate::{ARCHIVE_SIZE, order};
-use limit::TABLE_SIZE;
-use sheet::{Sheet, SheetReading, SheetRefusal};
-use words::WrittenAnswer;
+use sheet::{Sheet, SheetRefusal};
+use words::Refusal;
 
 // Why no archive is written: as the sheet is refused; the buffer.
-#[derive(Drop)]
+#[derive(Clone, Copy, Debug, PartialEq, Eq)]
 pub enum WriteRefusal {
     Sheet(SheetRefusal),
     Buffer,
 }
 
-// The archive was written, or why not. Its length is that of all archives.
-#[derive(Drop)]
-pub enum ArchiveWriting {
-    Archived,
-    Refused(WriteRefusal),
+impl From<SheetRefusal> for WriteRefusal {
+    ghost from_gives = { λ r made. made ≡ OfSheet r };
+
+    fn from(r: SheetRefusal) -> WriteRefusal {
+        WriteRefusal::Sheet(r)
+    }
 }
 
-// Writes 0 to the k bytes of out from number first on.
-fn clear(out: &mut [u8], first: usize, k: usize)
-    requires { first + k ≤ length out.old }
-    ensures { out.new ≡ sets out.old first (zero_bytes k) }
-{
-    let mut i = 0;
-    while i < k {
-        out[first + i] = 0;
-        i += 1;
+impl Refusal for WriteRefusal {
+    ghost number_of = { write_number };
+
+    fn number(self) -> u32 {
+        match self {
+            WriteRefusal::Sheet(r) => r.number(),
+            WriteRefusal::Buffer => 56,
+        }
     }
 }
 
@@ -47,7 +45,7 @@ fn put_empty(out: &mut [u8], n: u32, t: u32)
 {
     words::put_word(out, 0, n);
     words::put_word(out, 1, t);
-    clear(out, 8, 4 * TABLE_SIZE);
+    out[8..ARCHIVE_SIZE].fill(0);
 }
 
 // Writes the archive of the sheet s, of e entries, into a buffer that is long enough. All counts are 0 at first, so that the cells that
@@ -58,61 +56,32 @@ fn put_archive(out: &mut [u8], s: &[u8], n: u32, t: u32, e: usize)
 {
     put_empty(out, n, t);
     let positions = order::positions();
-    let mut i = 0;
-    while i < e {
+    for i in 0..e {
         let c = words::word_number(s, 3 + i) as usize;
-        let p = positions[c] as usize;
+        let p = usize::from(positions[c]);
         words::put_word(out, 2 + p, words::word_number(s, 3 + e + i));
-        i += 1;
     }
 }
 
-// Writes the archive of a sheet that was read.
-fn write_read(s: &[u8], h: Sheet, out: &mut [u8]) -> ArchiveWriting
+// Writes the archive of a sheet that was read. Its length is that of all archives.
+#[tactic(auto, unfolding(crate::specs::Archive::write_answer, crate::specs::Archive::archive_of))]
+fn write_read(s: &[u8], h: Sheet, out: &mut [u8]) -> Result<u32, WriteRefusal>
     requires { accepted h.n h.t h.e h.p h.limit ≡ read_sheet s.now }
     ensures answer { writing_of result ≡ write_answer s.now (length out.old) }
     ensures bytes { out.new ≡ archive_after s.now out.old }
 {
     if out.len() < ARCHIVE_SIZE {
-        return ArchiveWriting::Refused(WriteRefusal::Buffer);
+        return Err(WriteRefusal::Buffer);
     }
     put_archive(out, s, h.n, h.t, h.e as usize);
-    ArchiveWriting::Archived
+    Ok(ARCHIVE_SIZE as u32)
 }
 
 // *Write archive*.
-pub fn write_archive(sheet: &[u8], archive: &mut [u8]) -> ArchiveWriting
+pub fn write_archive(sheet: &[u8], archive: &mut [u8]) -> Result<u32, WriteRefusal>
     ensures answer { writing_of result ≡ write_answer sheet.now (length archive.old) }
     ensures bytes { archive.new ≡ archive_after sheet.now archive.old }
 {
-    match sheet::read_sheet(sheet) {
-        SheetReading::Refused(r) => ArchiveWriting::Refused(WriteRefusal::Sheet(r)),
-        SheetReading::Accepted(h) => write_read(sheet, h, archive),
-    }
-}
-
-// Document 02's number of a refusal.
-fn number(r: WriteRefusal) -> u32
-    ensures { result ≡ write_number r }
-{
-    match r {
-        WriteRefusal::Sheet(r) => sheet::number(r),
-        WriteRefusal::Buffer => 56,
-    }
-}
-
-// A writing in document 02's numbers.
-pub fn answer(w: ArchiveWriting) -> WrittenAnswer
-    ensures { result ≡ writing_of w }
-{
-    match w {
-        ArchiveWriting::Archived => WrittenAnswer {
-            refusal: 0,
-            bytes: ARCHIVE_SIZE as u32,
-        },
-        ArchiveWriting::Refused(r) => WrittenAnswer {
-            refusal: number(r),
-            bytes: 0,
-        },
-    }
+    let h = sheet::read_sheet(sheet)?;
+    write_read(sheet, h, archive)
 }

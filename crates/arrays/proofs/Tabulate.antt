@@ -33,14 +33,6 @@ module _ (f : ℕ → ℕ) where
     | no d ↦ get_or-append (row nodes) (f nodes ∷ []) 0 k (omega (arith, length-row nodes)) ∙ row_at nodes k (omega arith)
   ]
 
-  -- an array of any length that is filled from the front: one entry more
-  pub filled_more : (xs : List ℕ) (n v : ℕ) → n < length xs → v ≡ f n → ((k : ℕ) → k < n → at xs k ≡ f k)
-      → (k : ℕ) → k < n + 1 → at (set xs n v) k ≡ f k
-  filled_more xs n v l e p k b = elim (ℕ_discrete k n) [
-    | yes q ↦ rw q (get_or-set_same xs n v 0 l ∙ e)
-    | no d ↦ get_or-set_other xs n k v 0 d ∙ p k (omega arith)
-  ]
-
 module _ (nodes : ℕ) (f : ℕ → ℕ) where
   pub tabulate-at : (k : ℕ) → k < nodes → at (tabulate nodes f) k ≡ f k
   unfolding tabulate
@@ -120,3 +112,8 @@ module _ (xs : List ℕ) (n v : ℕ) where
 
   pub stored-behind : (f : ℕ → ℕ) → ((k : ℕ) → n ≤ k → at xs k ≡ f k) → (k : ℕ) → n + 1 ≤ k → at (set xs n v) k ≡ f k
   stored-behind f p k b = get_or-set_other xs n k v 0 (λ e. omega arith) ∙ p k (omega arith)
+
+-- an array of any length that is filled from the front: one entry more
+pub filled_more : (f : ℕ → ℕ) (xs : List ℕ) (n v : ℕ) → n < length xs → v ≡ f n → ((k : ℕ) → k < n → at xs k ≡ f k)
+    → (k : ℕ) → k < n + 1 → at (set xs n v) k ≡ f k
+filled_more f xs n v = stored-below xs n v f

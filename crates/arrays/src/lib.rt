@@ -12,12 +12,8 @@ pub fn all_at_most(entries: [u32; 64], nodes: usize, bound: u32) -> bool
     ensures { result ≡ all nodes (λ k. leb (at entries k) bound) }
 {
     let mut fine = true;
-    let mut k = 0;
-    while k < nodes {
-        if bound < entries[k] {
-            fine = false;
-        }
-        k += 1;
+    for entry in &entries[..nodes] {
+        fine &= *entry <= bound;
     }
     fine
 }

@@ -14,10 +14,9 @@ use Rattle.carry.specs.declared.check.CheckRefusal.{CheckRefusal}
 use Rattle.carry.specs.declared.check.CheckRefusal.TheVariants.{Sheet, Moves, NodesDiffer, Sends}
 use Rattle.carry.specs.declared.CarryRefusal.{CarryRefusal}
 use Rattle.carry.specs.declared.CarryRefusal.TheVariants.{Check, Buffer}
-use Rattle.carry.specs.declared.Carrying.{Carrying}
-use Rattle.carry.specs.declared.Carrying.TheVariants.{Carried, Refused}
 use Rattle.carry.specs.Checks.{check_number}
 use Rattle.carry.specs.Carry.{answer_of}
+use Rattle.std.specs.Prelude.{Err, Ok, Result}
 
 -- ---- the checks
 
@@ -44,17 +43,17 @@ abbrev refusal_of : ℕ → CarryRefusal
 refusal_of k = cond (leb k 42) (Check (check_of k)) Buffer
 
 -- the carrying out of an answer
-abbrev carrying_of : WrittenAnswer → Carrying
-carrying_of a = cond (eqb a.refusal 0) (Carried a.bytes) (Refused (refusal_of a.refusal))
+abbrev carrying_of : WrittenAnswer → Result ℕ CarryRefusal
+carrying_of a = cond (eqb a.refusal 0) (Ok a.bytes) (Err (refusal_of a.refusal))
 
-back : (c : Carrying) → carrying_of (answer_of c) ≡ c
-back (Carried bytes) = refl
-back (Refused (Check r)) =
+back : (c : Result ℕ CarryRefusal) → carrying_of (answer_of c) ≡ c
+back (Ok bytes) = refl
+back (Err (Check r)) =
     let n = numbered r in
     rw (ne_eqb (check_number r) 0 (λ z. omega (arith, n.0)), le-leb (check_number r) 42 n.1)
-    (ap (λ (x : CheckRefusal). Refused (Check x)) n.2)
-back (Refused Buffer) = refl
+    (ap (λ (x : CheckRefusal). Err (Check x)) n.2)
+back (Err Buffer) = refl
 
 -- THEOREM. Two carryings out with the same numbers are the same.
-pub answer_determines : (a b : Carrying) → answer_of a ≡ answer_of b → a ≡ b
+pub answer_determines : (a b : Result ℕ CarryRefusal) → answer_of a ≡ answer_of b → a ≡ b
 answer_determines a b e = sym (back a) ∙ ap carrying_of e ∙ back b

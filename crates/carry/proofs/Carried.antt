@@ -11,10 +11,9 @@ use Rattle.fold.specs.Sum.{sum}
 use Rattle.limit.specs.Limit.{max_total, table_size}
 use Rattle.arrays.specs.Arrays.{at}
 use Rattle.words.specs.Checks.{refuse_if}
-use Rattle.words.specs.Buffer.{written, writing}
+use Rattle.words.specs.Buffer.{written, writing, too_short}
 use Rattle.words.specs.Answer.{refused, accepted}
 use Rattle.words.specs.declared.WrittenAnswer.{WrittenAnswer}
-use Rattle.words.specs.declared.Written.TheVariants.{Bytes, Short}
 use Rattle.words.proofs.Writing.{Ends, ends_written, ends_short}
 use Rattle.sheet.specs.declared.Sheet.{Sheet}
 use Rattle.sheet.specs.declared.SheetAnswer.{SheetAnswer}
@@ -32,6 +31,7 @@ use Rattle.carry.specs.Checks.{check_number, within_in, checked}
 use Rattle.carry.specs.Carry.{next_table, next_sheet, carry_answer}
 use Rattle.carry.specs.Inner.{PairAccepted}
 use Rattle.carry.proofs.Checks.{carriable_checked, stops_sends, stops_nowhere, ends_checked, sheet_facts, ready}
+use Rattle.std.specs.Prelude.{Err, Ok}
 
 -- ---- what applying the moves asks, and what it gives
 
@@ -72,8 +72,8 @@ module _ {s m : List ℕ} {h : Sheet} {q : Moves} (r : PairAccepted s m h q) (ou
     unfolding carry_answer
     last = rw (carriable_checked s m (stops_nowhere r w))
 
-    pub ends_carried : (size : ℕ) → Bytes size ≡ writing rec out → CarryEnds s m out (accepted size) (written rec out)
+    pub ends_carried : (size : ℕ) → Ok size ≡ writing rec out → CarryEnds s m out (accepted size) (written rec out)
     ends_carried = ends_written (carry_answer s m (length out)) (next_sheet s m) out 43 last next-is
 
-    pub ends_unwritten : Short ≡ writing rec out → CarryEnds s m out (refused 43) (written rec out)
+    pub ends_unwritten : Err too_short ≡ writing rec out → CarryEnds s m out (refused 43) (written rec out)
     ends_unwritten = ends_short (carry_answer s m (length out)) (next_sheet s m) out 43 last next-is (λ z. omega arith)

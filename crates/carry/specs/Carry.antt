@@ -1,10 +1,10 @@
 -- Document 01, *Carry out*: "takes a sheet and moves, writes the sheet that follows (same t; each cell less what it sends, plus
 -- what it receives), and gives its length in bytes."
-use Rattle.std.specs.Prelude.{◌≡◌, ℕ, List, ltb, length}
+use Rattle.std.specs.Prelude.{◌≡◌, ℕ, List, ltb, length, Result}
 use Rattle.words.specs.Checks.{refuse_if, refuse_as}
 use Rattle.words.specs.Buffer.{after_call}
 use Rattle.words.specs.declared.WrittenAnswer.{WrittenAnswer}
-use Rattle.words.specs.Answer.{refused, accepted}
+use Rattle.words.specs.Answer.{refused, accepted, answer_of as written_answer_of}
 use Rattle.sheet.specs.Sheet.{read_sheet, accepted as sheet_accepted}
 use Rattle.sheet.specs.Table.{table_in}
 use Rattle.sheet.specs.Write.{filled_cells, sheet_bytes}
@@ -12,8 +12,6 @@ use Rattle.transfer.specs.Apply.{carried}
 use Rattle.carry.specs.Checks.{check_number, routes_in, counts_in, checked}
 use Rattle.carry.specs.declared.CarryRefusal.{CarryRefusal}
 use Rattle.carry.specs.declared.CarryRefusal.TheVariants.{Check, Buffer}
-use Rattle.carry.specs.declared.Carrying.{Carrying}
-use Rattle.carry.specs.declared.Carrying.TheVariants.{Carried, Refused}
 
 -- ---- answers
 
@@ -23,9 +21,8 @@ number_of (Check r) = check_number r
 number_of Buffer = 43
 
 -- the paper's number and values for each case of the enum
-abbrev pub answer_of : Carrying → WrittenAnswer
-answer_of (Carried bytes) = accepted bytes
-answer_of (Refused r) = refused (number_of r)
+abbrev pub answer_of : Result ℕ CarryRefusal → WrittenAnswer
+answer_of = written_answer_of number_of
 
 -- ---- what is carried out, for a sheet s and moves m that pass the checks
 

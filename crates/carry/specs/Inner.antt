@@ -1,12 +1,11 @@
 -- What the inner functions of this crate ask of each other. No promise to a caller rests on these definitions.
-use Rattle.std.specs.Prelude.{◌≡◌, List, ℕ, ◌≤◌}
+use Rattle.std.specs.Prelude.{◌≡◌, List, ℕ, ◌≤◌, Err, Ok, Result}
 use Rattle.sheet.specs.declared.Sheet.{Sheet}
 use Rattle.sheet.specs.Sheet.{read_sheet, accepted as sheet_accepted}
 use Rattle.moves.specs.declared.Moves.{Moves}
 use Rattle.moves.specs.Moves.{read_moves, accepted as moves_accepted}
 use Rattle.carry.specs.Checks.{check_number, checked}
-use Rattle.carry.specs.declared.check.PairReading.{PairReading}
-use Rattle.carry.specs.declared.check.PairReading.TheVariants.{Accepted, Refused}
+use Rattle.carry.specs.declared.check.CheckRefusal.{CheckRefusal}
 
 -- the sheet and the moves were read as these, and have as many nodes
 pub record PairAccepted (s m : List ℕ) (h : Sheet) (q : Moves) : Type 0 where
@@ -15,6 +14,6 @@ pub record PairAccepted (s m : List ℕ) (h : Sheet) (q : Moves) : Type 0 where
   pub nodes : h.n ≡ q.n
 
 -- what reading both gives: they were read, or the number of the first check up to 41 that refuses
-abbrev pub PairRead : List ℕ → List ℕ → PairReading → Type 0
-PairRead s m (Accepted h q) = PairAccepted s m h q
-PairRead s m (Refused r) = (check_number r ≡ checked s m) × (check_number r ≤ 41)
+abbrev pub PairRead : List ℕ → List ℕ → Result (Sheet × Moves) CheckRefusal → Type 0
+PairRead s m (Ok (h, q)) = PairAccepted s m h q
+PairRead s m (Err r) = (check_number r ≡ checked s m) × (check_number r ≤ 41)

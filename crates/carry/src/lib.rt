@@ -5,77 +5,74 @@
 ghost use Rattle.std.specs.Prelude.{◌≡◌, length};
 ghost use Rattle.carry.specs.Carry.{carry_answer, next_after, number_of, answer_of};
 ghost use Rattle.carry.specs.Inner.{PairAccepted};
+ghost use Rattle.carry.specs.declared.CarryRefusal.TheVariants.{Check, Buffer};
 
-use check::{CheckRefusal, PairReading};
+use check::CheckRefusal;
 use moves::Moves;
 use sheet::Sheet;
-use words::{Written, WrittenAnswer};
+use words::{Refusal, TooShort};
 
 pub mod check;
 
 // Why carrying out is refused, in the order of the checks.
-#[derive(Drop)]
+#[derive(Clone, Copy, Debug, PartialEq, Eq)]
 pub enum CarryRefusal {
     Check(CheckRefusal),
     Buffer,
 }
 
-// The length in bytes of the sheet that follows, or why there is none.
-#[derive(Drop)]
-pub enum Carrying {
-    Carried(u32),
-    Refused(CarryRefusal),
+impl From<CheckRefusal> for CarryRefusal {
+    ghost from_gives = { λ r made. made ≡ Check r };
+
+    fn from(r: CheckRefusal) -> CarryRefusal {
+        CarryRefusal::Check(r)
+    }
+}
+
+impl From<TooShort> for CarryRefusal {
+    ghost from_gives = { λ r made. made ≡ Buffer };
+
+    fn from(_r: TooShort) -> CarryRefusal {
+        CarryRefusal::Buffer
+    }
+}
+
+impl Refusal for CarryRefusal {
+    ghost number_of = { number_of };
+
+    fn number(self) -> u32 {
+        match self {
+            CarryRefusal::Check(r) => r.number(),
+            CarryRefusal::Buffer => 43,
+        }
+    }
 }
 
 // Carries out moves on a sheet, both read.
-fn carry_read(sheet: &[u8], moves: &[u8], s: Sheet, m: Moves, next: &mut [u8]) -> Carrying
+fn carry_read(
+    sheet: &[u8],
+    moves: &[u8],
+    s: Sheet,
+    m: Moves,
+    next: &mut [u8],
+) -> Result<u32, CarryRefusal>
     requires { PairAccepted sheet.now moves.now s m }
     ensures answer { answer_of result ≡ carry_answer sheet.now moves.now (length next.old) }
     ensures bytes { next.new ≡ next_after sheet.now moves.now next.old }
 {
     let mut table = sheet::table::unpack(sheet, s.e as usize);
     if !transfer::apply::apply_moves(&mut table, moves, m.e as usize) {
-        return Carrying::Refused(CarryRefusal::Check(CheckRefusal::Sends));
+        return Err(CarryRefusal::Check(CheckRefusal::Sends));
     }
-    match sheet::write::write_sheet(next, s.n, s.t, &table) {
-        Written::Bytes(size) => Carrying::Carried(size as u32),
-        Written::Short => Carrying::Refused(CarryRefusal::Buffer),
-    }
+    let size = sheet::write::write_sheet(next, s.n, s.t, &table)?;
+    Ok(size as u32)
 }
 
 // *Carry out*.
-pub fn carry_out(sheet: &[u8], moves: &[u8], next: &mut [u8]) -> Carrying
+pub fn carry_out(sheet: &[u8], moves: &[u8], next: &mut [u8]) -> Result<u32, CarryRefusal>
     ensures answer { answer_of result ≡ carry_answer sheet.now moves.now (length next.old) }
     ensures bytes { next.new ≡ next_after sheet.now moves.now next.old }
 {
-    match check::read_pair(sheet, moves) {
-        PairReading::Refused(r) => Carrying::Refused(CarryRefusal::Check(r)),
-        PairReading::Accepted(s, m) => carry_read(sheet, moves, s, m, next),
-    }
-}
-
-// Document 01's number of a refusal.
-fn number(r: CarryRefusal) -> u32
-    ensures { result ≡ number_of r }
-{
-    match r {
-        CarryRefusal::Check(r) => check::number(r),
-        CarryRefusal::Buffer => 43,
-    }
-}
-
-// A carrying out in document 01's numbers.
-pub fn answer(c: Carrying) -> WrittenAnswer
-    ensures { result ≡ answer_of c }
-{
-    match c {
-        Carrying::Carried(bytes) => WrittenAnswer {
-            refusal: 0,
-            bytes: bytes,
-        },
-        Carrying::Refused(r) => WrittenAnswer {
-            refusal: number(r),
-            bytes: 0,
-        },
-    }
+    let (s, m) = check::read_pair(sheet, moves)?;
+    carry_read(sheet, moves, s, m, next)
 }

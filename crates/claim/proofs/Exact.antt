@@ -19,8 +19,7 @@ use Rattle.sheet.specs.Sheet.{read_sheet}
 use Rattle.sheet.specs.Table.{table_in, held}
 use Rattle.sheet.specs.Totals.{totals_in}
 use Rattle.sheet.proofs.Accepted.{sheet-accepted}
-use Rattle.plan.specs.declared.Plan.{Plan}
-use Rattle.plan.specs.Plan.{read_plan, helpands_of, shares_of}
+use Rattle.plan.specs.Plan.{kind_number, read_plan, helpands_of, shares_of}
 use Rattle.plan.proofs.Accepted.{plan-accepted, helpands_are}
 use Rattle.moves.specs.declared.MovesAnswer.{MovesAnswer}
 use Rattle.moves.specs.Moves.{read_moves, routes_of, counts_of}
@@ -44,22 +43,19 @@ use Rattle.claim.proofs.Agree.{tree_agree, within_agree, target_agree, due_agree
 
 -- ---- the old plan, as the demand has it and as it is read
 
-abbrev plan_of : List ℕ → Plan
-plan_of o = let a = read_plan o in record { n = a.n; kind = a.kind; limit = a.limit }
-
 not_empty : (o : List ℕ) → (read_plan o).refusal ≡ 0 → length o ≢ 0
 not_empty o e z = omega (arith, (plan-accepted o e).size)
 
 tree-read : (s o : List ℕ) → AcceptedTree s o → read_old o (read_sheet s).n ≡ old_read true
 tree-read s o t =
     let p = plan-accepted o t.accepted in
-    sym (old-tree o (read_sheet s).n (not_empty o t.accepted) (plan_of o) (sym p.answer) t.nodes t.kind)
+    sym (old-tree o (read_sheet s).n (not_empty o t.accepted) _ _ _ (sym p.answer) t.nodes t.kind)
 
 none_read : (s o : List ℕ) → NoTree s o → read_old o (read_sheet s).n ≡ old_read false
 none_read s o (inl e) = sym (old_empty o (read_sheet s).n e)
 none_read s o (inr t) =
     let p = plan-accepted o t.accepted in
-    sym (old-primary o (read_sheet s).n (not_empty o t.accepted) (plan_of o) (sym p.answer) t.nodes t.kind)
+    sym (old-primary o (read_sheet s).n (not_empty o t.accepted) _ _ _ (sym p.answer) t.nodes t.kind)
 
 -- so planning gets past the old plan
 pub plannable : (s o : List ℕ) → Overloaded s → AcceptedTree s o ⊎ NoTree s o → Plannable s o
@@ -138,10 +134,10 @@ module _ {s o : List ℕ} (over : Overloaded s) (y : Plannable s o) where
     pub old-at : at old ≡ at (helpands_of o n₀)
     old-at = ap at old_is ∙ padded-same (helpands_of o n₀)
 
-    kept_exactly : (d.kind ≡ 1) ↔ Rival s o
+    kept_exactly : (kind_number d.kind ≡ 1) ↔ Rival s o
     kept_exactly = rw old-at at (with_tree has-tree).kept
 
-    pub same-helpands : d.kind ≡ 1 → helpands_of plan n₀ ≡ helpands_of o n₀
+    pub same-helpands : kind_number d.kind ≡ 1 → helpands_of plan n₀ ≡ helpands_of o n₀
     same-helpands k =
         let long = helpands_are o (read_plan o) (plan-accepted o t.accepted) in
         let size = ap (λ (m : ℕ). length (helpands_of o m)) (sym t.nodes) ∙ long ∙ t.nodes in
@@ -179,13 +175,13 @@ module _ {s o : List ℕ} (over : Overloaded s) (y : Plannable s o) where
 
   module _ (t : AcceptedTree s o ⊎ NoTree s o) where
     -- kept or rebuilt, whichever it is
-    kept_way : d.kind ≡ 1 → KeptFine n₀ limit (totals_in s) old d
+    kept_way : kind_number d.kind ≡ 1 → KeptFine n₀ limit (totals_in s) old d
     kept_way k = ⊎_elim (λ a. (with_tree (has-tree a)).kept_division k) (λ n. absurd (omega (arith, k, (without (no_tree n)).kind))) t
 
-    rebuilt_way : d.kind ≡ 2 → RebuiltFine n₀ (read_sheet s).p (totals_in s) d
+    rebuilt_way : kind_number d.kind ≡ 2 → RebuiltFine n₀ (read_sheet s).p (totals_in s) d
     rebuilt_way k = ⊎_elim (λ a. (with_tree (has-tree a)).rebuilt_division k) (λ n. without (no_tree n)) t
 
-    pub balanced : Balanced s o plan (next_sheet s moves) d.kind
+    pub balanced : Balanced s o plan (next_sheet s moves) (kind_number d.kind)
     balanced =
         let h = at d.helpands in
         let h' = at (helpands_of plan n₀) in
@@ -220,7 +216,7 @@ exact s o p m x over t f g h =
     let y = plannable s o over t in
     let answer = done-step s o (length p) (length m) y f g in
     let e : (step_answer s o (length p) (length m)).refusal ≡ 0 = ap (λ (a : StepAnswer). a.refusal) answer in
-    let kinds : (step_answer s o (length p) (length m)).kind ≡ (decision_in s o).kind = ap (λ (a : StepAnswer). a.kind) answer in
+    let kinds : (step_answer s o (length p) (length m)).kind ≡ kind_number (decision_in s o).kind = ap (λ (a : StepAnswer). a.kind) answer in
     let carried = carries_out s (moves_in s o) (length x) (carriable over y) h in
     let q : (carry_answer s (moves_in s o) (length x)).refusal ≡ 0 = ap (λ (c : WrittenAnswer). c.refusal) carried in
     rw (moves_front s o p m e)

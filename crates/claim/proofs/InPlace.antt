@@ -6,6 +6,7 @@ use mathlib.Core.List.{List}
 use Prim.Native.Nat.{ℕ, ◌-◌, ◌≤◌, ◌<◌}
 use native.Mathlib.Omega.{arith}
 use lib.ListN.{length, take}
+use Rattle.plan.specs.Plan.{kind_number}
 use Rattle.arrays.specs.Arrays.{at}
 use Rattle.sheet.specs.Sheet.{cell, read_sheet}
 use Rattle.sheet.specs.Table.{table_in, held}
@@ -46,7 +47,7 @@ module _ {s o : List ℕ} (over : Overloaded s) (y : Plannable s o) where
 
 -- ---- the three records
 
-module _ {s o : List ℕ} (over : Overloaded s) (t : AcceptedTree s o) (e : (decision_in s o).kind ≡ 1) where
+module _ {s o : List ℕ} (over : Overloaded s) (t : AcceptedTree s o) (e : kind_number (decision_in s o).kind ≡ 1) where
   abbrev Given : (ℕ → ℕ) → (ℕ → ℕ) → (ℕ → ℕ) → Type 0
   Given h least share = OwnInPlace (read_sheet s).n h (read_sheet s).limit least (at (totals_in s)) (held (table_in s)) share
 

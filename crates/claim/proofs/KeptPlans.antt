@@ -9,7 +9,7 @@ use Rattle.arrays.specs.Arrays.{at, tabulate}
 use Rattle.sheet.specs.Sheet.{read_sheet}
 use Rattle.sheet.specs.Table.{table_in}
 use Rattle.sheet.specs.Totals.{totals_in}
-use Rattle.plan.specs.Plan.{helpands_of, shares_of}
+use Rattle.plan.specs.Plan.{kind_number, helpands_of, shares_of}
 use Rattle.tree.specs.Least.{least}
 use Rattle.decide.specs.declared.Decision.{Decision}
 use Rattle.decide.specs.Decide.{leasts_of}
@@ -26,7 +26,7 @@ use Rattle.claim.specs.Claim.{Overloaded, AcceptedTree, LongEnough, helpand, sha
 use Rattle.claim.specs.Rest.{leasts}
 use Rattle.claim.proofs.Exact.{plannable, carriable, back, limit_is, needed_here, has-tree, old-at, same-helpands}
 
-module _ {s o : List ℕ} (over : Overloaded s) (t : AcceptedTree s o) (k : (decision_in s o).kind ≡ 1) where
+module _ {s o : List ℕ} (over : Overloaded s) (t : AcceptedTree s o) (k : kind_number (decision_in s o).kind ≡ 1) where
   abbrev n₀ : ℕ
   n₀ = (read_sheet s).n
 
@@ -41,7 +41,7 @@ module _ {s o : List ℕ} (over : Overloaded s) (t : AcceptedTree s o) (k : (dec
 
   pub decided_so : KeptFamilies n₀ limit (table_in s) (totals_in s) old (decision_in s o)
   decided_so =
-      let kind : Decision → ℕ = λ d. d.kind in
+      let kind : Decision → ℕ = λ d. kind_number d.kind in
       rw (decision (was_read y), limit_is over y)
       (decided_families n₀ (read_sheet s).p (read_sheet s).t (table_in s) (totals_in s) (read_old o n₀).tree old (given (was_read y))
       (needed_here over y) (has-tree over y t) (rw (← limit_is over y) (sym (ap kind (decision (was_read y))) ∙ k)))
@@ -65,7 +65,7 @@ module _ {s o : List ℕ} (over : Overloaded s) (t : AcceptedTree s o) (k : (dec
 -- ---- what is true of the three records, if the tree is kept, is true of the buffers
 
 pub kept_step : (s o p m x : List ℕ) → Overloaded s → AcceptedTree s o → LongEnough s p m x → (Q : List ℕ → List ℕ → List ℕ → Type 0)
-    → ((decision_in s o).kind ≡ 1 → Q (plan_in s o) (moves_in s o) (next_sheet s (moves_in s o)))
+    → (kind_number (decision_in s o).kind ≡ 1 → Q (plan_in s o) (moves_in s o) (next_sheet s (moves_in s o)))
     → let a = step_answer s o (length p) (length m) in
     let moves = take a.moves (moves_after s o m (length p)) in
     let c = carry_answer s moves (length x) in
@@ -77,7 +77,7 @@ kept_step s o p m x over t long Q q k =
     let next_fits : length (next_sheet s (moves_in s o)) ≤ length x = omega (arith, next-size (carriable over y), long.next) in
     let answer = done-step s o (length p) (length m) y plan-fits moves-fit in
     let e : (step_answer s o (length p) (length m)).refusal ≡ 0 = ap (λ (a : StepAnswer). a.refusal) answer in
-    let kinds : (step_answer s o (length p) (length m)).kind ≡ (decision_in s o).kind = ap (λ (a : StepAnswer). a.kind) answer in
+    let kinds : (step_answer s o (length p) (length m)).kind ≡ kind_number (decision_in s o).kind = ap (λ (a : StepAnswer). a.kind) answer in
     let carried = carries_out s (moves_in s o) (length x) (carriable over y) next_fits in
     let f : (carry_answer s (moves_in s o) (length x)).refusal ≡ 0 = ap (λ (c : WrittenAnswer). c.refusal) carried in
     rw (moves_front s o p m e) (rw (plan-front s o p m e, next-front s (moves_in s o) x f) (q (sym kinds ∙ k)))

@@ -13,6 +13,8 @@ use Rattle.fold.specs.Sum.{only, sum}
 use Rattle.fold.proofs.Sums.{sum_zeros, sum_term}
 use Rattle.fold.proofs.Tests.{either, and_left, and_right, all_of, only-max}
 use Rattle.limit.specs.Limit.{max_nodes, max_tolerance, max_total, limit_of}
+use Rattle.plan.specs.declared.Kind.{Kind}
+use Rattle.plan.specs.Plan.{kind_number}
 use Rattle.plan.specs.Tree.{helpands_below, Tree}
 use Rattle.plan.proofs.RoundTrip.{ReadBack, tree-read-written, roots-read-written}
 use Rattle.sheet.specs.Table.{held}
@@ -53,13 +55,13 @@ pub record Given (nodes p t : ℕ) (table totals : List ℕ) (tree : Bool) (old 
 
 -- of every plan: it is read back as what was written, and no owner's helpers are given more than there is
 pub record Fine (nodes limit : ℕ) (totals : List ℕ) (d : Decision) : Type 0 where
-  pub read_back : ReadBack nodes d.kind limit d.helpands d.shares
+  pub read_back : ReadBack nodes (kind_number d.kind) limit d.helpands d.shares
   pub inside : (k : ℕ) → k < nodes → at d.helpands k < nodes
   pub enough : (n : ℕ) → n < nodes → over_helpers nodes (at d.helpands) n (at d.shares) ≤ at totals n
 
 -- kind 1 has the old helpands, and its shares are a division within the limit
 pub record KeptFine (nodes limit : ℕ) (totals old : List ℕ) (d : Decision) : Type 0 where
-  pub kind : d.kind ≡ 1
+  pub kind : kind_number d.kind ≡ 1
   pub helpands : d.helpands ≡ old
   pub within :
       let own = own_of nodes (at d.helpands) (at totals) (at d.shares) in
@@ -74,7 +76,7 @@ pub record KeptFamilies (nodes limit : ℕ) (table totals old : List ℕ) (d : D
 
 -- kind 2 has a tree, and its shares are a division with every load equal to the node's target
 pub record RebuiltFine (nodes p : ℕ) (totals : List ℕ) (d : Decision) : Type 0 where
-  pub kind : d.kind ≡ 2
+  pub kind : kind_number d.kind ≡ 2
   pub tree : (r : ℕ) × Tree nodes (at d.helpands) r
   pub on_target :
       let own = own_of nodes (at d.helpands) (at totals) (at d.shares) in
@@ -213,7 +215,7 @@ module _ (nodes p t : ℕ) (table totals : List ℕ) (tree : Bool) (old : List �
   decided-rebuilt f h = simp (f, h) rebuilt_way
 
   -- THEOREM. Where a tree is needed and the old one is kept, the rest of each family is levelled, and helpers' own particles are in place.
-  pub decided_families : primary nodes (at totals) limit ≡ false → tree ≡ true → decision.kind ≡ 1
+  pub decided_families : primary nodes (at totals) limit ≡ false → tree ≡ true → kind_number decision.kind ≡ 1
       → KeptFamilies nodes limit table totals old decision
   decided_families f e k = by (either (holds nodes (at old) (at totals) limit))
     where
@@ -246,7 +248,7 @@ unfolding decided
 kind-by-totals nodes p limit totals tree old table table' =
     alike (primary nodes (at totals) limit) (tree && holds nodes (at old) (at totals) limit)
   where
-    kind_of : List ℕ → Bool → Bool → ℕ
+    kind_of : List ℕ → Bool → Bool → Kind
     kind_of xs low keeps =
         (cond low (primary_plan nodes) (cond keeps (kept_plan nodes limit xs totals old) (rebuilt_plan nodes p totals old))).kind
 

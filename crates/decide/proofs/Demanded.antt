@@ -9,6 +9,7 @@ use native.Mathlib.Omega.{arith}
 use Rattle.fold.proofs.Tests.{either}
 use Rattle.limit.specs.Limit.{limit_of}
 use Rattle.arrays.specs.Arrays.{at}
+use Rattle.plan.specs.Plan.{kind_number}
 use Rattle.tree.specs.Division.{WithinLimit}
 use Rattle.tree.specs.Primary.{primary}
 use Rattle.tree.specs.Least.{holds}
@@ -22,12 +23,12 @@ abbrev pub SomeDivision : ℕ → ℕ → List ℕ → List ℕ → Type 0
 SomeDivision nodes limit totals old = (own : ℕ → ℕ) × (share : ℕ → ℕ) × WithinLimit nodes (at old) (at totals) limit own share
 
 pub record Demanded (nodes p limit : ℕ) (totals old : List ℕ) (d : Decision) : Type 0 where
-  pub kept : (d.kind ≡ 1) ↔ SomeDivision nodes limit totals old
-  pub otherwise : (d.kind ≡ 1) ⊎ (d.kind ≡ 2)
+  pub kept : (kind_number d.kind ≡ 1) ↔ SomeDivision nodes limit totals old
+  pub otherwise : (kind_number d.kind ≡ 1) ⊎ (kind_number d.kind ≡ 2)
   -- "in kind 1, which has the old helpands, a rival's division"
-  pub kept_division : d.kind ≡ 1 → KeptFine nodes limit totals old d
+  pub kept_division : kind_number d.kind ≡ 1 → KeptFine nodes limit totals old d
   -- "in kind 2, one with every load equal to the node's target"
-  pub rebuilt_division : d.kind ≡ 2 → RebuiltFine nodes p totals d
+  pub rebuilt_division : kind_number d.kind ≡ 2 → RebuiltFine nodes p totals d
 
 module _ (nodes p t : ℕ) (table totals : List ℕ) (tree : Bool) (old : List ℕ) (g : Given nodes p t table totals tree old)
     (needed : primary nodes (at totals) (limit_of p nodes t) ≡ false) where

@@ -5,6 +5,7 @@ use Rattle.sheet.specs.Table.{held}
 use Rattle.tree.specs.Least.{least, holds}
 use Rattle.shares.specs.Shares.{kept_shares}
 use Rattle.rebuild.specs.Rebuild.{rebuilt_of}
+use Rattle.plan.specs.declared.Kind.TheVariants.{Primary, Kept, Rebuilt}
 use Rattle.decide.specs.declared.Decision.{Decision}
 use Rattle.tree.specs.Primary.{primary}
 
@@ -14,7 +15,7 @@ own_numbers nodes = tabulate nodes (λ k. k)
 
 -- "In kind 0 every node is such a root": its helpand is its own number and its share is 0
 abbrev pub primary_plan : ℕ → Decision
-primary_plan nodes = record { kind = 0; helpands = own_numbers nodes; shares = replicate 64 0 }
+primary_plan nodes = record { kind = Primary; helpands = own_numbers nodes; shares = replicate 64 0 }
 
 -- the leasts of all nodes
 abbrev pub leasts_of : ℕ → List ℕ → List ℕ → ℕ → List ℕ
@@ -23,7 +24,7 @@ leasts_of nodes old totals limit = tabulate nodes (least nodes (at old) (at tota
 -- "A tree that holds is kept (kind 1)", with the shares in a kept tree
 abbrev pub kept_plan : ℕ → ℕ → List ℕ → List ℕ → List ℕ → Decision
 kept_plan nodes limit table totals old = record {
-  kind = 1;
+  kind = Kept;
   helpands = old;
   shares = kept_shares nodes (at old) limit (at (leasts_of nodes old totals limit)) (at totals) (held table);
 }
@@ -31,7 +32,7 @@ kept_plan nodes limit table totals old = record {
 -- kind 2, rebuilt for a total of p
 abbrev pub rebuilt_plan : ℕ → ℕ → List ℕ → List ℕ → Decision
 rebuilt_plan nodes p totals old =
-    record { kind = 2; helpands = (rebuilt_of nodes p totals old).helpands; shares = (rebuilt_of nodes p totals old).shares }
+    record { kind = Rebuilt; helpands = (rebuilt_of nodes p totals old).helpands; shares = (rebuilt_of nodes p totals old).shares }
 
 -- a tree is needed: the old one is kept if there is one and it holds
 abbrev pub tree_plan : ℕ → ℕ → ℕ → List ℕ → List ℕ → Bool → List ℕ → Decision

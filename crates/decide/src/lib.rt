@@ -1,7 +1,7 @@
 // Document 01, 'Deciding': the plan of a step is primary, or the old tree kept, or a tree rebuilt.
 #![tactic(auto)]
 
-ghost use Rattle.std.specs.Prelude.{◌≡◌, true, ℕ, ◌≤◌};
+ghost use Rattle.std.specs.Prelude.{◌≡◌, true, ℕ, ◌≤◌, IfSome, is_some, unwrap_or};
 ghost use Rattle.fold.specs.Sum.{sum};
 ghost use Rattle.limit.specs.Limit.{max_nodes, max_total};
 ghost use Rattle.plan.specs.Tree.{helpands_below, Tree};
@@ -10,11 +10,14 @@ ghost use Rattle.decide.specs.Decide.{own_numbers, primary_plan, rebuilt_plan, t
 ghost use Rattle.arrays.specs.Arrays.{at};
 
 use limit::TABLE_SIZE;
+use plan::Kind;
+use rebuild::Rebuilt;
+use tree::links::Helpers;
 
 // A plan without its N and limit.
 #[derive(Clone, Copy)]
 pub struct Decision {
-    pub kind: u32,
+    pub kind: Kind,
     pub helpands: [u32; 64],
     pub shares: [u32; 64],
 }
@@ -25,10 +28,8 @@ pub fn own_numbers(nodes: usize) -> [u32; 64]
     ensures { result ≡ own_numbers nodes }
 {
     let mut out = [0u32; 64];
-    let mut k = 0;
-    while k < nodes {
+    for k in 0..nodes {
         out[k] = k as u32;
-        k += 1;
     }
     out
 }
@@ -39,7 +40,7 @@ fn primary_plan(nodes: usize) -> Decision
     ensures { result ≡ primary_plan nodes }
 {
     Decision {
-        kind: 0,
+        kind: Kind::Primary,
         helpands: own_numbers(nodes),
         shares: [0u32; 64],
     }
@@ -50,11 +51,9 @@ fn rebuilt_plan(totals: [u32; 64], old: [u32; 64], nodes: usize, p: u32) -> Deci
     requires { (1 ≤ nodes) × (nodes ≤ max_nodes) × (helpands_below nodes (at old) ≡ true) × (sum nodes (at totals) ≡ p) × (p ≤ max_total) }
     ensures { result ≡ rebuilt_plan nodes p totals old }
 {
-    let r = rebuild::rebuild(totals, old, nodes, p);
-    let helpands = r.helpands;
-    let shares = r.shares;
+    let Rebuilt { helpands, shares } = rebuild::rebuild(totals, old, nodes, p);
     Decision {
-        kind: 2,
+        kind: Kind::Rebuilt,
         helpands,
         shares,
     }
@@ -74,37 +73,36 @@ fn weighed_plan(
     ensures { result ≡ tree_plan nodes p limit table.now totals true old }
 {
     let root = tree::least::find_root(old, nodes);
-    let links = tree::links::helper_links(&old, nodes);
-    let leasts = tree::least::leasts(totals, old, &links, nodes, root, limit);
+    let helpers = Helpers::of(&old, nodes);
+    let leasts = tree::least::leasts(totals, &helpers, root, limit);
     if tree::least::holds(leasts, nodes, limit) {
         return Decision {
-            kind: 1,
+            kind: Kind::Kept,
             helpands: old,
-            shares: shares::shares(table, totals, leasts, old, &links, nodes, root, limit),
+            shares: shares::shares(table, totals, leasts, &helpers, root, limit),
         };
     }
     rebuilt_plan(totals, old, nodes, p)
 }
 
-// The plan of a step with these totals, which add up to p. `tree` says whether there is an old tree.
+// The plan of a step with these totals, which add up to p. `old` has the helpands of the old tree, if there is one.
 pub fn decide(
     table: &[u32; TABLE_SIZE],
     totals: [u32; 64],
-    tree: bool,
-    old: [u32; 64],
+    old: Option<[u32; 64]>,
     nodes: usize,
     p: u32,
     limit: u32,
 ) -> Decision
     requires { (1 ≤ nodes) × (nodes ≤ max_nodes) × (totals ≡ totals_of nodes table.now) × (sum nodes (at totals) ≡ p) × (p ≤ max_total)
-        × (helpands_below nodes (at old) ≡ true) × (tree ≡ true → (r : ℕ) × Tree nodes (at old) r) }
-    ensures { result ≡ decided nodes p limit table.now totals tree old }
+        × IfSome old (λ h. (r : ℕ) × Tree nodes (at h) r) }
+    ensures { result ≡ decided nodes p limit table.now totals (is_some old) (unwrap_or old (own_numbers nodes)) }
 {
     if tree::is_primary(totals, nodes, limit) {
         return primary_plan(nodes);
     }
-    if tree {
-        return weighed_plan(table, totals, old, nodes, p, limit);
+    match old {
+        Some(helpands) => weighed_plan(table, totals, helpands, nodes, p, limit),
+        None => rebuilt_plan(totals, own_numbers(nodes), nodes, p),
     }
-    rebuilt_plan(totals, old, nodes, p)
 }

@@ -23,7 +23,7 @@ use moves::MovesAnswer;
 use plan::PlanAnswer;
 use planner::StepAnswer;
 use sheet::SheetAnswer;
-use tally::Tally;
+use tally::{Operation, Tally};
 use weigh::WeighAnswer;
 use words::WrittenAnswer;
 
@@ -38,21 +38,21 @@ pub fn firrozka_version() -> u32
 pub fn firrozka_read_sheet(sheet: &[u8]) -> SheetAnswer
     ensures { result ≡ read_sheet sheet.now }
 {
-    sheet::answer(sheet::read_sheet(sheet))
+    sheet::read_sheet(sheet).into()
 }
 
 // *Read plan*.
 pub fn firrozka_read_plan(plan: &[u8]) -> PlanAnswer
     ensures { result ≡ read_plan plan.now }
 {
-    plan::answer(plan::read_plan(plan))
+    plan::read_plan(plan).into()
 }
 
 // *Read moves*.
 pub fn firrozka_read_moves(moves: &[u8]) -> MovesAnswer
     ensures { result ≡ read_moves moves.now }
 {
-    moves::answer(moves::read_moves(moves))
+    moves::read_moves(moves).into()
 }
 
 // *Weigh*.
@@ -69,7 +69,7 @@ pub fn firrozka_plan_step(sheet: &[u8], old: &[u8], plan: &mut [u8], moves: &mut
     ensures plan { plan.new ≡ plan_after sheet.now old.now plan.old (length moves.old) }
     ensures moves { moves.new ≡ moves_after sheet.now old.now moves.old (length plan.old) }
 {
-    planner::answer(planner::plan_step(sheet, old, plan, moves))
+    planner::plan_step(sheet, old, plan, moves).into()
 }
 
 // *Carry out*.
@@ -77,7 +77,7 @@ pub fn firrozka_carry_out(sheet: &[u8], moves: &[u8], next: &mut [u8]) -> Writte
     ensures answer { result ≡ carry_answer sheet.now moves.now (length next.old) }
     ensures bytes { next.new ≡ next_after sheet.now moves.now next.old }
 {
-    carry::answer(carry::carry_out(sheet, moves, next))
+    words::answer(carry::carry_out(sheet, moves, next))
 }
 
 // *Join sheets*.
@@ -85,7 +85,7 @@ pub fn firrozka_join_sheets(first: &[u8], second: &[u8], out: &mut [u8]) -> Writ
     ensures answer { result ≡ join_answer first.now second.now (length out.old) }
     ensures bytes { out.new ≡ joined_after first.now second.now out.old }
 {
-    inlet::answer(inlet::join_sheets(first, second, out))
+    words::answer(inlet::join_sheets(first, second, out))
 }
 
 // *Traffic page*.
@@ -93,7 +93,7 @@ pub fn firrozka_traffic_page(sheet: &[u8], moves: &[u8], page: &mut [u8]) -> Wri
     ensures answer { result ≡ page_answer sheet.now moves.now (length page.old) }
     ensures bytes { page.new ≡ page_after sheet.now moves.now page.old }
 {
-    traffic::answer(traffic::traffic_page(sheet, moves, page))
+    words::answer(traffic::traffic_page(sheet, moves, page))
 }
 
 // *Write archive*.
@@ -101,7 +101,7 @@ pub fn firrozka_write_archive(sheet: &[u8], archive: &mut [u8]) -> WrittenAnswer
     ensures answer { result ≡ write_answer sheet.now (length archive.old) }
     ensures bytes { archive.new ≡ archive_after sheet.now archive.old }
 {
-    archive::write::answer(archive::write::write_archive(sheet, archive))
+    words::answer(archive::write::write_archive(sheet, archive))
 }
 
 // *Read archive*.
@@ -109,7 +109,7 @@ pub fn firrozka_read_archive(archive: &[u8], sheet: &mut [u8]) -> WrittenAnswer
     ensures answer { result ≡ read_answer archive.now (length sheet.old) }
     ensures bytes { sheet.new ≡ sheet_after archive.now sheet.old }
 {
-    archive::read::answer(archive::read::read_archive(archive, sheet))
+    words::answer(archive::read::read_archive(archive, sheet))
 }
 
 // *Groups*.
@@ -117,7 +117,7 @@ pub fn firrozka_groups(plan: &[u8], groups: &mut [u8]) -> WrittenAnswer
     ensures answer { result ≡ groups_answer plan.now (length groups.old) }
     ensures bytes { groups.new ≡ groups_after plan.now groups.old }
 {
-    groups::answer(groups::groups(plan, groups))
+    words::answer(groups::groups(plan, groups))
 }
 
 // Opens a tally: the whole of it is written, also where opening is refused.
@@ -135,7 +135,8 @@ pub fn firrozka_tally_add(t: &mut Tally, holder: u32, subdomain: u32, count: u32
     ensures { (result ≡ call_answer t.old (call_of true holder subdomain count))
         × (t.new ≡ tally_after t.old (call_of true holder subdomain count)) }
 {
-    let done = tally::change(t.head, &mut t.cells, holder, subdomain, count, true);
+    let adding = Operation::Add;
+    let done = tally::change(t.head, &mut t.cells, holder, subdomain, count, adding);
     t.head.total = done.total;
     done.answer
 }
@@ -145,7 +146,8 @@ pub fn firrozka_tally_remove(t: &mut Tally, holder: u32, subdomain: u32, count: 
     ensures { (result ≡ call_answer t.old (call_of false holder subdomain count))
         × (t.new ≡ tally_after t.old (call_of false holder subdomain count)) }
 {
-    let done = tally::change(t.head, &mut t.cells, holder, subdomain, count, false);
+    let removing = Operation::Remove;
+    let done = tally::change(t.head, &mut t.cells, holder, subdomain, count, removing);
     t.head.total = done.total;
     done.answer
 }

@@ -1,28 +1,26 @@
 -- A node's entries, from the colours of its own family and of its helpand's, which differ. Assumes nothing.
 use mathlib.Core.Path.{◌≡◌, refl, sym, ap, ◌∙◌}
 use mathlib.Core.Logic.{◌≢◌, ◌⊎◌, inl, inr}
-use mathlib.Core.Bool.{Bool, true, false, not, ◌&&◌, and-false}
+use mathlib.Core.Bool.{Bool, true, false, not, ◌&&◌, and-false, and-true}
+use mathlib.Core.List.{List}
 use Prim.Native.Nat.{ℕ, suc, ◌<◌, ◌%◌}
 use native.Mathlib.Decide.{ℕ_discrete}
 use native.Mathlib.Omega.{arith}
 use borrow.Author.Tests.{eq-eqb, ne_eqb}
 use Rattle.fold.proofs.Tests.{either}
+use Rattle.arrays.specs.Arrays.{at}
 use Rattle.tree.proofs.Families.{helps-helpand}
 use Rattle.groups.specs.declared.colour.Colour.{Colour}
 use Rattle.groups.specs.declared.colour.Colour.TheVariants.{Even, Odd}
 use Rattle.groups.specs.Colour.{distance, coloured}
 use Rattle.groups.specs.Group.{has_helper, is_group, group_in}
-use Rattle.groups.specs.Inner.{Rooted, own_group, helped_group}
+use Rattle.groups.specs.Inner.{Rooted, Groupable, own_group, helped_group}
 use Rattle.groups.proofs.Distances.{distance-step}
 use Rattle.groups.proofs.Owners.{has-helper}
 
 not-not : (b : Bool) → not (not b) ≡ b
 not-not true = refl
 not-not false = refl
-
-and-true : (b : Bool) → (b && true) ≡ b
-and-true true = refl
-and-true false = refl
 
 -- ---- the two colours
 
@@ -40,10 +38,10 @@ some-colour d = by (either (coloured Even d))
     by (inl e) = (Even, e)
     by (inr e) = (Odd, odd_not d ∙ ap not e)
 
-pub even-not_odd : (d : ℕ) → coloured Even d ≡ true → coloured Odd d ≡ false
+even-not_odd : (d : ℕ) → coloured Even d ≡ true → coloured Odd d ≡ false
 even-not_odd d e = odd_not d ∙ ap not e
 
-pub odd_not-even : (d : ℕ) → coloured Odd d ≡ true → coloured Even d ≡ false
+odd_not-even : (d : ℕ) → coloured Odd d ≡ true → coloured Even d ≡ false
 odd_not-even d e = sym (not-not (coloured Even d)) ∙ ap not (sym (odd_not d) ∙ e)
 
 -- one step farther is the other colour
@@ -88,7 +86,7 @@ module _ {nodes : ℕ} {h : ℕ → ℕ} (t : Rooted nodes h) (c : Colour) where
     Is g = group_in nodes h c k ≡ g
 
     -- the own family has the colour
-    pub entry-own : Coloured k true → Is (own_group nodes h k)
+    entry-own : Coloured k true → Is (own_group nodes h k)
     entry-own e = by (either (has_helper nodes h k))
       where
         by : (has_helper nodes h k ≡ true) ⊎ (has_helper nodes h k ≡ false) → Is (own_group nodes h k)
@@ -99,7 +97,7 @@ module _ {nodes : ℕ} {h : ℕ → ℕ} (t : Rooted nodes h) (c : Colour) where
         ]
 
     -- it has not: then the helpand's has it, where there is one
-    pub entry_helped : Coloured k false → Is (helped_group (h k) k)
+    entry_helped : Coloured k false → Is (helped_group (h k) k)
     entry_helped e = elim (ℕ_discrete (h k) k) [
       | yes r ↦ rw (eq-eqb (h k) k r, r, group_not nodes h c k e)
       | no d ↦
@@ -110,3 +108,22 @@ module _ {nodes : ℕ} {h : ℕ → ℕ} (t : Rooted nodes h) (c : Colour) where
             has-helper nodes h (h k) k l (helps-helpand h k d),
           )
     ]
+
+-- both entries, from the colour of the own family
+module _ {nodes : ℕ} {h : ℕ → ℕ} {distances own : List ℕ} (g : Groupable nodes h distances own) (k : ℕ) (l : k < nodes) where
+  colour-of : (c : Colour) (b : Bool) → coloured c (at distances k) ≡ b → coloured c (distance nodes h k) ≡ b
+  colour-of c b e = ap (coloured c) (sym (g.each_distance k l)) ∙ e
+
+  as-owner : (c : Colour) → coloured c (at distances k) ≡ true → at own k ≡ group_in nodes h c k
+  as-owner c e = g.each_own k l ∙ sym (entry-own g.rooted c k l (colour-of c true e))
+
+  as-helper : (c : Colour) → coloured c (at distances k) ≡ false → helped_group (h k) k ≡ group_in nodes h c k
+  as-helper c e = sym (entry_helped g.rooted c k l (colour-of c false e))
+
+  pub entries-even : coloured Even (at distances k) ≡ true
+      → (at own k ≡ group_in nodes h Even k) × (helped_group (h k) k ≡ group_in nodes h Odd k)
+  entries-even e = (as-owner Even e, as-helper Odd (even-not_odd (at distances k) e))
+
+  pub entries-odd : coloured Odd (at distances k) ≡ true
+      → (helped_group (h k) k ≡ group_in nodes h Even k) × (at own k ≡ group_in nodes h Odd k)
+  entries-odd e = (as-helper Even (odd_not-even (at distances k) e), as-owner Odd e)

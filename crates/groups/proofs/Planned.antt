@@ -10,7 +10,6 @@ use Rattle.fold.proofs.Tests.{and_right, all-at}
 use Rattle.arrays.specs.Arrays.{at, padded}
 use Rattle.arrays.proofs.Padded.{padded-same}
 use Rattle.plan.specs.Tree.{is_root, roots, reaches, shape_fine}
-use Rattle.plan.specs.declared.Plan.{Plan}
 use Rattle.plan.specs.declared.PlanAnswer.{PlanAnswer}
 use Rattle.plan.specs.Plan.{read_plan, helpands_of, accepted}
 use Rattle.plan.proofs.Accepted.{plan-accepted}
@@ -61,16 +60,16 @@ module _ (p : List ℕ) (q : (read_plan p).refusal ≡ 0) where
   pub kind-none : (read_plan p).kind ≡ 0 → (c : Colour) (k : ℕ) → group_in n₀ h₀ c k ≡ none
   kind-none z = primary-none n₀ (read_plan p).kind h₀ (plan-accepted p q).shape z
 
--- the same of a reading
-module _ (p : List ℕ) (q : Plan) (read : accepted q.n q.kind q.limit ≡ read_plan p) where
+-- the same of a plan that was read
+module _ (p : List ℕ) {n kind limit : ℕ} (read : accepted n kind limit ≡ read_plan p) where
   fine : (read_plan p).refusal ≡ 0
   fine = ap (λ (a : PlanAnswer). a.refusal) (sym read)
 
-  nodes : (read_plan p).n ≡ q.n
+  nodes : (read_plan p).n ≡ n
   nodes = ap (λ (a : PlanAnswer). a.n) (sym read)
 
-  pub array_rooted : Rooted q.n (at (padded (helpands_of p q.n)))
-  array_rooted = rw (padded-same (helpands_of p q.n)) (rw nodes at (plan-rooted p fine))
+  pub array_rooted : Rooted n (at (padded (helpands_of p n)))
+  array_rooted = rw (padded-same (helpands_of p n)) (rw nodes at (plan-rooted p fine))
 
-  pub reading_none : q.kind ≡ 0 → (c : Colour) (k : ℕ) → group_in q.n (at (helpands_of p q.n)) c k ≡ none
-  reading_none z = rw nodes at (kind-none p fine (ap (λ (a : PlanAnswer). a.kind) (sym read) ∙ z))
+  pub reading_none : eqb kind 0 ≡ true → (c : Colour) (k : ℕ) → group_in n (at (helpands_of p n)) c k ≡ none
+  reading_none z = rw nodes at (kind-none p fine (ap (λ (a : PlanAnswer). a.kind) (sym read) ∙ eqb-true kind 0 z))

@@ -1,20 +1,18 @@
 -- Request 2026-06, groups for the coater's message library: the record and the operation. "Write N, then each node's group in the even
 -- colour, then in the odd; a group is named by its owner, 64 is none."
-use Rattle.std.specs.Prelude.{◌≡◌, ◌≢◌, ◌⊎◌, ◌↔◌, true, List, [], ◌∷◌, ◌++◌, ℕ, ◌+◌, ◌*◌, ◌<◌, ltb, length, get_or}
+use Rattle.std.specs.Prelude.{◌≡◌, ◌≢◌, ◌⊎◌, ◌↔◌, true, List, [], ◌∷◌, ◌++◌, ℕ, ◌+◌, ◌*◌, ◌<◌, ltb, length, get_or, Result}
 use Rattle.fold.specs.Collect.{collect}
 use Rattle.arrays.specs.Arrays.{at}
 use Rattle.words.specs.Checks.{refuse_if, refuse_as}
 use Rattle.words.specs.Words.{words, encode}
 use Rattle.words.specs.Buffer.{after_call}
-use Rattle.words.specs.Answer.{refused, accepted}
+use Rattle.words.specs.Answer.{refused, accepted, answer_of as written_answer_of}
 use Rattle.words.specs.declared.WrittenAnswer.{WrittenAnswer}
 use Rattle.plan.specs.Plan.{read_plan, helpands_of, refusal_number as plan_number}
 use Rattle.groups.specs.declared.colour.Colour.{Colour}
 use Rattle.groups.specs.declared.colour.Colour.TheVariants.{Even, Odd}
 use Rattle.groups.specs.declared.GroupsRefusal.{GroupsRefusal}
 use Rattle.groups.specs.declared.GroupsRefusal.TheVariants.{Plan as OfPlan, Buffer}
-use Rattle.groups.specs.declared.Grouping.{Grouping}
-use Rattle.groups.specs.declared.Grouping.TheVariants.{Grouped, Refused}
 use Rattle.groups.specs.Colour.{distance, coloured}
 use Rattle.groups.specs.Group.{has_helper, none, group_in, in_group, OneFamily, ShareEntry}
 
@@ -26,9 +24,8 @@ number_of (OfPlan r) = plan_number r
 number_of Buffer = 57
 
 -- the paper's number and values for each case of the enum
-abbrev pub answer_of : Grouping → WrittenAnswer
-answer_of (Grouped bytes) = accepted bytes
-answer_of (Refused r) = refused (number_of r)
+abbrev pub answer_of : Result ℕ GroupsRefusal → WrittenAnswer
+answer_of = written_answer_of number_of
 
 -- ---- the record
 

@@ -40,13 +40,11 @@ pub fn own_groups(helpands: &[u32; 64], nodes: usize) -> [u32; 64]
     ensures { OwnGroups nodes (at helpands.now) result }
 {
     let mut own = [NO_GROUP; 64];
-    let mut k = 0;
-    while k < nodes {
+    for k in 0..nodes {
         let helpand = helpands[k] as usize;
         if helpand != k {
             own[helpand] = helpand as u32;
         }
-        k += 1;
     }
     own
 }

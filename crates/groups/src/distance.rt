@@ -14,12 +14,10 @@ fn root_distances(helpands: &[u32; 64], nodes: usize) -> [u32; 64]
     ensures { Known nodes (at helpands.now) result }
 {
     let mut known = [UNKNOWN; 64];
-    let mut k = 0;
-    while k < nodes {
+    for k in 0..nodes {
         if helpands[k] == k as u32 {
             known[k] = 0;
         }
-        k += 1;
     }
     known
 }
@@ -59,11 +57,9 @@ pub fn distances(helpands: &[u32; 64], nodes: usize) -> [u32; 64]
     ensures { Distances nodes (at helpands.now) result }
 {
     let mut known = root_distances(helpands, nodes);
-    let mut k = 0;
-    while k < nodes {
+    for k in 0..nodes {
         let from = distance(helpands, &known, nodes, k);
         note_chain(helpands, &mut known, nodes, k, from);
-        k += 1;
     }
     known
 }

@@ -6,30 +6,43 @@ ghost use Rattle.std.specs.Prelude.{◌≡◌, ◌≤◌, length};
 ghost use Rattle.limit.specs.Limit.{max_nodes};
 ghost use Rattle.words.specs.Buffer.{placed};
 ghost use Rattle.arrays.specs.Arrays.{at};
-ghost use Rattle.plan.specs.Plan.{read_plan, accepted};
+ghost use Rattle.plan.specs.Plan.{kind_number, read_plan, accepted};
 ghost use Rattle.groups.specs.Group.{group_in};
 ghost use Rattle.groups.specs.Groups.{groups_bytes, groups_size, groups_answer, groups_after, number_of, answer_of};
+ghost use Rattle.groups.specs.declared.GroupsRefusal.TheVariants.{Plan as OfPlan};
 ghost use Rattle.groups.specs.Inner.{Rooted, Groupable, with_entries, no_groups};
 
 use colour::NO_GROUP;
-use plan::{Plan, PlanReading, PlanRefusal};
-use words::WrittenAnswer;
+use plan::{Plan, PlanRefusal};
+use words::Refusal;
 
 pub mod colour;
 pub mod distance;
 
 // Why no groups are written: as the plan is refused; the buffer.
-#[derive(Drop)]
+#[derive(Clone, Copy, Debug, PartialEq, Eq)]
 pub enum GroupsRefusal {
     Plan(PlanRefusal),
     Buffer,
 }
 
-// The length in bytes of the groups that were written, or why there are none.
-#[derive(Drop)]
-pub enum Grouping {
-    Grouped(u32),
-    Refused(GroupsRefusal),
+impl From<PlanRefusal> for GroupsRefusal {
+    ghost from_gives = { λ r made. made ≡ OfPlan r };
+
+    fn from(r: PlanRefusal) -> GroupsRefusal {
+        GroupsRefusal::Plan(r)
+    }
+}
+
+impl Refusal for GroupsRefusal {
+    ghost number_of = { number_of };
+
+    fn number(self) -> u32 {
+        match self {
+            GroupsRefusal::Plan(r) => r.number(),
+            GroupsRefusal::Buffer => 57,
+        }
+    }
 }
 
 // Writes each node's group in the even colour behind the first word, and behind these each node's group in the odd.
@@ -43,12 +56,10 @@ fn put_entries(
     requires { Groupable nodes (at helpands.now) distances.now own.now × (groups_size nodes ≤ length out.old) }
     ensures { out.new ≡ with_entries nodes (group_in nodes (at helpands.now)) nodes out.old }
 {
-    let mut k = 0;
-    while k < nodes {
+    for k in 0..nodes {
         let entries = colour::entries_of(helpands, distances, own, nodes, k);
         words::put_word(out, 1 + k, entries.even);
         words::put_word(out, 1 + nodes + k, entries.odd);
-        k += 1;
     }
 }
 
@@ -72,61 +83,35 @@ fn put_none(out: &mut [u8], n: u32)
     let nodes = n as usize;
     let none = [NO_GROUP; 64];
     words::put_word(out, 0, n);
-    words::put_words(out, 1, &none, nodes);
-    words::put_words(out, 1 + nodes, &none, nodes);
+    words::put_words(out, 1, &none[..nodes]);
+    words::put_words(out, 1 + nodes, &none[..nodes]);
 }
 
 // Writes the groups of a plan that was read.
-fn groups_read(plan: &[u8], p: Plan, groups: &mut [u8]) -> Grouping
-    requires { accepted p.n p.kind p.limit ≡ read_plan plan.now }
+#[tactic(auto, unfolding(crate::specs::Groups::groups_answer))]
+fn groups_read(plan: &[u8], p: Plan, groups: &mut [u8]) -> Result<u32, GroupsRefusal>
+    requires { accepted p.n (kind_number p.kind) p.limit ≡ read_plan plan.now }
     ensures answer { answer_of result ≡ groups_answer plan.now (length groups.old) }
     ensures bytes { groups.new ≡ groups_after plan.now groups.old }
 {
     let nodes = p.n as usize;
     if groups.len() < 4 * (1 + 2 * nodes) {
-        return Grouping::Refused(GroupsRefusal::Buffer);
+        return Err(GroupsRefusal::Buffer);
     }
-    if p.kind == 0 {
+    if p.kind.is_primary() {
         put_none(groups, p.n);
     } else {
         put_groups(groups, p.n, words::words_64(plan, 3, nodes));
     }
-    Grouping::Grouped(4 * (1 + 2 * p.n))
+    Ok(4 * (1 + 2 * p.n))
 }
 
 // *Groups*.
-pub fn groups(plan: &[u8], groups: &mut [u8]) -> Grouping
+#[tactic(auto, using(plan::proofs::Answers::number_more), unfolding(crate::specs::Groups::groups_answer))]
+pub fn groups(plan: &[u8], groups: &mut [u8]) -> Result<u32, GroupsRefusal>
     ensures answer { answer_of result ≡ groups_answer plan.now (length groups.old) }
     ensures bytes { groups.new ≡ groups_after plan.now groups.old }
 {
-    match plan::read_plan(plan) {
-        PlanReading::Refused(r) => Grouping::Refused(GroupsRefusal::Plan(r)),
-        PlanReading::Accepted(p) => groups_read(plan, p, groups),
-    }
-}
-
-// Document 02's number of a refusal.
-fn number(r: GroupsRefusal) -> u32
-    ensures { result ≡ number_of r }
-{
-    match r {
-        GroupsRefusal::Plan(r) => plan::number(r),
-        GroupsRefusal::Buffer => 57,
-    }
-}
-
-// A grouping in document 02's numbers.
-pub fn answer(g: Grouping) -> WrittenAnswer
-    ensures { result ≡ answer_of g }
-{
-    match g {
-        Grouping::Grouped(bytes) => WrittenAnswer {
-            refusal: 0,
-            bytes: bytes,
-        },
-        Grouping::Refused(r) => WrittenAnswer {
-            refusal: number(r),
-            bytes: 0,
-        },
-    }
+    let p = plan::read_plan(plan)?;
+    groups_read(plan, p, groups)
 }

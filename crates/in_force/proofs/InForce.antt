@@ -10,7 +10,6 @@ use native.Mathlib.Omega.{arith}
 use borrow.Author.Tests.{eqb-true, eqb-false, eq-eqb, ne_eqb, not-false}
 use lib.Dec.{eqb}
 use lib.ListN.{length, take, drop, length-take, length-drop}
-use lib.Seq.{ext_get_or}
 use denote.Ref.{Bor}
 use Rattle.fold.specs.All.{all}
 use Rattle.fold.proofs.Tests.{either, or_left, or_right, all-at}
@@ -25,6 +24,7 @@ use Rattle.plan.proofs.AcceptedTree.{accepted-tree}
 use Rattle.in_force.specs.declared.PartAnswer.{PartAnswer}
 use Rattle.in_force.specs.InForce.{Where, of_old, of_new, empty_stretch, is_refused, same_helpands, no_tree, in_force, Points, part_of}
 use Rattle.in_force.proofs.Stretch.{words-part}
+use Rattle.in_force.proofs.Same.{same-list}
 use Rattle.arrays.specs.Arrays.{at}
 
 -- ---- no test passed
@@ -64,8 +64,7 @@ module _ (old new : List ℕ) where
         tree = λ k. eqb-false a.kind 0 (or_left (eqb a.kind 0) (not (same_helpands n h g)) (kept k));
         same = λ k.
             let s = not-false (same_helpands n h g) (or_right (eqb a.kind 0) (not (same_helpands n h g)) (kept k)) in
-            ext_get_or 0 (helpands_of old n) (helpands_of new n) (l ∙ sym m)
-            (λ i b. eqb-true (h i) (g i) (all-at n (λ j. eqb (h j) (g j)) s i (omega arith)));
+            same-list n (helpands_of old n) (helpands_of new n) l m s;
       }
 
   -- what holds of the empty stretch, of the old plan's and of the new plan's, holds of the one in force

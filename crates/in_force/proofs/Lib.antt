@@ -1,3 +1,3 @@
-pub mod Laws
 pub mod Stretch
+pub mod Same
 pub mod InForce

@@ -8,8 +8,6 @@ ghost use Rattle.plan.specs.Plan.{helpands_of};
 ghost use Rattle.in_force.specs.InForce.{in_force, Points, part_of, same_helpands};
 ghost use Rattle.in_force.specs.Inner.{where_of};
 
-use plan::PlanReading;
-
 // Whose helpands are in force, and how many they are.
 #[derive(Drop)]
 enum Chosen {
@@ -32,35 +30,28 @@ fn same_helpands(old: &[u8], new: &[u8], nodes: usize) -> bool
     requires { (4 * (3 + nodes) ≤ length old.now) × (4 * (3 + nodes) ≤ length new.now) }
     ensures { result ≡ same_helpands nodes (at (helpands_of old.now nodes)) (at (helpands_of new.now nodes)) }
 {
-    let mut k = 0;
-    while k < nodes {
-        let before = words::word_number(old, 3 + k);
-        let after = words::word_number(new, 3 + k);
-        if before != after {
-            return false;
-        }
-        k += 1;
-    }
-    true
+    let end = 12 + 4 * nodes;
+    old[12..end] == new[12..end]
 }
 
 // Which of the two plans has the helpands in force; each check that fails leaves none.
+#[tactic(auto, using(plan::proofs::Answers::number_more), unfolding(crate::specs::InForce::in_force))]
 fn choose(old: &[u8], new: &[u8]) -> Chosen
     ensures { where_of result ≡ in_force old.now new.now }
 {
-    let PlanReading::Accepted(a) = plan::read_plan(old) else {
+    let Ok(a) = plan::read_plan(old) else {
         return Chosen::Empty;
     };
-    let PlanReading::Accepted(b) = plan::read_plan(new) else {
+    let Ok(b) = plan::read_plan(new) else {
         return Chosen::Empty;
     };
     if a.n != b.n {
         return Chosen::Empty;
     }
-    if b.kind != 1 {
+    if !b.kind.is_kept() {
         return Chosen::New(b.n);
     }
-    if a.kind == 0 {
+    if a.kind.is_primary() {
         return Chosen::Empty;
     }
     if same_helpands(old, new, b.n as usize) {
@@ -74,8 +65,7 @@ fn choose(old: &[u8], new: &[u8]) -> Chosen
 pub fn tree_in_force<'a>(old: &'a [u8], new: &'a [u8]) -> &'a [u8]
     ensures { Points (in_force old.now new.now) result old.entry new.entry }
 {
-    let chosen = choose(old, new);
-    match chosen {
+    match choose(old, new) {
         Chosen::Old(n) => &old[12..12 + 4 * n as usize],
         Chosen::New(n) => &new[12..12 + 4 * n as usize],
         Chosen::Empty => &new[0..0],
@@ -86,8 +76,7 @@ pub fn tree_in_force<'a>(old: &'a [u8], new: &'a [u8]) -> &'a [u8]
 pub fn part_in_force(old: &[u8], new: &[u8]) -> PartAnswer
     ensures { result ≡ part_of (in_force old.now new.now) }
 {
-    let chosen = choose(old, new);
-    match chosen {
+    match choose(old, new) {
         Chosen::Old(n) => PartAnswer {
             source: 1,
             start: 12,

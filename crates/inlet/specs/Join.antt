@@ -1,19 +1,17 @@
 -- Request 2026-02, *Join sheets*: "The gas inlet counts its new particles on a sheet of its own. Users want it joined with the resident
 -- sheet before planning: two accepted sheets in, one out, every cell the sum of both."
-use Rattle.std.specs.Prelude.{◌≡◌, ℕ, ◌+◌, List, [], ◌∷◌, Bool, ◌&&◌, not, eqb, ltb, length}
+use Rattle.std.specs.Prelude.{◌≡◌, ℕ, ◌+◌, List, [], ◌∷◌, Bool, ◌&&◌, not, eqb, ltb, length, Result}
 use Rattle.limit.specs.Limit.{max_total, limit_of}
 use Rattle.words.specs.Checks.{refuse_if, refuse_as}
 use Rattle.words.specs.Words.{encode}
 use Rattle.words.specs.Buffer.{after_call}
-use Rattle.words.specs.Answer.{refused, accepted}
+use Rattle.words.specs.Answer.{refused, accepted, answer_of as written_answer_of}
 use Rattle.words.specs.declared.WrittenAnswer.{WrittenAnswer}
 use Rattle.sheet.specs.Sheet.{read_sheet, refusal_number as sheet_number, accepted as sheet_accepted}
 use Rattle.sheet.specs.Table.{table_in, held}
 use Rattle.sheet.specs.Write.{filled_cells, sheet_bytes}
 use Rattle.inlet.specs.declared.JoinRefusal.{JoinRefusal}
 use Rattle.inlet.specs.declared.JoinRefusal.TheVariants.{Sheet as OfSheet, SheetsDiffer, Buffer}
-use Rattle.inlet.specs.declared.Joining.{Joining}
-use Rattle.inlet.specs.declared.Joining.TheVariants.{Joined, Refused}
 
 -- ---- answers
 
@@ -25,9 +23,8 @@ number_of SheetsDiffer = 51
 number_of Buffer = 52
 
 -- the paper's number and values for each case of the enum
-abbrev pub answer_of : Joining → WrittenAnswer
-answer_of (Joined bytes) = accepted bytes
-answer_of (Refused r) = refused (number_of r)
+abbrev pub answer_of : Result ℕ JoinRefusal → WrittenAnswer
+answer_of = written_answer_of number_of
 
 -- ---- the joined sheet
 

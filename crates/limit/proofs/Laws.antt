@@ -1,11 +1,13 @@
 -- Laws of ranges and of the limit. Assumes nothing.
-use mathlib.Core.Path.{◌≡◌}
+use mathlib.Core.Path.{◌≡◌, sym}
 use mathlib.Core.Bool.{true}
 use Prim.Native.Nat.{ℕ, ◌+◌, ◌-◌, ◌*◌, ◌/◌, ◌≤◌, max}
-use native.Mathlib.Nat.{le_refl, mul_comm, mul_left_comm, mul-le-mul, mul-div-mul_left, div-le_of_le-mul, lt-div-mul-add}
+use native.Mathlib.Nat.{le_refl, mul_comm, mul_left_comm, mul-le-mul, mul-div-mul_left, div-le_of_le-mul, div-eq_of_lt-le, lt-div-mul-add}
 use native.Mathlib.Omega.{arith}
 use borrow.Author.Tests.{leb-true, le-leb}
 use lib.Dec.{leb}
+use Rattle.std.specs.Int.{div_ceil}
+use Rattle.std.proofs.lemmas.Grind.{div_ceil_times}
 use Rattle.fold.proofs.Tests.{and_left, and_right, and_both}
 use Rattle.limit.specs.Limit.{max_tolerance, tolerance_scale, max_total, max_limit, one_to, limit_of}
 
@@ -20,23 +22,20 @@ module _ (most x : ℕ) where
 
 -- ---- the limit
 
--- the product fits 64 bits with much to spare
-pub product : (p t : ℕ) → p ≤ max_total → t ≤ max_tolerance → p * (tolerance_scale + t) ≤ max_total * (tolerance_scale + max_tolerance)
-product p t hp ht =
-    let h : tolerance_scale + t ≤ tolerance_scale + max_tolerance = omega arith in
-    mul-le-mul hp h
+-- P/N rounded up, as std has it
+pub rounded_up : (p n : ℕ) → 1 ≤ n → div_ceil p n ≡ (p + n - 1) / n
+rounded_up p n hn =
+    let h = div_ceil_times p n hn in
+    sym (div-eq_of_lt-le n (omega (arith, h.1)) (omega (arith, h.0)))
 
--- and its quotient is a limit that a plan may carry
-pub loose_max : (p n t : ℕ) → p ≤ max_total → 1 ≤ n → t ≤ max_tolerance → p * (tolerance_scale + t) / (tolerance_scale * n) ≤ max_limit
-loose_max p n t hp hn ht =
-    let h : p * (tolerance_scale + t) ≤ max_total * (tolerance_scale + max_tolerance) = product p t hp ht in
-    div-le_of_le-mul (tolerance_scale * n) (omega arith)
-
+-- the limit is one that a plan may carry
 pub limit-max : (p n t : ℕ) → p ≤ max_total → 1 ≤ n → t ≤ max_tolerance → limit_of p n t ≤ max_limit
 unfolding limit_of
 limit-max p n t hp hn ht =
-    let e : (p + n - 1) / n ≤ max_total = div-le_of_le-mul n (omega arith) in
-    omega (arith, loose_max p n t hp hn ht)
+    let even : (p + n - 1) / n ≤ max_limit = div-le_of_le-mul n (omega arith) in
+    let product : p * (tolerance_scale + t) ≤ max_total * (tolerance_scale + max_tolerance) = grind arith in
+    let loose : p * (tolerance_scale + t) / (tolerance_scale * n) ≤ max_limit = div-le_of_le-mul (tolerance_scale * n) (omega arith) in
+    omega arith
 
 -- P/N rounded up is at most the limit
 pub limit-even : (p n t : ℕ) → (p + n - 1) / n ≤ limit_of p n t

@@ -22,7 +22,7 @@ pub const MAX_LIMIT: u32 = 1999000000;
 pub fn one_to(most: u32, x: u32) -> bool
     ensures { result ≡ one_to most x }
 {
-    if 1 <= x { x <= most } else { false }
+    (1..=most).contains(&x)
 }
 
 // The limit L of p particles on n nodes at tolerance t. The product takes more than 32 bits.
@@ -30,8 +30,8 @@ pub fn limit(p: u32, n: u32, t: u32) -> u32
     requires { (p ≤ max_total) × (1 ≤ n) × (n ≤ max_nodes) × (t ≤ max_tolerance) }
     ensures { result ≡ limit_of p n t }
 {
-    let even = (p + n - 1) / n;
+    let even = p.div_ceil(n);
     let scale = TOLERANCE_SCALE as u64;
-    let loose = (p as u64 * (scale + t as u64) / (scale * n as u64)) as u32;
-    if even < loose { loose } else { even }
+    let loose = p as u64 * (scale + t as u64) / (scale * n as u64);
+    even.max(loose as u32)
 }

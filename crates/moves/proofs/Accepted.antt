@@ -18,9 +18,9 @@ use Rattle.words.specs.Words.{words}
 use Rattle.words.proofs.Words.{length-words, length_part, part_at}
 use Rattle.moves.specs.declared.Moves.{Moves}
 use Rattle.moves.specs.declared.MovesAnswer.{MovesAnswer}
-use Rattle.moves.specs.declared.MovesReading.TheVariants as reading
 use Rattle.moves.specs.Moves.{refused, accepted, answer_of, routes_of, counts_of, route_fine, count_fine, head_answer, read_moves}
 use Rattle.moves.proofs.Laws.{FineRoute, route-is, FineCount, count-is}
+use Rattle.std.specs.Prelude.{Ok}
 
 pub record Accepted (s : List ℕ) (a : MovesAnswer) : Type 0 where
   pub answer : a ≡ accepted a.n a.e
@@ -62,7 +62,7 @@ moves-accepted s q =
     })
 
 -- the same of a reading
-pub reading_accepted : (s : List ℕ) (m : Moves) → answer_of (reading.Accepted m) ≡ read_moves s → Accepted s (accepted m.n m.e)
+pub reading_accepted : (s : List ℕ) (m : Moves) → answer_of (Ok m) ≡ read_moves s → Accepted s (accepted m.n m.e)
 reading_accepted s m e = rw e (moves-accepted s (sym (ap refusal e)))
 
 -- ---- what callers need of accepted moves

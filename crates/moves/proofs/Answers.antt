@@ -7,10 +7,10 @@ use borrow.Author.Tests.{ne_eqb}
 use lib.Dec.{eqb}
 use Rattle.moves.specs.declared.MovesRefusal.{MovesRefusal}
 use Rattle.moves.specs.declared.MovesRefusal.TheVariants.{Short, Nodes, Entries, Length, Route, Count}
-use Rattle.moves.specs.declared.MovesReading.{MovesReading}
-use Rattle.moves.specs.declared.MovesReading.TheVariants.{Accepted, Refused}
 use Rattle.moves.specs.declared.MovesAnswer.{MovesAnswer}
 use Rattle.moves.specs.Moves.{refusal_number, answer_of}
+use Rattle.std.specs.Prelude.{Err, Ok, Result}
+use Rattle.moves.specs.declared.Moves.{Moves}
 
 -- the refusal of a number
 abbrev pub refusal_of : ℕ → MovesRefusal
@@ -31,12 +31,12 @@ pub number_more : (r : MovesRefusal) → 0 < refusal_number r
 number_more r = omega (arith, (numbered r).0)
 
 -- the reading of an answer
-abbrev reading_of : MovesAnswer → MovesReading
-reading_of a = cond (eqb a.refusal 0) (Accepted (record { n = a.n; e = a.e })) (Refused (refusal_of a.refusal))
+abbrev reading_of : MovesAnswer → Result Moves MovesRefusal
+reading_of a = cond (eqb a.refusal 0) (Ok (record { n = a.n; e = a.e })) (Err (refusal_of a.refusal))
 
-back : (r : MovesReading) → reading_of (answer_of r) ≡ r
-back (Accepted m) = refl
-back (Refused r) = rw (ne_eqb (refusal_number r) 0 (λ z. omega (arith, number_more r))) (ap Refused (numbered r).2)
+back : (r : Result Moves MovesRefusal) → reading_of (answer_of r) ≡ r
+back (Ok m) = refl
+back (Err r) = rw (ne_eqb (refusal_number r) 0 (λ z. omega (arith, number_more r))) (ap Err (numbered r).2)
 
-pub answer_determines : (r q : MovesReading) → answer_of r ≡ answer_of q → r ≡ q
+pub answer_determines : (r q : Result Moves MovesRefusal) → answer_of r ≡ answer_of q → r ≡ q
 answer_determines r q e = sym (back r) ∙ ap reading_of e ∙ back q

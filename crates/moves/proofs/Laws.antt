@@ -7,7 +7,8 @@ use mathlib.Core.List.{List}
 use Prim.Native.Nat.{ℕ, ◌+◌, ◌*◌, ◌≤◌, ◌<◌}
 use native.Mathlib.Omega.{arith}
 use lib.Dec.{ltb, leb, eqb}
-use lib.ListN.{length, length-append, length-take}
+use lib.ListN.{length, take, length-append, length-take}
+use lib.Seq.{take-take}
 use borrow.Author.Tests.{ltb-true, leb-true, eqb-false, not-true, lt-ltb, le-leb, ne_eqb}
 use Rattle.fold.proofs.Tests.{and_left, and_right}
 use Rattle.limit.specs.Limit.{max_total}
@@ -75,3 +76,10 @@ pub length-moves : (n e : ℕ) (routes counts : List ℕ) → e ≤ length route
     → length (moves_bytes n e routes counts) ≡ 4 * (2 + 2 * e)
 unfolding moves_bytes
 length-moves n e routes counts hr hc = simp (length-encode, length-append, length-take) (omega arith)
+
+-- moves of the first e entries of two arrays
+pub moves-front : (n e : ℕ) (routes counts : List ℕ) → moves_bytes n e (take e routes) (take e counts) ≡ moves_bytes n e routes counts
+unfolding moves_bytes
+moves-front n e routes counts =
+    let same : e ≤ e = omega arith in
+    rw (take-take e e routes same, take-take e e counts same)

@@ -1,5 +1,5 @@
 -- Document 01, *Read moves*: "gives N, E", and its refusals 31 to 36, from the list of the moves' bytes.
-use Rattle.std.specs.Prelude.{ℕ, ◌+◌, ◌-◌, ◌*◌, ◌/◌, ◌%◌, List, Bool, ◌&&◌, not, length, get_or, ltb, leb, eqb}
+use Rattle.std.specs.Prelude.{ℕ, ◌+◌, ◌-◌, ◌*◌, ◌/◌, ◌%◌, List, Bool, ◌&&◌, not, length, get_or, ltb, leb, eqb, Err, Ok, Result}
 use Rattle.fold.specs.All.{every}
 use Rattle.fold.specs.Rising.{rising}
 use Rattle.limit.specs.Limit.{max_nodes, max_total, one_to}
@@ -7,9 +7,8 @@ use Rattle.words.specs.Checks.{refuse_if}
 use Rattle.words.specs.Words.{words, part}
 use Rattle.moves.specs.declared.MovesRefusal.{MovesRefusal}
 use Rattle.moves.specs.declared.MovesRefusal.TheVariants.{Short, Nodes, Entries, Length, Route, Count}
-use Rattle.moves.specs.declared.MovesReading.{MovesReading}
-use Rattle.moves.specs.declared.MovesReading.TheVariants.{Accepted, Refused}
 use Rattle.moves.specs.declared.MovesAnswer.{MovesAnswer}
+use Rattle.moves.specs.declared.Moves.{Moves}
 
 -- ---- answers: "An answer carries 0 or a refusal number, and the values named. A refusal's other values are all 0"
 
@@ -29,9 +28,9 @@ refusal_number Route = 35
 refusal_number Count = 36
 
 -- the paper's number and values for each case of the enum
-abbrev pub answer_of : MovesReading → MovesAnswer
-answer_of (Accepted m) = accepted m.n m.e
-answer_of (Refused r) = refused (refusal_number r)
+abbrev pub answer_of : Result Moves MovesRefusal → MovesAnswer
+answer_of (Ok m) = accepted m.n m.e
+answer_of (Err r) = refused (refusal_number r)
 
 -- ---- the record: "Moves: N, E; E routes; E counts."
 

@@ -17,12 +17,12 @@ use Rattle.words.specs.Words.{words}
 use Rattle.words.proofs.Words.{length-words, length_part}
 use Rattle.plan.specs.declared.Plan.{Plan}
 use Rattle.plan.specs.declared.PlanAnswer.{PlanAnswer}
-use Rattle.plan.specs.declared.PlanReading.TheVariants as reading
 use Rattle.plan.specs.Tree.{helpands_below, shape_fine, shares_fine}
 use Rattle.plan.specs.Plan.{refused, accepted, answer_of, helpands_of, shares_of, kind_fine, arrays_answer, head_answer, read_plan}
 use Rattle.plan.proofs.Reading.{read_head, head_fine, arrays_fine}
 use Rattle.arrays.specs.Arrays.{at}
 use Rattle.words.specs.Checks.{refuse_if}
+use Rattle.std.specs.Prelude.{Ok}
 
 -- the answer a of an accepted plan s
 pub record Accepted (s : List ℕ) (a : PlanAnswer) : Type 0 where
@@ -109,7 +109,7 @@ plan-accepted s q =
     })
 
 -- the same of a reading
-pub reading_accepted : (s : List ℕ) (p : Plan) → answer_of (reading.Accepted p) ≡ read_plan s → Accepted s (answer_of (reading.Accepted p))
+pub reading_accepted : (s : List ℕ) (p : Plan) → answer_of (Ok p) ≡ read_plan s → Accepted s (answer_of (Ok p))
 reading_accepted s p e = rw e (plan-accepted s (ap (λ (a : PlanAnswer). a.refusal) (sym e)))
 
 -- ---- and back: the facts are enough

@@ -1,15 +1,16 @@
 -- Document 01, *Read plan*: "gives N, kind, L", and its refusals 11 to 18, from the list of a plan's bytes.
-use Rattle.std.specs.Prelude.{ℕ, ◌+◌, ◌*◌, List, Bool, ◌||◌, ◌&&◌, not, length, get_or, ltb, leb, eqb}
+use Rattle.std.specs.Prelude.{ℕ, ◌+◌, ◌*◌, List, Bool, ◌||◌, ◌&&◌, not, length, get_or, ltb, leb, eqb, cond, Err, Ok, Result}
 use Rattle.limit.specs.Limit.{max_nodes, max_limit, one_to}
 use Rattle.words.specs.Checks.{refuse_if}
 use Rattle.words.specs.Words.{words, part}
 use Rattle.plan.specs.Tree.{helpands_below, shape_fine, shares_fine}
 use Rattle.plan.specs.declared.PlanRefusal.{PlanRefusal}
-use Rattle.plan.specs.declared.PlanRefusal.TheVariants.{Short, Nodes, Kind, Limit, Length, Helpand, Shape, Share}
-use Rattle.plan.specs.declared.PlanReading.{PlanReading}
-use Rattle.plan.specs.declared.PlanReading.TheVariants.{Accepted, Refused}
+use Rattle.plan.specs.declared.PlanRefusal.TheVariants.{Short, Nodes, Kind as OfKind, Limit, Length, Helpand, Shape, Share}
+use Rattle.plan.specs.declared.Kind.{Kind}
+use Rattle.plan.specs.declared.Kind.TheVariants.{Primary, Kept, Rebuilt}
 use Rattle.plan.specs.declared.PlanAnswer.{PlanAnswer}
 use Rattle.arrays.specs.Arrays.{at}
+use Rattle.plan.specs.declared.Plan.{Plan}
 
 -- ---- answers: "An answer carries 0 or a refusal number, and the values named. A refusal's other values are all 0"
 
@@ -23,17 +24,30 @@ accepted n kind limit = record { refusal = 0; n = n; kind = kind; limit = limit 
 abbrev pub refusal_number : PlanRefusal → ℕ
 refusal_number Short = 11
 refusal_number Nodes = 12
-refusal_number Kind = 13
+refusal_number OfKind = 13
 refusal_number Limit = 14
 refusal_number Length = 15
 refusal_number Helpand = 16
 refusal_number Shape = 17
 refusal_number Share = 18
 
+-- "Kind 0 is primary, 1 kept, 2 rebuilt.": the paper's number of each kind, and the kind that a number stands for
+abbrev pub kind_number : Kind → ℕ
+kind_number Primary = 0
+kind_number Kept = 1
+kind_number Rebuilt = 2
+
+abbrev pub kind_of : ℕ → Result Kind PlanRefusal
+kind_of k =
+    cond (eqb k 0) (Ok Primary)
+    (cond (eqb k 1) (Ok Kept)
+    (cond (eqb k 2) (Ok Rebuilt)
+    (Err OfKind)))
+
 -- the paper's number and values for each case of the enum
-abbrev pub answer_of : PlanReading → PlanAnswer
-answer_of (Accepted p) = accepted p.n p.kind p.limit
-answer_of (Refused r) = refused (refusal_number r)
+abbrev pub answer_of : Result Plan PlanRefusal → PlanAnswer
+answer_of (Ok p) = accepted p.n (kind_number p.kind) p.limit
+answer_of (Err r) = refused (refusal_number r)
 
 -- ---- the record: "Plan: N, kind, limit; N helpands; N shares."
 

@@ -18,6 +18,6 @@ pub fn put_plan(
 {
     let nodes = n as usize;
     words::put_head(out, n, kind, limit);
-    words::put_words(out, 3, &helpands, nodes);
-    words::put_words(out, 3 + nodes, &shares, nodes);
+    words::put_words(out, 3, &helpands[..nodes]);
+    words::put_words(out, 3 + nodes, &shares[..nodes]);
 }

@@ -18,6 +18,7 @@ use Rattle.sheet.specs.Totals.{totals_in}
 use Rattle.sheet.proofs.Accepted.{sheet-accepted}
 use Rattle.moves.proofs.RoundTrip.{Writable, read-written, routes-written, counts-written}
 use Rattle.transfer.proofs.Carrying.{Carries}
+use Rattle.plan.specs.Plan.{kind_number}
 use Rattle.planner.specs.declared.StepAnswer.{StepAnswer}
 use Rattle.planner.specs.Step.{refused, planned, read_old, decision_in, plan_in, due_in, decided_routes, decided_counts, moves_in, written_answer, step_answer, plan_after, moves_after, StepReadBack}
 use Rattle.planner.specs.Inner.{StepRead}
@@ -48,7 +49,7 @@ module _ (s o : List ℕ) (plan_size moves_size : ℕ) where
 
   -- and conversely
   pub done-step : Plannable s o → length (plan_in s o) ≤ plan_size → length (moves_in s o) ≤ moves_size
-      → step_answer s o plan_size moves_size ≡ planned (decision_in s o).kind (read_sheet s).limit (length (plan_in s o)) (length (moves_in s o))
+      → step_answer s o plan_size moves_size ≡ planned (kind_number (decision_in s o).kind) (read_sheet s).limit (length (plan_in s o)) (length (moves_in s o))
   unfolding step_answer written_answer
   done-step d f g =
       let a : eqb (read_sheet s).refusal 0 ≡ true = eq-eqb (read_sheet s).refusal 0 d.sheet in
@@ -118,7 +119,7 @@ module _ (s o p m : List ℕ) (q : (step_answer s o (length p) (length m)).refus
   abbrev a : StepAnswer
   a = step_answer s o (length p) (length m)
 
-  answer-is : a ≡ planned (decision_in s o).kind (read_sheet s).limit (length (plan_in s o)) (length (moves_in s o))
+  answer-is : a ≡ planned (kind_number (decision_in s o).kind) (read_sheet s).limit (length (plan_in s o)) (length (moves_in s o))
   answer-is = let d = step-done s o (length p) (length m) q in done-step s o (length p) (length m) d.0 d.1 d.2
 
   pub plan-front : take a.plan (plan_after s o p (length m)) ≡ plan_in s o

@@ -5,7 +5,7 @@ use mathlib.Core.List.{List}
 use Prim.Native.Nat.{ℕ, ◌-◌, ◌*◌, ◌≤◌}
 use native.Mathlib.Nat.{mul-le-mul}
 use native.Mathlib.Omega.{arith}
-use lib.ListN.{length, drop, length-append}
+use lib.ListN.{length, drop}
 use lib.Seq.{take_at, take_all, take-length}
 use Rattle.limit.specs.Limit.{table_size}
 use Rattle.fold.specs.Sum.{sum}
@@ -14,6 +14,7 @@ use Rattle.sheet.specs.declared.Sheet.{Sheet}
 use Rattle.sheet.specs.declared.SheetAnswer.{SheetAnswer}
 use Rattle.sheet.specs.Sheet.{read_sheet}
 use Rattle.sheet.proofs.Tables.{length-table}
+use Rattle.plan.specs.Plan.{kind_number}
 use Rattle.plan.specs.Tree.{helpands_below, Tree}
 use Rattle.moves.specs.Write.{moves_bytes}
 use Rattle.sheet.specs.Totals.{totals_of}
@@ -97,34 +98,21 @@ module _ {s o : List ℕ} {h : Sheet} {tree : Bool} (r : StepRead s o h tree) wh
     pub here_few : length routes ≤ table_size
     here_few = omega (arith, here_carries.accepted.few, product_small)
 
-    -- the arrays have the moves at their front
-    pub here_long : (e : ℕ) (xs ys a b : List ℕ) → e ≡ length routes → xs ≡ placed routes a → ys ≡ placed counts b
-        → (e ≤ length xs) × (e ≤ length ys)
-    here_long e xs ys a b i j q = (
-      omega (arith, ap length j, length-append routes (drop (length routes) a)),
-      omega (arith, ap length q, length-append counts (drop (length counts) b), here_carries.accepted.same),
-    )
-
     here_plan : plan_record h.n h.limit d ≡ plan_in s o
     unfolding plan_in
     here_plan = rw (← r.sheet, here_decision)
 
-    here_moves : (e : ℕ) (xs ys a b : List ℕ) → e ≡ length routes → xs ≡ placed routes a → ys ≡ placed counts b
-        → moves_bytes h.n e xs ys ≡ moves_in s o
+    here_moves : (xs ys : List ℕ) → xs ≡ routes → ys ≡ counts → moves_record h.n xs ys ≡ moves_in s o
     unfolding moves_in
-    here_moves e xs ys a b i j q =
-        let front = moves-taken h.n routes counts a b here_carries.accepted.same in
-        rw (i, j, q) (front ∙ rw (← r.sheet, here_decision, here_totals, k.table_is))
+    here_moves xs ys i j = rw (i, j, ← r.sheet, here_decision, here_totals, k.table_is)
 
     -- so the answer and the buffers are those of the definitions
-    pub here_ends : (e : ℕ) (xs ys a b : List ℕ) → e ≡ length routes → xs ≡ placed routes a → ys ≡ placed counts b
-        → (w : StepAnswer) (p m p₁ m₁ : List ℕ)
-        → Writes d.kind h.limit (plan_record h.n h.limit d) (moves_bytes h.n e xs ys) p m w p₁ m₁ → Ends s o p m w p₁ m₁
-    here_ends e xs ys a b i j q w p m p₁ m₁ f =
+    pub here_ends : (xs ys : List ℕ) → xs ≡ routes → ys ≡ counts → (w : StepAnswer) (p m p₁ m₁ : List ℕ)
+        → Writes (kind_number d.kind) h.limit (plan_record h.n h.limit d) (moves_record h.n xs ys) p m w p₁ m₁ → Ends s o p m w p₁ m₁
+    here_ends xs ys i j w p m p₁ m₁ f =
         let head = r.sheet in
-        let moves = here_moves e xs ys a b i j q in
-        let kinds : d.kind ≡ d₀.kind = ap (λ (x : Decision). x.kind) here_decision in
+        let kinds : kind_number d.kind ≡ kind_number d₀.kind = ap (λ (x : Decision). kind_number x.kind) here_decision in
         let limits : h.limit ≡ (read_sheet s).limit = ap (λ (x : SheetAnswer). x.limit) head in
-        let same : Writes d.kind h.limit (plan_in s o) (moves_in s o) p m w p₁ m₁ = rw (here_plan, moves) at f in
+        let same : Writes (kind_number d.kind) h.limit (plan_in s o) (moves_in s o) p m w p₁ m₁ = rw (here_plan, here_moves xs ys i j) at f in
         ends_written s o p m h.n (ap (λ (x : SheetAnswer). x.refusal) head) (ap (λ (x : SheetAnswer). x.n) head) tree r.old w p₁ m₁
         (rw (kinds, limits) at same)

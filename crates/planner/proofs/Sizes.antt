@@ -17,7 +17,7 @@ use Rattle.sheet.specs.Sheet.{read_sheet}
 use Rattle.sheet.proofs.Accepted.{sheet-accepted}
 use Rattle.sheet.proofs.Refusals.{sheet-most}
 use Rattle.plan.specs.declared.PlanAnswer.{PlanAnswer}
-use Rattle.plan.specs.Plan.{read_plan}
+use Rattle.plan.specs.Plan.{kind_number, read_plan}
 use Rattle.plan.specs.Write.{plan_length}
 use Rattle.plan.proofs.Accepted.{plan-accepted}
 use Rattle.plan.proofs.Refusals.{plan-most}
@@ -44,7 +44,7 @@ module _ {s o : List ℕ} (d : Plannable s o) where
 
   -- THEOREM. Such buffers are long enough.
   pub enough : (plan_size moves_size : ℕ) → plan_length (read_sheet s).n ≤ plan_size → longest_moves (read_sheet s).n ≤ moves_size
-      → step_answer s o plan_size moves_size ≡ planned (decision_in s o).kind (read_sheet s).limit (length (plan_in s o)) (length (moves_in s o))
+      → step_answer s o plan_size moves_size ≡ planned (kind_number (decision_in s o).kind) (read_sheet s).limit (length (plan_in s o)) (length (moves_in s o))
   enough plan_size moves_size l m = done-step s o plan_size moves_size d (omega (arith, plan-size)) (omega (arith, moves-size))
 
 -- the moves' length that is given, 0 in a refusal, lies within their buffer

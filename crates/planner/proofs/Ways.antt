@@ -1,25 +1,25 @@
 -- One law for each way that the checks can go: of the old plan, of the two buffers, and of the sheet. Assumes nothing.
 use mathlib.Core.Path.{◌≡◌, refl, ap, ◌∙◌}
 use mathlib.Core.Logic.{◌≢◌}
-use mathlib.Core.Bool.{Bool, true, false}
+use mathlib.Core.Bool.{Bool, true, false, not}
 use mathlib.Core.List.{List}
 use Prim.Native.Nat.{ℕ, ◌≤◌, ◌<◌}
 use native.Mathlib.Omega.{arith}
 use borrow.Author.Tests.{lt-ltb, le-ltb, eq-eqb, ne_eqb}
+use lib.Dec.{eqb}
 use lib.ListN.{length}
 use Rattle.words.specs.Buffer.{placed, after_call}
 use Rattle.sheet.specs.declared.SheetRefusal.{SheetRefusal}
-use Rattle.sheet.specs.declared.SheetReading.{SheetReading}
-use Rattle.sheet.specs.declared.SheetReading.TheVariants.{Refused}
 use Rattle.sheet.specs.Sheet.{read_sheet, answer_of as sheet_answer}
 use Rattle.sheet.proofs.Answers.{number_more as sheet-more}
 use Rattle.plan.proofs.Answers.{number_more as plan-more}
-use Rattle.plan.specs.declared.Plan as read
-use Rattle.plan.specs.Plan.{read_plan, accepted}
+use Rattle.plan.specs.Plan.{read_plan, accepted, kind_number}
 use Rattle.planner.specs.declared.StepAnswer.{StepAnswer}
 use Rattle.planner.specs.declared.StepRefusal.{StepRefusal}
-use Rattle.planner.specs.declared.StepRefusal.TheVariants.{Sheet, Plan, NodesDiffer, PlanBuffer, MovesBuffer}
+use Rattle.planner.specs.declared.StepRefusal.TheVariants.{Sheet as OfSheet, Plan as OfPlan, NodesDiffer, PlanBuffer, MovesBuffer}
 use Rattle.planner.specs.Step.{refused, planned, number_of, old_refused, old_read, read_old, decision_in, plan_in, moves_in, written_answer, step_answer, plan_after, moves_after}
+use Rattle.std.specs.Prelude.{Err, Result}
+use Rattle.sheet.specs.declared.Sheet.{Sheet}
 
 -- ---- the old plan
 
@@ -33,30 +33,32 @@ module _ (o : List ℕ) (n : ℕ) where
     unfolding read_old
     old-refused k e d = rw (ne_eqb (length o) 0 full, ← e, ne_eqb k 0 d)
 
-    module _ (p : read.Plan) (r : accepted p.n p.kind p.limit ≡ read_plan o) where
-      pub old_differs : p.n ≢ n → old_refused 21 ≡ read_old o n
+    module _ (m kind limit : ℕ) (r : accepted m kind limit ≡ read_plan o) where
+      pub old_differs : m ≢ n → old_refused 21 ≡ read_old o n
       unfolding read_old
-      old_differs d = rw (ne_eqb (length o) 0 full, ← r, ne_eqb p.n n d)
+      old_differs d = rw (ne_eqb (length o) 0 full, ← r, ne_eqb m n d)
 
-      pub old-primary : p.n ≡ n → p.kind ≡ 0 → old_read false ≡ read_old o n
+      pub old-same : m ≡ n → old_read (not (eqb kind 0)) ≡ read_old o n
       unfolding read_old
-      old-primary e z = rw (ne_eqb (length o) 0 full, ← r, eq-eqb p.n n e, eq-eqb p.kind 0 z)
+      old-same e = rw (ne_eqb (length o) 0 full, ← r, eq-eqb m n e)
 
-      pub old-tree : p.n ≡ n → p.kind ≢ 0 → old_read true ≡ read_old o n
-      unfolding read_old
-      old-tree e d = rw (ne_eqb (length o) 0 full, ← r, eq-eqb p.n n e, ne_eqb p.kind 0 d)
+      pub old-primary : m ≡ n → kind ≡ 0 → old_read false ≡ read_old o n
+      old-primary e z = rw (eq-eqb kind 0 z) at (old-same e)
+
+      pub old-tree : m ≡ n → kind ≢ 0 → old_read true ≡ read_old o n
+      old-tree e d = rw (ne_eqb kind 0 d) at (old-same e)
 
 -- no refusal has the number 0
 pub number_more : (r : StepRefusal) → number_of r ≢ 0
-number_more (Sheet r) z = omega (arith, sheet-more r)
-number_more (Plan r) z = omega (arith, plan-more r)
+number_more (OfSheet r) z = omega (arith, sheet-more r)
+number_more (OfPlan r) z = omega (arith, plan-more r)
 number_more NodesDiffer z = omega arith
 number_more PlanBuffer z = omega arith
 number_more MovesBuffer z = omega arith
 
 -- nor that of a sheet
-pub refusal_more : (x : SheetReading) (r : SheetRefusal) → x ≡ Refused r → (sheet_answer x).refusal ≢ 0
-refusal_more x r e z = omega (arith, sheet-more r, ap (λ (y : SheetReading). (sheet_answer y).refusal) e)
+pub refusal_more : (x : Result Sheet SheetRefusal) (r : SheetRefusal) → x ≡ Err r → (sheet_answer x).refusal ≢ 0
+refusal_more x r e z = omega (arith, sheet-more r, ap (λ (y : Result Sheet SheetRefusal). (sheet_answer y).refusal) e)
 
 -- ---- the two buffers
 
@@ -99,7 +101,7 @@ module _ (s o : List ℕ) (a b : ℕ) where
     step-old k e d = rw (← z, ← m, ← e, ne_eqb k 0 d)
 
     pub step-decided : (tree : Bool) → read_old o n ≡ old_read tree
-        → written_answer (decision_in s o).kind (read_sheet s).limit (plan_in s o) (moves_in s o) a b ≡ step_answer s o a b
+        → written_answer (kind_number (decision_in s o).kind) (read_sheet s).limit (plan_in s o) (moves_in s o) a b ≡ step_answer s o a b
     unfolding step_answer
     step-decided tree e = rw (← z, ← m, e)
 
@@ -119,7 +121,7 @@ module _ (s o p m : List ℕ) where
     ends_old k e d = refuses k d (step-old s o (length p) (length m) n z is k e d)
 
     pub ends_written : (tree : Bool) → read_old o n ≡ old_read tree → (a : StepAnswer) (p₁ m₁ : List ℕ)
-        → Writes (decision_in s o).kind (read_sheet s).limit (plan_in s o) (moves_in s o) p m a p₁ m₁ → Ends a p₁ m₁
+        → Writes (kind_number (decision_in s o).kind) (read_sheet s).limit (plan_in s o) (moves_in s o) p m a p₁ m₁ → Ends a p₁ m₁
     ends_written tree e a p₁ m₁ w =
         let q = w.0 ∙ step-decided s o (length p) (length m) n z is tree e in
         let plan = ap (λ (x : StepAnswer). after_call x.refusal (plan_in s o) p) q in

@@ -1,12 +1,12 @@
 -- Document 01, *Plan a step*: "takes a sheet and an old plan, which may have length 0, and writes plan and moves. It gives kind, L and
 -- both lengths in bytes."
-use Rattle.std.specs.Prelude.{◌≡◌, Bool, true, false, cond, not, List, ℕ, eqb, ltb, length, take}
+use Rattle.std.specs.Prelude.{◌≡◌, Bool, false, cond, not, List, ℕ, eqb, ltb, length, take, Err, Ok, Result}
 use Rattle.arrays.specs.Arrays.{padded, at}
 use Rattle.words.specs.Checks.{refuse_if, refuse_as}
 use Rattle.words.specs.Buffer.{after_call}
 use Rattle.sheet.specs.Sheet.{read_sheet, refusal_number as sheet_number}
 use Rattle.sheet.specs.Table.{table_in}
-use Rattle.plan.specs.Plan.{read_plan, helpands_of, shares_of, refusal_number as plan_number, accepted as plan_accepted}
+use Rattle.plan.specs.Plan.{kind_number, read_plan, helpands_of, shares_of, refusal_number as plan_number, accepted as plan_accepted}
 use Rattle.plan.specs.Write.{plan_bytes}
 use Rattle.moves.specs.Moves.{read_moves, routes_of, counts_of, accepted as moves_accepted}
 use Rattle.moves.specs.Write.{moves_bytes}
@@ -17,11 +17,8 @@ use Rattle.decide.specs.declared.Decision.{Decision}
 use Rattle.decide.specs.Decide.{own_numbers, decided}
 use Rattle.planner.specs.declared.StepRefusal.{StepRefusal}
 use Rattle.planner.specs.declared.StepRefusal.TheVariants.{Sheet as OfSheet, Plan as OfPlan, NodesDiffer, PlanBuffer, MovesBuffer}
-use Rattle.planner.specs.declared.OldPlan.{OldPlan}
-use Rattle.planner.specs.declared.OldPlan.TheVariants.{Tree as WithTree, NoTree, Refused as OldRefused}
-use Rattle.planner.specs.declared.Step.{Step}
-use Rattle.planner.specs.declared.Step.TheVariants.{Planned, Refused}
 use Rattle.planner.specs.declared.StepAnswer.{StepAnswer}
+use Rattle.planner.specs.declared.PlannedStep.{PlannedStep}
 
 -- ---- answers
 
@@ -40,9 +37,9 @@ number_of PlanBuffer = 22
 number_of MovesBuffer = 23
 
 -- the paper's number and values for each case of the enum
-abbrev pub answer_of : Step → StepAnswer
-answer_of (Planned p) = planned p.kind p.limit p.plan p.moves
-answer_of (Refused r) = refused (number_of r)
+abbrev pub answer_of : Result PlannedStep StepRefusal → StepAnswer
+answer_of (Ok p) = planned (kind_number p.kind) p.limit p.plan p.moves
+answer_of (Err r) = refused (number_of r)
 
 -- ---- the old plan, "which may have length 0"
 
@@ -57,10 +54,9 @@ old_refused k = record { refusal = k; tree = false }
 abbrev pub old_read : Bool → OldAnswer
 old_read tree = record { refusal = 0; tree = tree }
 
-abbrev pub old_of : OldPlan → OldAnswer
-old_of WithTree = old_read true
-old_of NoTree = old_read false
-old_of (OldRefused r) = old_refused (number_of r)
+abbrev pub old_of : Result Bool StepRefusal → OldAnswer
+old_of (Ok tree) = old_read tree
+old_of (Err r) = old_refused (number_of r)
 
 -- the old plan beside a sheet of n nodes: "the plan's; 21". "An empty or kind 0 old plan has no old tree."
 unfoldable pub read_old : List ℕ → ℕ → OldAnswer
@@ -84,7 +80,7 @@ decision_in s o =
 
 -- the plan: "A plan written carries L as its limit."
 abbrev pub plan_record : ℕ → ℕ → Decision → List ℕ
-plan_record n limit d = plan_bytes n d.kind limit d.helpands d.shares
+plan_record n limit d = plan_bytes n (kind_number d.kind) limit d.helpands d.shares
 
 unfoldable pub plan_in : List ℕ → List ℕ → List ℕ
 plan_in s o = plan_record (read_sheet s).n (read_sheet s).limit (decision_in s o)
@@ -120,7 +116,7 @@ unfoldable pub step_answer : List ℕ → List ℕ → ℕ → ℕ → StepAnswe
 step_answer s o plan_size moves_size =
     refuse_as refused (read_sheet s).refusal
     (refuse_as refused (read_old o (read_sheet s).n).refusal
-    (written_answer (decision_in s o).kind (read_sheet s).limit (plan_in s o) (moves_in s o) plan_size moves_size))
+    (written_answer (kind_number (decision_in s o).kind) (read_sheet s).limit (plan_in s o) (moves_in s o) plan_size moves_size))
 
 -- the two buffers afterwards, each with the other's length
 abbrev pub plan_after : List ℕ → List ℕ → List ℕ → ℕ → List ℕ
@@ -133,7 +129,7 @@ moves_after s o moves plan_size = after_call (step_answer s o plan_size (length 
 
 pub record StepReadBack (s o plan moves : List ℕ) : Type 0 where
   -- "Plan: N, kind, limit; N helpands; N shares."
-  pub plan_read : read_plan plan ≡ plan_accepted (read_sheet s).n (decision_in s o).kind (read_sheet s).limit
+  pub plan_read : read_plan plan ≡ plan_accepted (read_sheet s).n (kind_number (decision_in s o).kind) (read_sheet s).limit
   pub helpands : helpands_of plan (read_sheet s).n ≡ take (read_sheet s).n (decision_in s o).helpands
   pub shares : shares_of plan (read_sheet s).n ≡ take (read_sheet s).n (decision_in s o).shares
   -- "Moves: N, E; E routes; E counts."

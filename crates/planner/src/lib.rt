@@ -1,21 +1,25 @@
 // *Plan a step*: from a sheet and an old plan to the new plan and the moves, in two lent buffers.
 #![tactic(auto)]
 
-ghost use Rattle.std.specs.Prelude.{◌≡◌, ◌≢◌, true, ◌+◌, ◌*◌, ◌≤◌, length};
+ghost use Rattle.std.specs.Prelude.{◌≡◌, ◌≢◌, true, cond, ◌+◌, ◌*◌, ◌≤◌, length};
 ghost use Rattle.limit.specs.Limit.{max_nodes, table_size};
 ghost use Rattle.words.specs.Buffer.{placed, after_call};
+ghost use Rattle.plan.specs.Plan.{kind_number};
 ghost use Rattle.sheet.specs.Sheet.{answer_of as sheet_answer};
-ghost use Rattle.moves.specs.Write.{moves_bytes};
-ghost use Rattle.planner.specs.Step.{refused, number_of, answer_of, old_of, read_old, old_helpands, plan_record, written_answer, step_answer, plan_after, moves_after};
+ghost use Rattle.transfer.specs.List.{routes_in, counts_in};
+ghost use Rattle.planner.specs.Step.{refused, number_of, answer_of, old_of, read_old, old_helpands, plan_record, moves_record, written_answer, step_answer, plan_after, moves_after};
 ghost use Rattle.planner.specs.Inner.{StepRead};
+ghost use Rattle.planner.specs.declared.StepRefusal.TheVariants.{Plan as OfPlan};
 
 use decide::Decision;
-use limit::TABLE_SIZE;
-use plan::{PlanReading, PlanRefusal};
-use sheet::{Sheet, SheetReading, SheetRefusal};
+use plan::{Kind, PlanRefusal};
+use sheet::{Sheet, SheetRefusal};
+use transfer::list::MoveList;
+use transfer::matching::all_moves;
+use words::Refusal;
 
 // Why planning is refused, in the order of the checks.
-#[derive(Drop)]
+#[derive(Clone, Copy, Debug, PartialEq, Eq)]
 pub enum StepRefusal {
     Sheet(SheetRefusal),
     Plan(PlanRefusal),
@@ -24,24 +28,40 @@ pub enum StepRefusal {
     MovesBuffer,
 }
 
+impl From<PlanRefusal> for StepRefusal {
+    ghost from_gives = { λ r made. made ≡ OfPlan r };
+
+    fn from(r: PlanRefusal) -> StepRefusal {
+        StepRefusal::Plan(r)
+    }
+}
+
+impl Refusal for StepRefusal {
+    ghost number_of = { number_of };
+
+    fn number(self) -> u32 {
+        match self {
+            StepRefusal::Sheet(r) => r.number(),
+            StepRefusal::Plan(r) => r.number(),
+            StepRefusal::NodesDiffer => 21,
+            StepRefusal::PlanBuffer => 22,
+            StepRefusal::MovesBuffer => 23,
+        }
+    }
+}
+
 // What a planned step gives: kind, L, and the lengths of the plan and of the moves in bytes.
-#[derive(Drop)]
+#[derive(Clone, Copy)]
 pub struct PlannedStep {
-    pub kind: u32,
+    pub kind: Kind,
     pub limit: u32,
     pub plan: u32,
     pub moves: u32,
 }
 
-#[derive(Drop)]
-pub enum Step {
-    Planned(PlannedStep),
-    Refused(StepRefusal),
-}
-
 // The answer in document 01's numbers: 0 or the refusal's, and the values named, all 0 in a refusal. The last two are lengths in bytes.
 #[repr(C)]
-#[derive(Drop)]
+#[derive(Clone, Copy)]
 pub struct StepAnswer {
     pub refusal: u32,
     pub kind: u32,
@@ -50,79 +70,52 @@ pub struct StepAnswer {
     pub moves: u32,
 }
 
-// What an old plan is: one with a tree, one without, or refused.
-#[derive(Drop)]
-enum OldPlan {
-    Tree,
-    NoTree,
-    Refused(StepRefusal),
-}
-
 // The refusal of a sheet that was not accepted.
-fn not_read(reading: SheetReading) -> Step
+fn not_read(reading: Result<Sheet, SheetRefusal>) -> Result<PlannedStep, StepRefusal>
     requires { (sheet_answer reading).refusal ≢ 0 }
     ensures { answer_of result ≡ refused (sheet_answer reading).refusal }
 {
     match reading {
-        SheetReading::Refused(r) => Step::Refused(StepRefusal::Sheet(r)),
+        Err(r) => Err(StepRefusal::Sheet(r)),
         // never: such a sheet has no refusal
-        SheetReading::Accepted(_) => Step::Refused(StepRefusal::NodesDiffer),
+        Ok(_) => Err(StepRefusal::NodesDiffer),
     }
 }
 
-// Reads an old plan for a sheet of n nodes. "An empty or kind 0 old plan has no old tree."
-fn read_old(old: &[u8], n: u32) -> OldPlan
+// Reads an old plan for a sheet of n nodes, and says whether it has a tree. "An empty or kind 0 old plan has no old tree."
+fn read_old(old: &[u8], n: u32) -> Result<bool, StepRefusal>
     ensures { old_of result ≡ read_old old.now n }
 {
-    if old.len() == 0 {
-        return OldPlan::NoTree;
+    if old.is_empty() {
+        return Ok(false);
     }
-    match plan::read_plan(old) {
-        PlanReading::Refused(r) => OldPlan::Refused(StepRefusal::Plan(r)),
-        PlanReading::Accepted(p) => {
-            if p.n != n {
-                return OldPlan::Refused(StepRefusal::NodesDiffer);
-            }
-            if p.kind == 0 {
-                OldPlan::NoTree
-            } else {
-                OldPlan::Tree
-            }
-        }
+    let p = plan::read_plan(old)?;
+    if p.n != n {
+        return Err(StepRefusal::NodesDiffer);
     }
+    Ok(!p.kind.is_primary())
 }
 
-// The helpands of the old tree; without one each node is its own.
-fn old_helpands(old: &[u8], tree: bool, nodes: usize) -> [u32; 64]
+// The helpands of the old tree, if there is one.
+fn old_helpands(old: &[u8], tree: bool, nodes: usize) -> Option<[u32; 64]>
     requires { (nodes ≤ max_nodes) × (tree ≡ true → 4 * (3 + nodes) ≤ length old.now) }
-    ensures { result ≡ old_helpands old.now tree nodes }
+    ensures { result ≡ cond tree (Some (old_helpands old.now tree nodes)) None }
 {
     if tree {
-        return words::words_64(old, 3, nodes);
+        return Some(words::words_64(old, 3, nodes));
     }
-    decide::own_numbers(nodes)
+    None
 }
 
-// Writes the plan and the first e moves to buffers that are long enough.
-fn put_records(
-    plan: &mut [u8],
-    moves: &mut [u8],
-    n: u32,
-    limit: u32,
-    d: Decision,
-    routes: &[u32],
-    counts: &[u32],
-    e: usize,
-)
-    requires { (n ≤ max_nodes) × (e ≤ table_size) × (e ≤ length routes.now) × (e ≤ length counts.now)
-        × (4 * (3 + 2 * n) ≤ length plan.old) × (4 * (2 + 2 * e) ≤ length moves.old) }
+// Writes the plan and the moves to buffers that are long enough.
+fn put_records(plan: &mut [u8], moves: &mut [u8], n: u32, limit: u32, d: Decision, found: &MoveList)
+    requires { (n ≤ max_nodes) × (length (routes_in found.now) ≤ table_size) × (length (routes_in found.now) ≡ length (counts_in found.now))
+        × (4 * (3 + 2 * n) ≤ length plan.old) × (4 * (2 + 2 * length (routes_in found.now)) ≤ length moves.old) }
     ensures plan { plan.new ≡ placed (plan_record n limit d) plan.old }
-    ensures moves { moves.new ≡ placed (moves_bytes n e routes.now counts.now) moves.old }
+    ensures moves { moves.new ≡ placed (moves_record n (routes_in found.now) (counts_in found.now)) moves.old }
 {
-    let helpands = d.helpands;
-    let shares = d.shares;
-    plan::write::put_plan(plan, n, d.kind, limit, helpands, shares);
-    moves::write::put_moves(moves, n, e, routes, counts);
+    plan::write::put_plan(plan, n, d.kind.into(), limit, d.helpands, d.shares);
+    moves::write::put_moves(moves, n, found.routes(), found.counts());
 }
 
 // The same to any buffers: both lengths are tested before the first store.
@@ -132,29 +125,27 @@ fn write_records(
     n: u32,
     limit: u32,
     d: Decision,
-    routes: &[u32],
-    counts: &[u32],
-    e: usize,
-) -> Step
-    requires { (n ≤ max_nodes) × (e ≤ table_size) × (e ≤ length routes.now) × (e ≤ length counts.now) }
-    ensures answer { answer_of result ≡ written_answer d.kind limit (plan_record n limit d) (moves_bytes n e routes.now counts.now)
-        (length plan.old) (length moves.old) }
+    found: &MoveList,
+) -> Result<PlannedStep, StepRefusal>
+    requires { n ≤ max_nodes }
+    ensures answer { answer_of result ≡ written_answer (kind_number d.kind) limit (plan_record n limit d)
+        (moves_record n (routes_in found.now) (counts_in found.now)) (length plan.old) (length moves.old) }
     ensures plan { plan.new ≡ after_call (answer_of result).refusal (plan_record n limit d) plan.old }
     ensures moves { moves.new
-        ≡ after_call (answer_of result).refusal (moves_bytes n e routes.now counts.now) moves.old }
+        ≡ after_call (answer_of result).refusal (moves_record n (routes_in found.now) (counts_in found.now)) moves.old }
 {
     let plan_size = 4 * (3 + 2 * n as usize);
     if plan.len() < plan_size {
-        return Step::Refused(StepRefusal::PlanBuffer);
+        return Err(StepRefusal::PlanBuffer);
     }
-    let moves_size = 4 * (2 + 2 * e);
+    let moves_size = 4 * (2 + 2 * found.len());
     if moves.len() < moves_size {
-        return Step::Refused(StepRefusal::MovesBuffer);
+        return Err(StepRefusal::MovesBuffer);
     }
-    put_records(plan, moves, n, limit, d, routes, counts, e);
-    Step::Planned(PlannedStep {
+    put_records(plan, moves, n, limit, d, found);
+    Ok(PlannedStep {
         kind: d.kind,
-        limit: limit,
+        limit,
         plan: plan_size as u32,
         moves: moves_size as u32,
     })
@@ -168,7 +159,7 @@ fn plan_read(
     tree: bool,
     plan: &mut [u8],
     moves: &mut [u8],
-) -> Step
+) -> Result<PlannedStep, StepRefusal>
     requires { StepRead sheet.now old.now s tree }
     ensures answer { answer_of result ≡ step_answer sheet.now old.now (length plan.old) (length moves.old) }
     ensures plan { plan.new ≡ plan_after sheet.now old.now plan.old (length moves.old) }
@@ -178,71 +169,50 @@ fn plan_read(
     let table = sheet::table::unpack(sheet, s.e as usize);
     let totals = sheet::totals::totals(&table, nodes);
     let helpands = old_helpands(old, tree, nodes);
-    let d = decide::decide(&table, totals, tree, helpands, nodes, s.p, s.limit);
-    let mut routes = [0u32; TABLE_SIZE];
-    let mut counts = [0u32; TABLE_SIZE];
-    let new = d.helpands;
-    let shares = d.shares;
-    let e = transfer::matching::all_moves(
-        &table,
-        totals,
-        new,
-        shares,
-        nodes,
-        &mut routes,
-        &mut counts,
-    );
-    write_records(plan, moves, s.n, s.limit, d, &routes, &counts, e)
+    let d = decide::decide(&table, totals, helpands, nodes, s.p, s.limit);
+    let mut found = MoveList::new();
+    all_moves(&table, totals, d.helpands, d.shares, nodes, &mut found);
+    write_records(plan, moves, s.n, s.limit, d, &found)
 }
 
 // *Plan a step*. "A refused sheet ends planning before the old plan is looked at."
-pub fn plan_step(sheet: &[u8], old: &[u8], plan: &mut [u8], moves: &mut [u8]) -> Step
+pub fn plan_step(
+    sheet: &[u8],
+    old: &[u8],
+    plan: &mut [u8],
+    moves: &mut [u8],
+) -> Result<PlannedStep, StepRefusal>
     ensures answer { answer_of result ≡ step_answer sheet.now old.now (length plan.old) (length moves.old) }
     ensures plan { plan.new ≡ plan_after sheet.now old.now plan.old (length moves.old) }
     ensures moves { moves.new ≡ moves_after sheet.now old.now moves.old (length plan.old) }
 {
     let reading = sheet::read_sheet(sheet);
-    let SheetReading::Accepted(s) = reading else {
+    let Ok(s) = reading else {
         return not_read(reading);
     };
-    match read_old(old, s.n) {
-        OldPlan::Refused(r) => Step::Refused(r),
-        OldPlan::Tree => plan_read(sheet, old, s, true, plan, moves),
-        OldPlan::NoTree => plan_read(sheet, old, s, false, plan, moves),
-    }
+    let tree = read_old(old, s.n)?;
+    plan_read(sheet, old, s, tree, plan, moves)
 }
 
-// Document 01's number of a refusal.
-fn number(r: StepRefusal) -> u32
-    ensures { result ≡ number_of r }
-{
-    match r {
-        StepRefusal::Sheet(r) => sheet::number(r),
-        StepRefusal::Plan(r) => plan::number(r),
-        StepRefusal::NodesDiffer => 21,
-        StepRefusal::PlanBuffer => 22,
-        StepRefusal::MovesBuffer => 23,
-    }
-}
+impl From<Result<PlannedStep, StepRefusal>> for StepAnswer {
+    ghost from_gives = { λ step answer. answer ≡ answer_of step };
 
-// A step in document 01's numbers.
-pub fn answer(s: Step) -> StepAnswer
-    ensures { result ≡ answer_of s }
-{
-    match s {
-        Step::Planned(p) => StepAnswer {
-            refusal: 0,
-            kind: p.kind,
-            limit: p.limit,
-            plan: p.plan,
-            moves: p.moves,
-        },
-        Step::Refused(r) => StepAnswer {
-            refusal: number(r),
-            kind: 0,
-            limit: 0,
-            plan: 0,
-            moves: 0,
-        },
+    fn from(step: Result<PlannedStep, StepRefusal>) -> StepAnswer {
+        match step {
+            Ok(p) => StepAnswer {
+                refusal: 0,
+                kind: p.kind.into(),
+                limit: p.limit,
+                plan: p.plan,
+                moves: p.moves,
+            },
+            Err(r) => StepAnswer {
+                refusal: r.number(),
+                kind: 0,
+                limit: 0,
+                plan: 0,
+                moves: 0,
+            },
+        }
     }
 }

@@ -11,8 +11,6 @@ use lib.Dec.{eqb, leb}
 use lib.ListN.{length, get_or, set, replicate, length-set, length-replicate, get_or-replicate}
 use lib.Seq.{get_or-set_same, get_or-set_other}
 use borrow.Author.Tests.{leb-true}
-use Rattle.fold.specs.declared.Found.{Found}
-use Rattle.fold.specs.declared.Found.TheVariants.{At, Nothing}
 use Rattle.fold.specs.Sum.{only, sum}
 use Rattle.fold.specs.Best.{larger, smaller}
 use Rattle.fold.proofs.Tests.{either, and_left, and_right, only-is, only-not}
@@ -26,6 +24,7 @@ use Rattle.rebuild.proofs.Choices.{in_a-is, in_b_is, in_a_of, in_b_of}
 use Rattle.rebuild.proofs.TargetSums.{target-near, target-sum}
 use Rattle.rebuild.proofs.Turns.{Changed, Inv, above, turned, stamp}
 use Rattle.arrays.proofs.Tabulate.{tabulate-at}
+use Rattle.std.specs.Prelude.{None, Option, Some}
 
 -- a store in a list changes one place
 changed : {A : Type 0} (xs : List A) (i : ℕ) (v d : A) → i < length xs → Changed (λ k. get_or xs k d) (λ k. get_or (set xs i v) k d) i v
@@ -64,7 +63,7 @@ module _ (nodes p : ℕ) (few : nodes ≤ 64) (total : ℕ → ℕ) where
   sound-few s t v = omega (arith, v.inv.count, sum_ones nodes (is s.finished) v.inv.left.0 v.inv.left.1 v.inv.left.2)
 
   -- l is a node under its target
-  pub next_l_lem : (s : Balance) (l : ℕ) → next_l nodes s ≡ At l
+  pub next_l_lem : (s : Balance) (l : ℕ) → next_l nodes s ≡ Some l
       → (l < nodes) × (is s.finished l ≡ false) × (at s.loads l < at s.targets l)
   next_l_lem s l e =
       let f = best-found (in_a s.loads s.targets s.finished) (smaller (at s.loads)) nodes l e in
@@ -72,7 +71,7 @@ module _ (nodes p : ℕ) (few : nodes ≤ 64) (total : ℕ → ℕ) where
       (f.0, i.0, i.1)
 
   -- where no l is found, no unfinished node is under its target
-  pub next-none : (s : Balance) → next_l nodes s ≡ Nothing → (k : ℕ) → k < nodes → is s.finished k ≡ false
+  pub next-none : (s : Balance) → next_l nodes s ≡ None → (k : ℕ) → k < nodes → is s.finished k ≡ false
       → at s.targets k ≤ at s.loads k
   next-none s e k b o = elim (dec_lt (at s.loads k) (at s.targets k)) [
     | no d ↦ omega arith
@@ -83,7 +82,7 @@ module _ (nodes p : ℕ) (few : nodes ≤ 64) (total : ℕ → ℕ) where
   ]
 
   -- a turn keeps the invariant
-  pub turn-sound : (s : Balance) (t : ℕ) → Sound nodes p total s t → (l g : ℕ) → next_l nodes s ≡ At l → Served nodes s l g
+  pub turn-sound : (s : Balance) (t : ℕ) → Sound nodes p total s t → (l g : ℕ) → next_l nodes s ≡ Some l → Served nodes s l g
       → Sound nodes p total (turn_of s l g (need_of s l)) (suc t)
   unfolding turn_of
   turn-sound s t v l g e q =
@@ -113,8 +112,8 @@ module _ (nodes p : ℕ) (few : nodes ≤ 64) (total : ℕ → ℕ) where
 
   module _ (old : List ℕ) (inside : (k : ℕ) → k < nodes → at old k < nodes) where
     -- while A has a node, B has one, and whom l helps is in B and has the need
-    pub serve : (s : Balance) (t : ℕ) → Sound nodes p total s t → (l : ℕ) → next_l nodes s ≡ At l
-        → (g : ℕ) × (next_g nodes old s l ≡ At g) × Served nodes s l g
+    pub serve : (s : Balance) (t : ℕ) → Sound nodes p total s t → (l : ℕ) → next_l nodes s ≡ Some l
+        → (g : ℕ) × (next_g nodes old s l ≡ Some g) × Served nodes s l g
     serve s t v l e = pick (either (old_serves s.loads s.targets s.finished l (need_of s l) (at old l)))
       where
         i : (l < nodes) × (is s.finished l ≡ false) × (at s.loads l < at s.targets l)
@@ -134,7 +133,7 @@ module _ (nodes p : ℕ) (few : nodes ≤ 64) (total : ℕ → ℕ) where
             }
 
         -- the largest of B has the need, since some node of B is above its target
-        by-largest : (g : ℕ) × (largest_in_b nodes s.loads s.targets s.finished ≡ At g) × Served nodes s l g
+        by-largest : (g : ℕ) × (largest_in_b nodes s.loads s.targets s.finished ≡ Some g) × Served nodes s l g
         by-largest =
             let ok = in_b s.loads s.targets s.finished in
             let r =
@@ -163,55 +162,55 @@ module _ (nodes p : ℕ) (few : nodes ≤ 64) (total : ℕ → ℕ) where
               },
             )
 
-        way : Bool → Found
-        way t = cond t (At (at old l)) (largest_in_b nodes s.loads s.targets s.finished)
+        way : Bool → Option ℕ
+        way t = cond t (Some (at old l)) (largest_in_b nodes s.loads s.targets s.finished)
 
         pick : (old_serves s.loads s.targets s.finished l (need_of s l) (at old l) ≡ true)
             ⊎ (old_serves s.loads s.targets s.finished l (need_of s l) (at old l) ≡ false)
-            → (g : ℕ) × (next_g nodes old s l ≡ At g) × Served nodes s l g
+            → (g : ℕ) × (next_g nodes old s l ≡ Some g) × Served nodes s l g
         pick (inl q) = (at old l, ap way q, by_old q)
         pick (inr q) = (by-largest.0, ap way q ∙ by-largest.1, by-largest.2)
 
     -- so the g that is found is such a node
-    pub served : (s : Balance) (t : ℕ) → Sound nodes p total s t → (l g : ℕ) → next_l nodes s ≡ At l → next_g nodes old s l ≡ At g
+    pub served : (s : Balance) (t : ℕ) → Sound nodes p total s t → (l g : ℕ) → next_l nodes s ≡ Some l → next_g nodes old s l ≡ Some g
         → Served nodes s l g
     served s t v l g e f =
         let r = serve s t v l e in
-        let w : At r.0 ≡ At g = sym r.1 ∙ f in
+        let w : Some r.0 ≡ Some g = sym r.1 ∙ f in
         let z : r.0 ≡ g = cc in
         rw z at r.2
 
     -- ---- the run, by the way that a turn goes
 
-    pub run-turn : (d : ℕ) (s : Balance) (l g : ℕ) → next_l nodes s ≡ At l → next_g nodes old s l ≡ At g
+    pub run-turn : (d : ℕ) (s : Balance) (l g : ℕ) → next_l nodes s ≡ Some l → next_g nodes old s l ≡ Some g
         → run_of nodes old (suc d) s ≡ run_of nodes old d (turn_of s l g (need_of s l))
     unfolding run_of
     run-turn d s l g e f = rw (e, run_of) (rw f)
 
-    pub run-stop : (d : ℕ) (s : Balance) → next_l nodes s ≡ Nothing → run_of nodes old d s ≡ s
+    pub run-stop : (d : ℕ) (s : Balance) → next_l nodes s ≡ None → run_of nodes old d s ≡ s
     unfolding run_of
     run-stop zero s e = refl
     run-stop (suc d) s e = rw (e, run_of)
 
     -- after so many turns the invariant holds, and where there were fewer of them, A has no node
     pub run_sound : (d : ℕ) (s : Balance) (t : ℕ) → Sound nodes p total s t
-        → (u : ℕ) × Sound nodes p total (run_of nodes old d s) u × ((next_l nodes (run_of nodes old d s) ≡ Nothing) ⊎ (u ≡ t + d))
+        → (u : ℕ) × Sound nodes p total (run_of nodes old d s) u × ((next_l nodes (run_of nodes old d s) ≡ None) ⊎ (u ≡ t + d))
     unfolding run_of
     run_sound zero s t v = (t, v, inr (omega arith))
     run_sound (suc d) s t v = way (next_l nodes s) refl (λ s' w. run_sound d s' (suc t) w)
       where
         After : Balance → Type 0
-        After b = (u : ℕ) × Sound nodes p total b u × ((next_l nodes b ≡ Nothing) ⊎ (u ≡ t + suc d))
+        After b = (u : ℕ) × Sound nodes p total b u × ((next_l nodes b ≡ None) ⊎ (u ≡ t + suc d))
 
-        later : (b : Balance) → (u : ℕ) × Sound nodes p total b u × ((next_l nodes b ≡ Nothing) ⊎ (u ≡ suc t + d)) → After b
+        later : (b : Balance) → (u : ℕ) × Sound nodes p total b u × ((next_l nodes b ≡ None) ⊎ (u ≡ suc t + d)) → After b
         later b r = (r.0, r.1, ⊎_elim (λ e. inl e) (λ e. inr (omega arith)) r.2)
 
-        way : (f : Found) → next_l nodes s ≡ f
+        way : (f : Option ℕ) → next_l nodes s ≡ f
             → ((s' : Balance) → Sound nodes p total s' (suc t)
-            → (u : ℕ) × Sound nodes p total (run_of nodes old d s') u × ((next_l nodes (run_of nodes old d s') ≡ Nothing) ⊎ (u ≡ suc t + d)))
+            → (u : ℕ) × Sound nodes p total (run_of nodes old d s') u × ((next_l nodes (run_of nodes old d s') ≡ None) ⊎ (u ≡ suc t + d)))
             → After (run_of nodes old (suc d) s)
-        way Nothing e go = rw (run-stop (suc d) s e) (t, v, inl e)
-        way (At l) e go =
+        way None e go = rw (run-stop (suc d) s e) (t, v, inl e)
+        way (Some l) e go =
             let q = serve s t v l e in
             let b = turn_of s l q.0 (need_of s l) in
             rw (run-turn d s l q.0 e q.1) (later (run_of nodes old d b) (go b (turn-sound s t v l q.0 e q.2)))
@@ -219,17 +218,17 @@ module _ (nodes p : ℕ) (few : nodes ≤ 64) (total : ℕ → ℕ) where
     -- ---- a turn of the loop
 
     module _ (whole s : Balance) (r : Reached nodes p total old whole s) where
-      pub reached-end : next_l nodes s ≡ Nothing → whole ≡ s
+      pub reached-end : next_l nodes s ≡ None → whole ≡ s
       reached-end e = r.rest ∙ run-stop (nodes - r.turns) s e
 
       -- g is always found
-      pub reached-some : (l : ℕ) → next_l nodes s ≡ At l → next_g nodes old s l ≡ Nothing → ⊥
+      pub reached-some : (l : ℕ) → next_l nodes s ≡ Some l → next_g nodes old s l ≡ None → ⊥
       reached-some l e f =
           let q = (serve s r.turns r.sound l e).1 in
           let z : ◌≡◌ {A = ℕ} 0 1 = cc in
           omega arith
 
-      module _ (l g : ℕ) (e : next_l nodes s ≡ At l) (f : next_g nodes old s l ≡ At g) where
+      module _ (l g : ℕ) (e : next_l nodes s ≡ Some l) (f : next_g nodes old s l ≡ Some g) where
         pub reached_served : Served nodes s l g
         reached_served = served s r.turns r.sound l g e f
 

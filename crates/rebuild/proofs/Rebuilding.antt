@@ -10,7 +10,6 @@ use native.Mathlib.Omega.{arith}
 use lib.Dec.{eqb, ltb}
 use lib.ListN.{length}
 use borrow.Author.Tests.{eq-eqb, ne_eqb, eqb-true, ltb-true}
-use Rattle.fold.specs.declared.Found.TheVariants.{At, Nothing}
 use Rattle.fold.specs.Sum.{only, sum}
 use Rattle.fold.specs.Best.{never}
 use Rattle.fold.proofs.Tests.{either, only-is, only_zero, all-at}
@@ -31,6 +30,7 @@ use Rattle.rebuild.proofs.Choices.{in_b_is, in_b_of, in_b_done, first-lowest, fi
 use Rattle.rebuild.proofs.Turns.{level}
 use Rattle.rebuild.proofs.Loops.{Sound, sound-few, next-none, serve, run_sound, start-sound}
 use Rattle.arrays.proofs.Tabulate.{tabulate-at, length-tabulate}
+use Rattle.std.specs.Prelude.{None, Some}
 
 -- a rank that falls along the helpands leads to the root
 reach_rank : (nodes : ℕ) (h : ℕ → ℕ) (r : ℕ) (rank : ℕ → ℕ) → h r ≡ r → ((k : ℕ) → k < nodes → h k < nodes)
@@ -63,7 +63,7 @@ module _ (nodes p : ℕ) (few : nodes ≤ 64) (totals : List ℕ) (s : Balance) 
     (v : Sound nodes p (at totals) s t)
     (end : (k : ℕ) → k < nodes → is s.finished k ≡ false → at s.targets k ≤ at s.loads k)
     (root : ℕ)
-    (found : lowest_in_b nodes s.loads s.targets s.finished ≡ At root) where
+    (found : lowest_in_b nodes s.loads s.targets s.finished ≡ Some root) where
   helpand : ℕ → ℕ
   helpand = at (tabulate nodes (new_helpand s root))
 
@@ -247,14 +247,14 @@ module _ (nodes p : ℕ) (totals old : List ℕ)
   after turns = run_of nodes old turns (start_of nodes p totals)
 
   after-sound : (turns : ℕ)
-      → (u : ℕ) × Sound nodes p (at totals) (after turns) u × ((next_l nodes (after turns) ≡ Nothing) ⊎ (u ≡ 0 + turns))
+      → (u : ℕ) × Sound nodes p (at totals) (after turns) u × ((next_l nodes (after turns) ≡ None) ⊎ (u ≡ 0 + turns))
   after-sound turns =
       run_sound nodes p few (at totals) old old-inside turns (start_of nodes p totals) 0 (start-sound nodes p totals some few long adds)
 
   -- THEOREM. After any number of turns: while A has a node l, B has the node g that l is to help, and g has what l needs.
-  pub turn_possible : (turns l : ℕ) → next_l nodes (after turns) ≡ At l
+  pub turn_possible : (turns l : ℕ) → next_l nodes (after turns) ≡ Some l
       → (g : ℕ)
-      × (next_g nodes old (after turns) l ≡ At g)
+      × (next_g nodes old (after turns) l ≡ Some g)
       × (in_b (after turns).loads (after turns).targets (after turns).finished g ≡ true)
       × (need_of (after turns) l ≤ at (after turns).loads g)
   turn_possible turns l e =
@@ -268,7 +268,7 @@ module _ (nodes p : ℕ) (totals old : List ℕ)
       )
 
   -- THEOREM. The loop ends: after as many turns as there are nodes, A has no node.
-  pub turns-end : next_l nodes (after nodes) ≡ Nothing
+  pub turns-end : next_l nodes (after nodes) ≡ None
   turns-end =
       let v = after-sound nodes in
       ⊎_elim (λ e. e) (λ u. absurd (omega (arith, u, sound-few nodes p few (at totals) (after nodes) v.0 v.1))) v.2
@@ -276,7 +276,7 @@ module _ (nodes p : ℕ) (totals old : List ℕ)
   -- THEOREM. Then B has a node, and the lowest of B is the root of a tree of the new helpands. Along it the new shares, with what is left
   -- to each owner, are a division with every load equal to the node's target.
   pub rebuilt-on-target : (root : ℕ)
-      × (lowest_in_b nodes (after nodes).loads (after nodes).targets (after nodes).finished ≡ At root)
+      × (lowest_in_b nodes (after nodes).loads (after nodes).targets (after nodes).finished ≡ Some root)
       × NewTree nodes p totals (rebuilt_of nodes p totals old) root
   unfolding rebuilt_of
   rebuilt-on-target =

@@ -1,7 +1,5 @@
 -- Document 01, 'Rebuilding', turn by turn: a state of arrays of 64, the two groups, a turn, the loop, and its end.
-use Rattle.std.specs.Prelude.{ℕ, zero, suc, ◌-◌, List, Bool, true, false, ◌&&◌, not, cond, eqb, ltb, leb, get_or, set, replicate}
-use Rattle.fold.specs.declared.Found.{Found}
-use Rattle.fold.specs.declared.Found.TheVariants.{At, Nothing}
+use Rattle.std.specs.Prelude.{ℕ, zero, suc, ◌-◌, List, Bool, true, false, ◌&&◌, not, cond, eqb, ltb, leb, get_or, set, replicate, None, Option, Some}
 use Rattle.fold.specs.Best.{smallest, largest, first}
 use Rattle.arrays.specs.Arrays.{at, tabulate}
 use Rattle.rebuild.specs.declared.Balance.{Balance}
@@ -30,11 +28,11 @@ in_b loads targets finished k = group_b (at loads k) (at targets k) (is finished
 -- ---- the choice of a turn
 
 -- "l is the node in A with the smallest load, lowest number on ties."
-abbrev pub smallest_in_a : ℕ → List ℕ → List ℕ → List Bool → Found
+abbrev pub smallest_in_a : ℕ → List ℕ → List ℕ → List Bool → Option ℕ
 smallest_in_a nodes loads targets finished = smallest (in_a loads targets finished) (at loads) nodes
 
 -- "the node in B with the largest load, lowest number on ties"
-abbrev pub largest_in_b : ℕ → List ℕ → List ℕ → List Bool → Found
+abbrev pub largest_in_b : ℕ → List ℕ → List ℕ → List Bool → Option ℕ
 largest_in_b nodes loads targets finished = largest (in_b loads targets finished) (at loads) nodes
 
 -- "g is l's helpand in the old tree, if l was not its root, g is in B and g's load is at least the need." h is l's old helpand. A node
@@ -44,9 +42,9 @@ abbrev pub old_serves : List ℕ → List ℕ → List Bool → ℕ → ℕ → 
 old_serves loads targets finished l need h = not (eqb h l) && (in_b loads targets finished h && leb need (at loads h))
 
 -- "Otherwise g is the node in B with the largest load, lowest number on ties."
-abbrev pub chosen : ℕ → List ℕ → List ℕ → List Bool → ℕ → ℕ → ℕ → Found
+abbrev pub chosen : ℕ → List ℕ → List ℕ → List Bool → ℕ → ℕ → ℕ → Option ℕ
 chosen nodes loads targets finished l need h =
-    cond (old_serves loads targets finished l need h) (At h) (largest_in_b nodes loads targets finished)
+    cond (old_serves loads targets finished l need h) (Some h) (largest_in_b nodes loads targets finished)
 
 -- ---- a turn
 
@@ -64,7 +62,7 @@ turn_of s l g need = record {
 -- ---- the loop
 
 -- l of a state
-abbrev pub next_l : ℕ → Balance → Found
+abbrev pub next_l : ℕ → Balance → Option ℕ
 next_l nodes s = smallest_in_a nodes s.loads s.targets s.finished
 
 -- "It needs target − load."
@@ -72,7 +70,7 @@ abbrev pub need_of : Balance → ℕ → ℕ
 need_of s l = at s.targets l - at s.loads l
 
 -- g of a state, for l; old has the helpands of the old tree
-abbrev pub next_g : ℕ → List ℕ → Balance → ℕ → Found
+abbrev pub next_g : ℕ → List ℕ → Balance → ℕ → Option ℕ
 next_g nodes old s l = chosen nodes s.loads s.targets s.finished l (need_of s l) (at old l)
 
 -- "Load begins as Pn." No node is finished.
@@ -89,14 +87,14 @@ start_of nodes p totals = record {
 unfoldable pub run_of : ℕ → List ℕ → ℕ → Balance → Balance
 run_of nodes old zero s = s
 run_of nodes old (suc turns) s = elim (next_l nodes s) [
-  | Nothing ↦ s
-  | At l ↦ elim (next_g nodes old s l) [ Nothing ↦ s | At g ↦ run_of nodes old turns (turn_of s l g (need_of s l)) ]
+  | None ↦ s
+  | Some l ↦ elim (next_g nodes old s l) [ None ↦ s | Some g ↦ run_of nodes old turns (turn_of s l g (need_of s l)) ]
 ]
 
 -- ---- the end
 
 -- "Then the lowest node of B is the root"
-abbrev pub lowest_in_b : ℕ → List ℕ → List ℕ → List Bool → Found
+abbrev pub lowest_in_b : ℕ → List ℕ → List ℕ → List Bool → Option ℕ
 lowest_in_b nodes loads targets finished = first (in_b loads targets finished) nodes
 
 -- "and the others in B help it with share 0." The root is its own helpand, as in every plan.
@@ -109,8 +107,8 @@ new_share s k = cond (in_b s.loads s.targets s.finished k) 0 (at s.shares k)
 -- B always has a node
 unfoldable pub finish_of : ℕ → Balance → Rebuilt
 finish_of nodes s = elim (lowest_in_b nodes s.loads s.targets s.finished) [
-  | Nothing ↦ record { helpands = s.helpands; shares = s.shares }
-  | At root ↦ record { helpands = tabulate nodes (new_helpand s root); shares = tabulate nodes (new_share s) }
+  | None ↦ record { helpands = s.helpands; shares = s.shares }
+  | Some root ↦ record { helpands = tabulate nodes (new_helpand s root); shares = tabulate nodes (new_share s) }
 ]
 
 -- the helpands and shares of a rebuilt plan. Each turn finishes a node, so there is one for each at most.

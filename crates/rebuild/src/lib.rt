@@ -10,8 +10,6 @@ ghost use Rattle.rebuild.specs.Target.{targets_of};
 ghost use Rattle.rebuild.specs.Rebuild.{turn_of, finish_of, rebuilt_of};
 ghost use Rattle.arrays.specs.Arrays.{at};
 
-use fold::Found;
-
 pub mod scan;
 
 // The state of a rebuilding. Document 01 calls the node that another helps its helpand, and what the helper holds of the helpand's
@@ -40,10 +38,8 @@ fn targets(p: u32, nodes: usize) -> [u32; 64]
     let even = p / nodes as u32;
     let rest = p % nodes as u32;
     let mut out = [0u32; 64];
-    let mut k = 0;
-    while k < nodes {
+    for k in 0..nodes {
         out[k] = if (k as u32) < rest { even + 1 } else { even };
-        k += 1;
     }
     out
 }
@@ -65,7 +61,7 @@ fn finish(s: Balance, nodes: usize) -> Rebuilt
     requires { nodes ≤ max_nodes }
     ensures { result ≡ finish_of nodes s }
 {
-    let Found::At(root) = scan::lowest_in_b(s.loads, s.targets, s.finished, nodes) else {
+    let Some(root) = s.lowest_in_b(nodes) else {
         // never: the nodes that are not finished are in B, and there is one
         return Rebuilt {
             helpands: s.helpands,
@@ -74,21 +70,16 @@ fn finish(s: Balance, nodes: usize) -> Rebuilt
     };
     let mut helpands = [0u32; 64];
     let mut shares = [0u32; 64];
-    let mut k = 0;
-    while k < nodes {
-        if scan::in_b(s.loads[k], s.targets[k], s.finished[k]) {
+    for k in 0..nodes {
+        if s.in_b(k) {
             helpands[k] = root as u32;
             shares[k] = 0;
         } else {
             helpands[k] = s.helpands[k];
             shares[k] = s.shares[k];
         }
-        k += 1;
     }
-    Rebuilt {
-        helpands: helpands,
-        shares: shares,
-    }
+    Rebuilt { helpands, shares }
 }
 
 // The new tree and shares for these totals, which add up to p. Where there is no old tree, each node is its own old helpand.
@@ -99,22 +90,14 @@ pub fn rebuild(totals: [u32; 64], old: [u32; 64], nodes: usize, p: u32) -> Rebui
     let targets = targets(p, nodes);
     let mut s = Balance {
         loads: totals,
-        targets: targets,
+        targets,
         finished: [false; 64],
         helpands: [0u32; 64],
         shares: [0u32; 64],
     };
-    while let Found::At(l) = scan::smallest_in_a(&s.loads, &s.targets, &s.finished, nodes) {
+    while let Some(l) = s.smallest_in_a(nodes) {
         let need = s.targets[l] - s.loads[l];
-        let Found::At(g) = scan::choose(
-            &s.loads,
-            &s.targets,
-            &s.finished,
-            nodes,
-            l,
-            need,
-            old[l] as usize,
-        ) else {
+        let Some(g) = s.choose(nodes, l, need, old[l] as usize) else {
             // never: B has a node while A has one
             break;
         };

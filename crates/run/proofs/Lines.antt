@@ -1,22 +1,19 @@
 -- The text of arrays that were read from two records is the text of these records: an array of 64 has zeros behind its words, and no
 -- line looks behind the first e routes and counts. Assumes nothing.
-use mathlib.Core.Path.{◌≡◌, ap, ◌∙◌}
+use mathlib.Core.Path.{◌≡◌, ap, ap₂, ◌∙◌}
 use mathlib.Core.List.{List, ◌++◌}
 use Prim.Native.Nat.{ℕ, ◌+◌, ◌-◌, ◌≤◌}
 use native.Mathlib.Nat.{mul-le-mul}
 use native.Mathlib.Omega.{arith}
-use lib.ListN.{length, drop, get_or-append}
 use Rattle.fold.specs.Collect.{collect}
-use Rattle.fold.proofs.Lists.{collect-eq}
 use Rattle.words.specs.Words.{words, part}
-use Rattle.words.specs.Buffer.{placed}
 use Rattle.arrays.specs.Arrays.{padded, at, tabulate}
 use Rattle.plan.specs.Plan.{read_plan, helpands_of, shares_of}
 use Rattle.moves.specs.Moves.{read_moves, routes_of, counts_of}
-use Rattle.moves.proofs.Accepted.{moves-accepted, routes_are, counts_are}
+use Rattle.moves.proofs.Accepted.{moves-accepted}
 use Rattle.tree.specs.Division.{own_of}
 use Rattle.sheet.specs.Totals.{totals_in}
-use Rattle.text.specs.Text.{head_line, node_line, move_line, moves_text, step_text}
+use Rattle.text.specs.Text.{head_line, node_line, moves_text, step_text}
 use Rattle.run.specs.Run.{own_in, records_text}
 use Rattle.run.specs.Inner.{Printable}
 use Rattle.arrays.proofs.Padded.{padded-same}
@@ -38,25 +35,16 @@ module _ (s p m : List ℕ) (g : Printable s p m) where
       omega (arith, a.e_high, mul-le-mul a.n_high l)
 
   -- the arrays, as they were read
-  module _ (n kind limit e : ℕ) (helpands shares own routes counts a b : List ℕ)
+  module _ (n kind limit e : ℕ) (helpands shares own routes counts : List ℕ)
       (n_is : n ≡ (read_plan p).n)
       (e_is : e ≡ (read_moves m).e)
       (helpands-is : helpands ≡ padded (part 3 n (words p)))
       (shares-is : shares ≡ padded (part (3 + n) n (words p)))
       (own_is : own ≡ own_in s n helpands shares)
-      (routes-is : routes ≡ placed (part 2 e (words m)) a)
-      (counts-is : counts ≡ placed (part (2 + e) e (words m)) b) where
+      (routes-is : routes ≡ routes_of m e)
+      (counts-is : counts ≡ counts_of m e) where
     moves-same : moves_text e routes counts ≡ moves_text e (routes_of m e) (counts_of m e)
-    moves-same =
-        collect-eq e (λ i. move_line (at routes i) (at counts i)) (λ i. move_line (at (routes_of m e) i) (at (counts_of m e) i)) λ i l.
-        let k = moves-accepted m g.moves in
-        let x : length (routes_of m e) ≡ e = rw e_is (routes_are m (read_moves m) k) in
-        let y : length (counts_of m e) ≡ e = rw e_is (counts_are m (read_moves m) k) in
-        rw (routes-is, counts-is)
-        (rw (
-          get_or-append (routes_of m e) (drop (length (routes_of m e)) a) 0 i (omega arith),
-          get_or-append (counts_of m e) (drop (length (counts_of m e)) b) 0 i (omega arith),
-        ))
+    moves-same = ap₂ (moves_text e) routes-is counts-is
 
     helpands-at : at helpands ≡ at (helpands_of p n)
     helpands-at = ap at helpands-is ∙ padded-same (helpands_of p n)

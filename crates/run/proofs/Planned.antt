@@ -13,7 +13,7 @@ use Rattle.arrays.specs.Arrays.{at}
 use Rattle.sheet.specs.Sheet.{read_sheet}
 use Rattle.sheet.specs.Totals.{totals_in}
 use Rattle.plan.specs.declared.PlanAnswer.{PlanAnswer}
-use Rattle.plan.specs.Plan.{read_plan}
+use Rattle.plan.specs.Plan.{kind_number, read_plan}
 use Rattle.plan.proofs.Accepted.{plan-accepted}
 use Rattle.moves.specs.declared.MovesAnswer.{MovesAnswer}
 use Rattle.moves.specs.Moves.{read_moves}
@@ -108,7 +108,7 @@ module _ {s o : List ℕ} {a : StepAnswer} {p m plan moves : List ℕ} (w : Answ
     planned-here : (answer_in s o).refusal ≡ 0
     planned-here = ap (λ (x : StepAnswer). x.refusal) (sym answer-is) ∙ z
 
-    sizes : a ≡ planned (decision_in s o).kind (read_sheet s).limit (length (plan_in s o)) (length (moves_in s o))
+    sizes : a ≡ planned (kind_number (decision_in s o).kind) (read_sheet s).limit (length (plan_in s o)) (length (moves_in s o))
     sizes = let d = step-done s o plan_size moves_size planned-here in answer-is ∙ done-step s o plan_size moves_size d.0 d.1 d.2
 
     pub plan_in_front : Front (plan_in s o) plan a.plan

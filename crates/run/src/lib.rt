@@ -2,7 +2,9 @@
 // writing are the program's own.
 #![tactic(auto)]
 
-ghost use Rattle.std.specs.Prelude.{◌≡◌, ◌≤◌, length};
+ghost use Rattle.std.specs.Prelude.{◌≡◌, ◌+◌, ◌*◌, ◌≤◌, length, replicate};
+ghost use Rattle.limit.specs.Limit.{table_size};
+ghost use Rattle.words.specs.Words.{words, part};
 ghost use Rattle.words.specs.Buffer.{placed};
 ghost use Rattle.sheet.specs.Sheet.{read_sheet};
 ghost use Rattle.arrays.specs.Arrays.{at};
@@ -12,6 +14,7 @@ ghost use Rattle.run.specs.Run.{own_in, records_text, text_in, run_text, front_s
 ghost use Rattle.run.specs.Inner.{Printable};
 
 use limit::TABLE_SIZE;
+use words::Refusal;
 
 // The longest input that can be accepted, and one byte: a longer one prints what its first bytes print (proofs/LongInput.antt).
 pub const FRONT_SIZE: usize = 33_305;
@@ -43,6 +46,16 @@ fn own_of(sheet: &[u8], nodes: usize, helpands: [u32; 64], shares: [u32; 64]) ->
     transfer::due::own_amounts(totals, helpands, shares, nodes)
 }
 
+// The k words of s from number first on, and zeros behind them.
+fn read_words(s: &[u8], first: usize, k: usize) -> [u32; TABLE_SIZE]
+    requires { (4 * (first + k) ≤ length s.now) × (k ≤ table_size) }
+    ensures { result ≡ placed (part first k (words s.now)) (replicate table_size 0) }
+{
+    let mut out = [0u32; TABLE_SIZE];
+    words::get_words(s, first, &mut out[..k]);
+    out
+}
+
 // Writes the lines of a plan and moves to the front of out, and gives their length.
 fn write_records(sheet: &[u8], plan: &[u8], moves: &[u8], out: &mut [u8]) -> usize
     requires { Printable sheet.now plan.now moves.now × (text_size ≤ length out.old) }
@@ -56,12 +69,18 @@ fn write_records(sheet: &[u8], plan: &[u8], moves: &[u8], out: &mut [u8]) -> usi
     let shares = words::words_64(plan, 3 + nodes, nodes);
     let own = own_of(sheet, nodes, helpands, shares);
     let e = words::word_number(moves, 1) as usize;
-    let mut routes = [0u32; TABLE_SIZE];
-    let mut counts = [0u32; TABLE_SIZE];
-    words::get_words(moves, 2, e, &mut routes);
-    words::get_words(moves, 2 + e, e, &mut counts);
+    let routes = read_words(moves, 2, e);
+    let counts = read_words(moves, 2 + e, e);
     text::write_step(
-        out, kind, limit, nodes, helpands, shares, own, &routes, &counts, e,
+        out,
+        kind,
+        limit,
+        nodes,
+        helpands,
+        shares,
+        own,
+        &routes[..e],
+        &counts[..e],
     )
 }
 
@@ -73,13 +92,14 @@ fn step(sheet: &[u8], old: &[u8], out: &mut [u8]) -> usize
 {
     let mut plan = [0u8; PLAN_SIZE];
     let mut moves = [0u8; MOVES_SIZE];
-    let answer = planner::answer(planner::plan_step(sheet, old, &mut plan, &mut moves));
-    if answer.refusal != 0 {
-        return text::write_refused(out, answer.refusal);
+    match planner::plan_step(sheet, old, &mut plan, &mut moves) {
+        Err(r) => text::write_refused(out, r.number()),
+        Ok(p) => {
+            let a = p.plan as usize;
+            let b = p.moves as usize;
+            write_records(sheet, &plan[..a], &moves[..b], out)
+        }
     }
-    let a = answer.plan as usize;
-    let b = answer.moves as usize;
-    write_records(sheet, &plan[..a], &moves[..b], out)
 }
 
 // Writes what the bench program prints for this input to the front of out, and gives its length.

@@ -13,18 +13,17 @@ use lib.ListN.{length, set, length-set}
 use lib.Seq.{get_or-set_same, get_or-set_other}
 use borrow.Author.Tests.{lt-ltb, ltb-true, ltb-false}
 use Rattle.fold.specs.Sum.{sum}
-use Rattle.fold.specs.declared.Found.{Found}
-use Rattle.fold.specs.declared.Found.TheVariants.{At, Nothing}
 use Rattle.fold.specs.Best.{smaller}
 use Rattle.fold.proofs.Sums.{sum-le, sum-eq, sum-add, sum-above, sum-set}
 use Rattle.fold.proofs.Scans.{best-found, best-nothing, smallest-le, smallest-lt}
 use Rattle.arrays.specs.Arrays.{at}
 use Rattle.shares.specs.Fill.{room, standing_load, has_space, chosen, given, fill}
+use Rattle.std.specs.Prelude.{None, Option, Some}
 
 -- a particle more, or none, leaves the array as long as it was
-given-length : (r : Found) (xs : List ℕ) → length (given r xs) ≡ length xs
-given-length (At k) xs = simp length-set
-given-length Nothing xs = refl
+given-length : (r : Option ℕ) (xs : List ℕ) → length (given r xs) ≡ length xs
+given-length (Some k) xs = simp length-set
+given-length None xs = refl
 
 -- The members have got so much of the rest, or all that they have room for, and whoever got a particle stood, before its last one, no
 -- higher than anybody who still has space, and lower than those of them that have a lower number.
@@ -164,13 +163,13 @@ module _ {nodes : ℕ} {beside space kept : ℕ → ℕ} where
           sums : sum nodes more ≡ sum nodes (at xs) + 1
           sums = unfold more in omega (arith, sum-set nodes xs b (at xs b + 1) lb (omega arith))
 
-    by_choice : (r : Found) → chosen nodes beside space xs ≡ r → nodes ≤ length xs
+    by_choice : (r : Option ℕ) → chosen nodes beside space xs ≡ r → nodes ≤ length xs
         → Levelled nodes beside space kept (suc rest) (at (given r xs))
     unfolding chosen
-    by_choice Nothing e few =
+    by_choice None e few =
         none-chosen
         (λ k l. ltb-false (at xs k) (space k) (best-nothing (has_space space (at xs)) (smaller (standing_load beside (at xs))) nodes e k l))
-    by_choice (At b) e few = unfold more in one-given b few found.0 (ltb-true (at xs b) (space b) found.1)
+    by_choice (Some b) e few = unfold more in one-given b few found.0 (ltb-true (at xs b) (space b) found.1)
         (λ k l h. smallest-le ok f nodes b e k l (lt-ltb (at xs k) (space k) h))
         (λ k l h. smallest-lt ok f nodes b e k (omega (arith, found.0)) (lt-ltb (at xs k) (space k) h) l)
       where
@@ -210,10 +209,10 @@ module _ (nodes : ℕ) (beside space : ℕ → ℕ) where
       let r = chosen nodes beside space xs in
       fill-length rest (given r xs) ∙ given-length r xs
 
-  given-behind : (xs : List ℕ) (r : Found) → chosen nodes beside space xs ≡ r → (k : ℕ) → nodes ≤ k → at (given r xs) k ≡ at xs k
+  given-behind : (xs : List ℕ) (r : Option ℕ) → chosen nodes beside space xs ≡ r → (k : ℕ) → nodes ≤ k → at (given r xs) k ≡ at xs k
   unfolding chosen
-  given-behind xs Nothing e k l = refl
-  given-behind xs (At b) e k l = get_or-set_other xs b k (at xs b + 1) 0 (λ q. omega (arith, below.0))
+  given-behind xs None e k l = refl
+  given-behind xs (Some b) e k l = get_or-set_other xs b k (at xs b + 1) 0 (λ q. omega (arith, below.0))
     where
       below : (b < nodes) × (ltb (at xs b) (space b) ≡ true)
       below = best-found (has_space space (at xs)) (smaller (standing_load beside (at xs))) nodes b e

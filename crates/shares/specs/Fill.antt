@@ -1,9 +1,7 @@
 -- How the rest of a family is filled. Request 2026-03: "So the rest now goes as if one particle after another were given to the family
 -- member with the smallest standing load that still has space, lowest node number on ties." Nothing else says in which order members are
 -- filled.
-use Rattle.std.specs.Prelude.{ℕ, zero, suc, ◌+◌, ◌-◌, Bool, List, ltb, set}
-use Rattle.fold.specs.declared.Found.{Found}
-use Rattle.fold.specs.declared.Found.TheVariants.{At, Nothing}
+use Rattle.std.specs.Prelude.{ℕ, zero, suc, ◌+◌, ◌-◌, Bool, List, ltb, set, None, Option, Some}
 use Rattle.fold.specs.Best.{smallest}
 use Rattle.arrays.specs.Arrays.{at}
 
@@ -21,13 +19,13 @@ abbrev pub has_space : (ℕ → ℕ) → (ℕ → ℕ) → ℕ → Bool
 has_space space amount k = ltb (amount k) (space k)
 
 -- "the family member with the smallest standing load that still has space, lowest node number on ties"
-unfoldable pub chosen : ℕ → (ℕ → ℕ) → (ℕ → ℕ) → List ℕ → Found
+unfoldable pub chosen : ℕ → (ℕ → ℕ) → (ℕ → ℕ) → List ℕ → Option ℕ
 chosen nodes beside space amounts = smallest (has_space space (at amounts)) (standing_load beside (at amounts)) nodes
 
 -- one particle more for the member that is found
-abbrev pub given : Found → List ℕ → List ℕ
-given (At k) amounts = set amounts k (at amounts k + 1)
-given Nothing amounts = amounts
+abbrev pub given : Option ℕ → List ℕ → List ℕ
+given (Some k) amounts = set amounts k (at amounts k + 1)
+given None amounts = amounts
 
 -- "one particle after another": the amounts once all of the rest is given, on top of what is kept. What nobody has space for is not given.
 unfoldable pub fill : ℕ → (ℕ → ℕ) → (ℕ → ℕ) → List ℕ → ℕ → List ℕ

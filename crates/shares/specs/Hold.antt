@@ -1,5 +1,7 @@
 -- Request 2026-07: helpers' own particles are left in place where their family can afford it. It is step (d4) of source document 002.
-use Rattle.std.specs.Prelude.{◌≡◌, Bool, true, cond, ℕ, ◌+◌, ◌*◌, ◌≤◌, ◌<◌, min, max, leb}
+use Rattle.std.specs.Prelude.{◌≡◌, Bool, true, cond, List, ℕ, ◌+◌, ◌*◌, ◌≤◌, ◌<◌, min, max, leb}
+use Rattle.arrays.specs.Arrays.{at, tabulate}
+use Rattle.sheet.specs.Table.{held}
 use Rattle.tree.specs.Family.{helps, over_helpers}
 use Rattle.tree.specs.Division.{own_of}
 
@@ -7,6 +9,10 @@ use Rattle.tree.specs.Division.{own_of}
 -- holding of k is what k itself holds of subdomain k.
 abbrev pub hold : ℕ → (ℕ → ℕ) → (ℕ → ℕ → ℕ) → ℕ → ℕ
 hold limit least held k = max (least k) (min (held k k) limit)
+
+-- the holds of all nodes
+abbrev pub holds_of : ℕ → ℕ → List ℕ → List ℕ → List ℕ
+holds_of nodes limit leasts table = tabulate nodes (hold limit (at leasts) (held table))
 
 -- "the family's size": its owner and its helpers
 abbrev pub family_size : ℕ → (ℕ → ℕ) → ℕ → ℕ

@@ -5,36 +5,56 @@ use Rattle.arrays.specs.Arrays.{at, tabulate}
 use Rattle.sheet.specs.Table.{held}
 use Rattle.tree.specs.Family.{helps}
 use Rattle.shares.specs.Fill.{room, fill}
-use Rattle.shares.specs.Hold.{hold}
+use Rattle.shares.specs.Hold.{reserve}
+use Rattle.shares.specs.declared.kept.KeptTree.{KeptTree}
+use Rattle.shares.specs.declared.kept.Family.{Family}
 use Rattle.shares.specs.Shares.{in_family, space, beside, kept, rest, divided, amount, kept_share}
 
--- ---- the terms of 'Shares in a kept tree' for the arrays of a step: r is the share of n, and each helper's hold or least is its reserve
+-- ---- the nodes and the helpands of a kept tree, and of a family of it
 
-abbrev pub spaces_in : ℕ → List ℕ → List ℕ → ℕ → ℕ → ℕ → ℕ
-spaces_in limit helpands reserves r n = space (at helpands) limit (at reserves) r n
+abbrev pub nodes_of : KeptTree → ℕ
+nodes_of t = t.helpers.now.nodes
 
-abbrev pub keeps_in : ℕ → List ℕ → List ℕ → List ℕ → ℕ → ℕ → ℕ → ℕ
-keeps_in limit helpands reserves table r n = kept (spaces_in limit helpands reserves r n) (λ j. held table j n)
+abbrev pub helpand_of : KeptTree → ℕ → ℕ
+helpand_of t = at t.helpers.now.helpands.now
 
-abbrev pub rooms_in : ℕ → List ℕ → List ℕ → List ℕ → ℕ → ℕ → ℕ → ℕ
-rooms_in limit helpands reserves table r n = room (spaces_in limit helpands reserves r n) (keeps_in limit helpands reserves table r n)
+abbrev pub nodes_in : Family → ℕ
+nodes_in f = nodes_of f.tree.now
 
-abbrev pub rest_in : ℕ → ℕ → List ℕ → List ℕ → List ℕ → List ℕ → ℕ → ℕ → ℕ
-rest_in nodes limit helpands reserves totals table r n = rest nodes (at totals n) (keeps_in limit helpands reserves table r n)
+abbrev pub helpand_in : Family → ℕ → ℕ
+helpand_in f = helpand_of f.tree.now
 
-abbrev pub divided_in : ℕ → ℕ → List ℕ → List ℕ → List ℕ → List ℕ → ℕ → ℕ → ℕ → ℕ
-divided_in nodes limit helpands reserves totals table r n =
-    divided nodes (beside (at reserves) r n) (spaces_in limit helpands reserves r n) (at totals n) (λ j. held table j n)
+-- ---- the terms of 'Shares in a kept tree' for a family and for a tree
 
--- the holds of all nodes
-abbrev pub holds_of : ℕ → ℕ → List ℕ → List ℕ → List ℕ
-holds_of nodes limit leasts table = tabulate nodes (hold limit (at leasts) (held table))
+abbrev pub spaces_in : Family → ℕ → ℕ
+spaces_in f = space (helpand_in f) f.tree.now.limit (at f.reserves.now) f.share f.n
 
-abbrev pub amounts_in : ℕ → ℕ → List ℕ → List ℕ → List ℕ → List ℕ → ℕ → ℕ → ℕ → ℕ
-amounts_in nodes limit helpands leasts totals table r n = amount nodes (at helpands) limit (at leasts) (at totals) (held table) r n
+abbrev pub besides_in : Family → ℕ → ℕ
+besides_in f = beside (at f.reserves.now) f.share f.n
 
-abbrev pub share_in : ℕ → ℕ → List ℕ → List ℕ → List ℕ → List ℕ → ℕ → ℕ
-share_in nodes limit helpands leasts totals table = kept_share nodes (at helpands) limit (at leasts) (at totals) (held table)
+abbrev pub holding_in : Family → ℕ → ℕ
+holding_in f j = held f.tree.now.table.now j f.n
+
+abbrev pub keeps_in : Family → ℕ → ℕ
+keeps_in f = kept (spaces_in f) (holding_in f)
+
+abbrev pub rooms_in : Family → ℕ → ℕ
+rooms_in f = room (spaces_in f) (keeps_in f)
+
+abbrev pub rest_in : Family → ℕ
+rest_in f = rest (nodes_in f) (at f.tree.now.totals.now f.n) (keeps_in f)
+
+abbrev pub divided_in : Family → ℕ → ℕ
+divided_in f = divided (nodes_in f) (besides_in f) (spaces_in f) (at f.tree.now.totals.now f.n) (holding_in f)
+
+abbrev pub reserves_in : KeptTree → ℕ → ℕ → ℕ → ℕ
+reserves_in t r n = reserve (nodes_of t) (helpand_of t) t.limit (at t.leasts.now) (at t.totals.now) (held t.table.now) r n
+
+abbrev pub amounts_in : KeptTree → ℕ → ℕ → ℕ → ℕ
+amounts_in t r n = amount (nodes_of t) (helpand_of t) t.limit (at t.leasts.now) (at t.totals.now) (held t.table.now) r n
+
+abbrev pub share_in : KeptTree → ℕ → ℕ
+share_in t = kept_share (nodes_of t) (helpand_of t) t.limit (at t.leasts.now) (at t.totals.now) (held t.table.now)
 
 -- ---- one family's shares are noted: each helper of n below m has its amount, and every other entry is as it was
 
@@ -44,17 +64,16 @@ pub record Noted (h : ℕ → ℕ) (n : ℕ) (amount : ℕ → ℕ) (m : ℕ) (b
 
 -- ---- a family whose helpers' amounts are noted in an array, and whose owner has this amount or this room
 
-abbrev pub amounts_now : List ℕ → ℕ → ℕ → List ℕ → ℕ → ℕ
-amounts_now helpands n own noted = in_family (at helpands) n own (at noted)
+abbrev pub amounts_now : Family → ℕ → List ℕ → ℕ → ℕ
+amounts_now f own noted = in_family (helpand_in f) f.n own (at noted)
 
-abbrev pub rooms_now : ℕ → List ℕ → List ℕ → ℕ → ℕ → List ℕ → ℕ → ℕ
-rooms_now limit helpands reserves n own noted = in_family (at helpands) n own (λ k. limit - at reserves k - at noted k)
+abbrev pub rooms_now : Family → ℕ → List ℕ → ℕ → ℕ
+rooms_now f own noted = in_family (helpand_in f) f.n own (λ k. f.tree.now.limit - at f.reserves.now k - at noted k)
 
 -- what each node has once a rest is filled in
-abbrev pub filled_in : ℕ → ℕ → List ℕ → List ℕ → ℕ → ℕ → ℕ → ℕ → List ℕ → ℕ → ℕ
-filled_in nodes limit helpands reserves r own rest n noted =
-    at
-    (fill nodes (beside (at reserves) r n) (spaces_in limit helpands reserves r n) (tabulate nodes (amounts_now helpands n own noted)) rest)
+abbrev pub filled_in : Family → ℕ → ℕ → List ℕ → ℕ → ℕ
+filled_in f own rest noted =
+    at (fill (nodes_in f) (besides_in f) (spaces_in f) (tabulate (nodes_in f) (amounts_now f own noted)) rest)
 
 -- ---- the level: rooms are brought down to it together
 

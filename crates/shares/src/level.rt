@@ -2,13 +2,10 @@
 // the smallest standing load is the largest room.
 ghost use Rattle.std.specs.Prelude.{◌≡◌, ◌+◌, ◌-◌, ◌/◌, ◌≤◌, ◌<◌, ltb};
 ghost use Rattle.fold.specs.Sum.{only};
-ghost use Rattle.arrays.specs.Arrays.{at};
-ghost use Rattle.tree.specs.Inner.{LinkedTree};
-ghost use Rattle.shares.specs.Inner.{rooms_now, over, count_above, Somewhere, Lowest};
+ghost use Rattle.shares.specs.Inner.{nodes_in, rooms_now, over, count_above, Somewhere, Lowest};
 
-use super::family;
-use fold::numbers;
-use tree::links;
+use super::family::room;
+use super::kept::Family;
 
 // What it takes to bring the rooms of a family down to a level, and how many of them are above it.
 #[derive(Drop)]
@@ -21,43 +18,14 @@ struct Excess {
 fn over(room: u32, level: u32) -> u64
     ensures { (result ≡ room - level) × (result < 4294967296) }
 {
-    numbers::saturating_sub(room, level) as u64
+    u64::from(room.saturating_sub(level))
 }
 
 // 1 if a room is above a level, and 0 otherwise.
 fn one_above(room: u32, level: u32) -> u64
     ensures { (result ≡ only (ltb level room) 1) × (result ≤ 1) }
 {
-    if level < room { 1 } else { 0 }
-}
-
-// The family of n, whose owner has this room, above a level.
-fn above(
-    reserves: &[u32; 64],
-    helpands: &[u32; 64],
-    links: &[usize; 128],
-    nodes: usize,
-    limit: u32,
-    own: u32,
-    n: usize,
-    noted: &[u32; 64],
-    level: u32,
-) -> Excess
-    requires { (LinkedTree nodes (at helpands.now) links.now) × (n < nodes) }
-    ensures { (result.particles ≡ over nodes (rooms_now limit helpands.now reserves.now n own noted.now) level)
-        × (result.members
-        ≡ count_above nodes (rooms_now limit helpands.now reserves.now n own noted.now) level) }
-{
-    let mut particles = over(own, level);
-    let mut members = one_above(own, level);
-    let mut k = links::first(links, n);
-    while k < nodes {
-        let room = family::room(limit, reserves[k], noted[k]);
-        particles += over(room, level);
-        members += one_above(room, level);
-        k = links::next(links, k);
-    }
-    Excess { particles, members }
+    u64::from(level < room)
 }
 
 // By how much a level is raised that so many members are above, together by so many particles too much. No level between will do: the
@@ -76,35 +44,41 @@ pub struct Reached {
     pub left: u32,
 }
 
-// The lowest level that the rest reaches, where some member has a room of this size: all of the rest would bring that room down to the
-// level where the search begins. Each turn leaves fewer members above the level, so there are no more turns than members.
-pub fn lowest(
-    reserves: &[u32; 64],
-    helpands: &[u32; 64],
-    links: &[usize; 128],
-    nodes: usize,
-    limit: u32,
-    own: u32,
-    n: usize,
-    noted: &[u32; 64],
-    most: u32,
-    rest: u32,
-) -> Reached
-    requires { (LinkedTree nodes (at helpands.now) links.now) × (n < nodes)
-        × (Somewhere nodes (rooms_now limit helpands.now reserves.now n own noted.now) most) }
-    ensures { (Lowest nodes (rooms_now limit helpands.now reserves.now n own noted.now) rest result.level)
-        × (result.left
-        ≡ rest - over nodes (rooms_now limit helpands.now reserves.now n own noted.now) result.level) }
-{
-    let mut level = numbers::saturating_sub(most, rest);
-    loop {
-        let high = above(
-            reserves, helpands, links, nodes, limit, own, n, noted, level,
-        );
-        if high.particles <= rest as u64 {
-            let left = rest - high.particles as u32;
-            return Reached { level, left };
+impl<'a> Family<'a> {
+    // The family above a level. Its owner has this room, and its helpers what is noted.
+    fn above(&self, own: u32, noted: &[u32; 64], level: u32) -> Excess
+        ensures { (result.particles ≡ over (nodes_in self.now) (rooms_now self.now own noted.now) level)
+            × (result.members ≡ count_above (nodes_in self.now) (rooms_now self.now own noted.now) level) }
+    {
+        let helpers = self.tree.helpers;
+        let mut particles = over(own, level);
+        let mut members = one_above(own, level);
+        let mut k = helpers.first(self.n);
+        while k < helpers.nodes {
+            let room = room(self.tree.limit, self.reserves[k], noted[k]);
+            particles += over(room, level);
+            members += one_above(room, level);
+            k = helpers.next(k);
         }
-        level += rise(high.particles - rest as u64, high.members) as u32;
+        Excess { particles, members }
+    }
+
+    // The lowest level that the rest reaches, where some member has a room of this size: all of the rest would bring that room down to
+    // the level where the search begins. Each turn leaves fewer members above the level, so there are no more turns than members.
+    pub fn lowest(&self, own: u32, noted: &[u32; 64], most: u32, rest: u32) -> Reached
+        requires { Somewhere (nodes_in self.now) (rooms_now self.now own noted.now) most }
+        ensures { (Lowest (nodes_in self.now) (rooms_now self.now own noted.now) rest result.level)
+            × (result.left ≡ rest - over (nodes_in self.now) (rooms_now self.now own noted.now) result.level) }
+    {
+        let wide = u64::from(rest);
+        let mut level = most.saturating_sub(rest);
+        loop {
+            let high = self.above(own, noted, level);
+            if high.particles <= wide {
+                let left = rest - high.particles as u32;
+                return Reached { level, left };
+            }
+            level += rise(high.particles - wide, high.members) as u32;
+        }
     }
 }

@@ -16,11 +16,10 @@ use Rattle.words.specs.Words.{words}
 use Rattle.words.proofs.Words.{length-words, length_part, word-front}
 use Rattle.sheet.specs.declared.Sheet.{Sheet}
 use Rattle.sheet.specs.declared.SheetAnswer.{SheetAnswer}
-use Rattle.sheet.specs.declared.CountSum.{CountSum}
-use Rattle.sheet.specs.declared.CountSum.TheVariants.{Sum, Bad}
 use Rattle.sheet.specs.Sheet.{accepted, refused, cells_of, counts_of, cell_fine, running_sum, summed_answer, HeaderAnswer, header_refused, header_accepted, ranges_answer, read_header, entries_answer, read_sheet}
 use Rattle.sheet.specs.Inner.{Unpackable}
 use Rattle.sheet.proofs.Laws.{Summed, summed}
+use Rattle.std.specs.Prelude.{None, Option, Some}
 
 pub record Accepted (s : List ℕ) (a : SheetAnswer) : Type 0 where
   pub answer : a ≡ accepted a.n a.t a.e a.p a.limit
@@ -38,9 +37,9 @@ pub record Accepted (s : List ℕ) (a : SheetAnswer) : Type 0 where
   pub limit_is : a.limit ≡ limit_of a.p a.n a.t
 
 -- a sum was found
-found : (n t e : ℕ) (x : CountSum) → (summed_answer n t e x).refusal ≡ 0 → (p : ℕ) × (x ≡ Sum p)
-found n t e (Sum p) q = (p, refl)
-found n t e Bad q = absurd (omega arith)
+found : (n t e : ℕ) (x : Option ℕ) → (summed_answer n t e x).refusal ≡ 0 → (p : ℕ) × (x ≡ Some p)
+found n t e (Some p) q = (p, refl)
+found n t e None q = absurd (omega arith)
 
 -- ---- the header
 

@@ -7,10 +7,10 @@ use borrow.Author.Tests.{ne_eqb}
 use lib.Dec.{eqb}
 use Rattle.sheet.specs.declared.SheetRefusal.{SheetRefusal}
 use Rattle.sheet.specs.declared.SheetRefusal.TheVariants.{Short, Nodes, Tolerance, Entries, Length, Cell, Count}
-use Rattle.sheet.specs.declared.SheetReading.{SheetReading}
-use Rattle.sheet.specs.declared.SheetReading.TheVariants.{Accepted, Refused}
 use Rattle.sheet.specs.declared.SheetAnswer.{SheetAnswer}
 use Rattle.sheet.specs.Sheet.{refusal_number, answer_of}
+use Rattle.std.specs.Prelude.{Err, Ok, Result}
+use Rattle.sheet.specs.declared.Sheet.{Sheet}
 
 -- the refusal of a number
 abbrev pub refusal_of : ℕ → SheetRefusal
@@ -33,14 +33,14 @@ pub number_more : (r : SheetRefusal) → 0 < refusal_number r
 number_more r = omega (arith, (numbered r).0)
 
 -- the reading of an answer
-abbrev reading_of : SheetAnswer → SheetReading
+abbrev reading_of : SheetAnswer → Result Sheet SheetRefusal
 reading_of a =
-    cond (eqb a.refusal 0) (Accepted (record { n = a.n; t = a.t; e = a.e; p = a.p; limit = a.limit }))
-    (Refused (refusal_of a.refusal))
+    cond (eqb a.refusal 0) (Ok (record { n = a.n; t = a.t; e = a.e; p = a.p; limit = a.limit }))
+    (Err (refusal_of a.refusal))
 
-back : (r : SheetReading) → reading_of (answer_of r) ≡ r
-back (Accepted h) = refl
-back (Refused r) = rw (ne_eqb (refusal_number r) 0 (λ z. omega (arith, number_more r))) (ap Refused (numbered r).2)
+back : (r : Result Sheet SheetRefusal) → reading_of (answer_of r) ≡ r
+back (Ok h) = refl
+back (Err r) = rw (ne_eqb (refusal_number r) 0 (λ z. omega (arith, number_more r))) (ap Err (numbered r).2)
 
-pub answer_determines : (r q : SheetReading) → answer_of r ≡ answer_of q → r ≡ q
+pub answer_determines : (r q : Result Sheet SheetRefusal) → answer_of r ≡ answer_of q → r ≡ q
 answer_determines r q e = sym (back r) ∙ ap reading_of e ∙ back q

@@ -76,6 +76,9 @@ pub length-sheet : (n t : ℕ) (table : List ℕ) → length (sheet_bytes n t ta
 unfolding sheet_bytes
 length-sheet n t table = length-encode (sheet_words n t table) ∙ simp (length-append, length-map) (omega arith)
 
+-- what writing uses
+pub ruleset sizes = (length-sheet)
+
 -- no sheet of 64 nodes is longer than 32,780 bytes
 pub length_most : (n t : ℕ) (table : List ℕ) → n ≤ max_nodes → length (sheet_bytes n t table) ≤ 32780
 length_most n t table h = omega (arith, length-sheet n t table, cells-le table (64 * n))

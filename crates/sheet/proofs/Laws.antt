@@ -1,18 +1,17 @@
--- Laws of *read sheet*'s parts: a cell's nodes, and the running sum, one law for each way that a turn of its loop can go.
--- Assumes nothing.
+-- Laws of *read sheet*'s parts: a cell's nodes, and the running sum. Assumes nothing.
 use mathlib.Core.Path.{◌≡◌, refl, ap, ◌∙◌}
 use mathlib.Core.List.{List, [], ◌∷◌}
 use mathlib.Core.Bool.{Bool, true, false, cond}
 use Prim.Native.Nat.{ℕ, zero, suc, ◌+◌, ◌*◌, ◌/◌, ◌%◌, ◌≤◌, ◌<◌}
 use native.Mathlib.Omega.{arith}
-use borrow.Author.Tests.{lt-ltb, le-ltb, ltb-true, ltb-false, eq-eqb, ne_eqb, eqb-false}
+use borrow.Author.Tests.{lt-ltb, le-ltb, ltb-true, ltb-false, ne_eqb, eqb-false}
 use lib.Dec.{eqb, ltb}
 use lib.ListN.{length, get_or}
 use Rattle.fold.specs.Sum.{total}
 use Rattle.fold.proofs.Tests.{and_left, and_right, and_both}
 use Rattle.limit.specs.Limit.{max_nodes, max_total, table_size}
-use Rattle.sheet.specs.declared.CountSum.TheVariants.{Sum, Bad}
 use Rattle.sheet.specs.Sheet.{cell_fine, running_sum}
+use Rattle.std.specs.Prelude.{None, Some}
 
 -- ---- cells
 
@@ -35,18 +34,9 @@ cell-beyond n c l h = rw (le-ltb (c / 64) n (omega arith))
 
 -- ---- the running sum
 
-module _ (sum c : ℕ) (cs : List ℕ) where
-  pub running_more : (c ≡ 0 → ⊥) → sum + c ≤ max_total → running_sum sum (c ∷ cs) ≡ running_sum (sum + c) cs
-  unfolding running_sum
-  running_more h₁ h₂ = simp (ne_eqb _ _ h₁, le-ltb _ _ h₂)
-
-  pub running_none : c ≡ 0 → running_sum sum (c ∷ cs) ≡ Bad
-  unfolding running_sum
-  running_none h = simp (eq-eqb _ _ h)
-
-  pub running_over : (c ≡ 0 → ⊥) → max_total < sum + c → running_sum sum (c ∷ cs) ≡ Bad
-  unfolding running_sum
-  running_over h₁ h₂ = simp (ne_eqb _ _ h₁, lt-ltb _ _ h₂)
+running_more : (sum c : ℕ) (cs : List ℕ) → (c ≡ 0 → ⊥) → sum + c ≤ max_total → running_sum sum (c ∷ cs) ≡ running_sum (sum + c) cs
+unfolding running_sum
+running_more sum c cs h₁ h₂ = simp (ne_eqb _ _ h₁, le-ltb _ _ h₂)
 
 -- what a sum that is found says: it is the total, within the bound, and no count is 0
 pub record Summed (sum : ℕ) (cs : List ℕ) (p : ℕ) : Type 0 where
@@ -54,7 +44,7 @@ pub record Summed (sum : ℕ) (cs : List ℕ) (p : ℕ) : Type 0 where
   pub within : p ≤ max_total
   pub positive : (i : ℕ) → i < length cs → 0 < get_or cs i 0
 
-pub summed : (sum : ℕ) (cs : List ℕ) (p : ℕ) → sum ≤ max_total → running_sum sum cs ≡ Sum p → Summed sum cs p
+pub summed : (sum : ℕ) (cs : List ℕ) (p : ℕ) → sum ≤ max_total → running_sum sum cs ≡ Some p → Summed sum cs p
 unfolding running_sum total
 summed sum [] p h e =
     let q : sum ≡ p = cc in
@@ -62,8 +52,8 @@ summed sum [] p h e =
 summed sum (c ∷ cs) p h e = go (eqb c 0) (ltb max_total (sum + c)) refl refl (λ k. summed (sum + c) cs p k) e
   where
     go : (b d : Bool) → eqb c 0 ≡ b → ltb max_total (sum + c) ≡ d
-        → (sum + c ≤ max_total → running_sum (sum + c) cs ≡ Sum p → Summed (sum + c) cs p)
-        → cond b Bad (cond d Bad (running_sum (sum + c) cs)) ≡ Sum p → Summed sum (c ∷ cs) p
+        → (sum + c ≤ max_total → running_sum (sum + c) cs ≡ Some p → Summed (sum + c) cs p)
+        → cond b None (cond d None (running_sum (sum + c) cs)) ≡ Some p → Summed sum (c ∷ cs) p
     go true d q w ih r = let z : ◌≡◌ {A = ℕ} 0 1 = cc in absurd (omega arith)
     go false true q w ih r = let z : ◌≡◌ {A = ℕ} 0 1 = cc in absurd (omega arith)
     go false false q w ih r =
@@ -76,9 +66,9 @@ summed sum (c ∷ cs) p h e = go (eqb c 0) (ltb max_total (sum + c)) refl refl (
 
 -- and conversely
 pub sum_of : (sum : ℕ) (cs : List ℕ) → sum + total cs ≤ max_total → ((i : ℕ) → i < length cs → 0 < get_or cs i 0)
-    → running_sum sum cs ≡ Sum (sum + total cs)
+    → running_sum sum cs ≡ Some (sum + total cs)
 unfolding total
-sum_of sum [] h p = unfold running_sum in ap Sum (omega arith)
+sum_of sum [] h p = unfold running_sum in ap Some (omega arith)
 sum_of sum (c ∷ cs) h p =
     let z : c ≡ 0 → ⊥ = λ e. omega (arith, p 0 (omega arith)) in
-    running_more sum c cs z (omega arith) ∙ sum_of (sum + c) cs (omega arith) (λ i l. p (suc i) (omega arith)) ∙ ap Sum (omega arith)
+    running_more sum c cs z (omega arith) ∙ sum_of (sum + c) cs (omega arith) (λ i l. p (suc i) (omega arith)) ∙ ap Some (omega arith)

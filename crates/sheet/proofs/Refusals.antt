@@ -10,9 +10,8 @@ use Rattle.fold.proofs.Tests.{most}
 use Rattle.limit.specs.Limit.{one_to, max_nodes, max_tolerance}
 use Rattle.words.specs.Words.{words}
 use Rattle.sheet.specs.declared.SheetAnswer.{SheetAnswer}
-use Rattle.sheet.specs.declared.CountSum.{CountSum}
-use Rattle.sheet.specs.declared.CountSum.TheVariants.{Sum, Bad}
 use Rattle.sheet.specs.Sheet.{refused, cells_of, counts_of, cell_fine, running_sum, summed_answer, HeaderAnswer, header_refused, read_header, read_sheet}
+use Rattle.std.specs.Prelude.{None, Option, Some}
 
 header_most : (s : List ℕ) → (read_header s).refusal ≤ 4
 unfolding read_header
@@ -26,9 +25,9 @@ header_most s =
     (most f 4 (not (one_to max_tolerance t)) (header_refused 3) _ (omega arith)
     (most f 4 (ltb (n * n) (get_or (words s) 2 0)) (header_refused 4) _ (omega arith) z)))
 
-summed_most : (n t e : ℕ) (x : CountSum) → (summed_answer n t e x).refusal ≤ 7
-summed_most n t e (Sum p) = omega arith
-summed_most n t e Bad = omega arith
+summed_most : (n t e : ℕ) (x : Option ℕ) → (summed_answer n t e x).refusal ≤ 7
+summed_most n t e (Some p) = omega arith
+summed_most n t e None = omega arith
 
 pub sheet-most : (s : List ℕ) → (read_sheet s).refusal ≤ 7
 unfolding read_sheet

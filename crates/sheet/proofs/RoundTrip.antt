@@ -23,7 +23,6 @@ use Rattle.limit.proofs.Laws.{one-to_of}
 use Rattle.words.specs.Words.{words}
 use Rattle.words.proofs.Words.{Below, below_none}
 use Rattle.words.proofs.Records.{Back, below_three, take_three, record_back, record_again}
-use Rattle.sheet.specs.declared.CountSum.TheVariants.{Sum}
 use Rattle.sheet.specs.declared.SheetAnswer.{SheetAnswer}
 use Rattle.sheet.specs.Sheet.{accepted, cells_of, counts_of, cell_fine, running_sum, read_header, read_sheet}
 use Rattle.sheet.specs.Table.{count_at, table_of, table_in}
@@ -32,6 +31,7 @@ use Rattle.sheet.proofs.Laws.{cell_below, cell-subdomain, sum_of}
 use Rattle.sheet.proofs.Accepted.{Accepted, sheet-accepted, words_are, cells_are, counts_are}
 use Rattle.sheet.proofs.Tables.{count-here, count-other, count-below, count_absent, length-table, table_at, table-outside, table-within}
 use Rattle.sheet.proofs.Filled.{filled_none, filled-one, cells-le, length-sheet}
+use Rattle.std.specs.Prelude.{Some}
 
 -- ---- the filled cells from low on, from the front
 
@@ -208,8 +208,8 @@ module _ (n t : ℕ) (table : List ℕ) (w : Writable n t table) where
       omega
       (arith, cell_below n (get_or (filled_cells n table) i 0) (rising-at (cell_fine n) 0 (filled_cells n table) cells-rise i h), w.n_high)
 
-  count_at_lem : (i : ℕ) → i < e → (0 < get_or (filled_counts n table) i 0) × (get_or (filled_counts n table) i 0 ≤ max_total)
-  count_at_lem i h =
+  count_bounds : (i : ℕ) → i < e → (0 < get_or (filled_counts n table) i 0) × (get_or (filled_counts n table) i 0 ≤ max_total)
+  count_bounds i h =
       let q : get_or (filled_counts n table) i 0 ≡ count (get_or (filled_cells n table) i 0) = map_at count (filled_cells n table) i h in
       let b : 0 < count (get_or (filled_cells n table) i 0) = rw (from_all n table) (from-filled 0 (64 * n) i (rw (from_all n table) at h)) in
       (omega arith, omega (arith, sum_term table_size count (get_or (filled_cells n table) i 0) (cell_at i h), w.within))
@@ -219,7 +219,7 @@ module _ (n t : ℕ) (table : List ℕ) (w : Writable n t table) where
       let counted = length-map (filled_cells n table) count in
       record_back (n ∷ t ∷ e ∷ []) (filled_cells n table) (filled_counts n table) e refl counted
       (below_three (2 ^ 32) n t e (omega (arith, w.n_high)) (omega (arith, w.t_high)) (omega (arith, cells-le table (64 * n), w.n_high)))
-      (λ i h. omega (arith, cell_at i h)) (λ i h. omega (arith, (count_at_lem i (omega (arith, counted))).1))
+      (λ i h. omega (arith, cell_at i h)) (λ i h. omega (arith, (count_bounds i (omega (arith, counted))).1))
 
   words-written : words (sheet_bytes n t table) ≡ sheet_words n t table
   unfolding sheet_bytes
@@ -240,9 +240,9 @@ module _ (n t : ℕ) (table : List ℕ) (w : Writable n t table) where
       let s = sheet_bytes n t table in
       let l = length-sheet n t table in
       let c : rising (cell_fine n) 0 (cells_of s e) ≡ true = rw cells-written cells-rise in
-      let q : running_sum 0 (counts_of s e) ≡ Sum p =
+      let q : running_sum 0 (counts_of s e) ≡ Some p =
       rw counts-written (sum_of 0 (filled_counts n table) (omega (arith, cells-total, w.within))
-      (λ i h. (count_at_lem i (omega (arith, length-map (filled_cells n table) count))).0) ∙ ap Sum (omega (arith, cells-total))) in
+      (λ i h. (count_bounds i (omega (arith, length-map (filled_cells n table) count))).0) ∙ ap Some (omega (arith, cells-total))) in
       rw (
         le-ltb (length s) 12 (omega arith),
         ap (λ (ws : List ℕ). get_or ws 0 0) words-written,

@@ -1,18 +1,14 @@
 -- Document 01, *Read sheet*: "gives N, t, E, P, L", and its refusals 1 to 7, from the list of a sheet's bytes.
-use Rattle.std.specs.Prelude.{ℕ, ◌+◌, ◌*◌, ◌/◌, ◌%◌, List, [], ◌∷◌, Bool, cond, ◌&&◌, not, length, get_or, ltb, eqb}
+use Rattle.std.specs.Prelude.{ℕ, ◌+◌, ◌*◌, ◌/◌, ◌%◌, List, [], ◌∷◌, Bool, cond, ◌&&◌, not, length, get_or, ltb, eqb, Err, None, Ok, Option, Result, Some}
 use Rattle.fold.specs.Rising.{rising}
 use Rattle.limit.specs.Limit.{max_nodes, max_tolerance, max_total, one_to, limit_of}
 use Rattle.words.specs.Checks.{refuse_if, refuse_as}
 use Rattle.words.specs.Words.{words, part}
 use Rattle.sheet.specs.declared.SheetRefusal.{SheetRefusal}
 use Rattle.sheet.specs.declared.SheetRefusal.TheVariants.{Short, Nodes, Tolerance, Entries, Length, Cell, Count}
-use Rattle.sheet.specs.declared.SheetReading.{SheetReading}
-use Rattle.sheet.specs.declared.SheetReading.TheVariants.{Accepted, Refused}
-use Rattle.sheet.specs.declared.HeaderReading.{HeaderReading}
-use Rattle.sheet.specs.declared.HeaderReading.TheVariants.{Accepted as HeaderRead, Refused as HeaderUnread}
 use Rattle.sheet.specs.declared.SheetAnswer.{SheetAnswer}
-use Rattle.sheet.specs.declared.CountSum.{CountSum}
-use Rattle.sheet.specs.declared.CountSum.TheVariants.{Sum, Bad}
+use Rattle.sheet.specs.declared.Sheet.{Sheet}
+use Rattle.sheet.specs.declared.Header.{Header}
 
 -- ---- answers: "An answer carries 0 or a refusal number, and the values named. A refusal's other values are all 0"
 
@@ -33,9 +29,9 @@ refusal_number Cell = 6
 refusal_number Count = 7
 
 -- the paper's number and values for each case of the enum
-abbrev pub answer_of : SheetReading → SheetAnswer
-answer_of (Accepted h) = accepted h.n h.t h.e h.p h.limit
-answer_of (Refused r) = refused (refusal_number r)
+abbrev pub answer_of : Result Sheet SheetRefusal → SheetAnswer
+answer_of (Ok h) = accepted h.n h.t h.e h.p h.limit
+answer_of (Err r) = refused (refusal_number r)
 
 -- ---- the record: "Sheet: N, t, E; E cells; E counts."
 
@@ -53,12 +49,12 @@ cell holder subdomain = 64 * holder + subdomain
 abbrev pub cell_fine : ℕ → ℕ → Bool
 cell_fine n c = ltb (c / 64) n && ltb (c % 64) n
 
--- "a count of 0 or a running sum above 1,000,000,000": the running sum from sum on, or Bad
-unfoldable pub running_sum : ℕ → List ℕ → CountSum
-running_sum sum [] = Sum sum
+-- "a count of 0 or a running sum above 1,000,000,000": the running sum from sum on, or None
+unfoldable pub running_sum : ℕ → List ℕ → Option ℕ
+running_sum sum [] = Some sum
 running_sum sum (c ∷ cs) =
     let rest = running_sum (sum + c) cs in
-    cond (eqb c 0) Bad (cond (ltb max_total (sum + c)) Bad rest)
+    cond (eqb c 0) None (cond (ltb max_total (sum + c)) None rest)
 
 -- ---- the checks, in the order written
 
@@ -76,9 +72,9 @@ abbrev pub header_accepted : ℕ → ℕ → ℕ → HeaderAnswer
 header_accepted n t e = record { refusal = 0; n = n; t = t; e = e }
 
 -- the same for each case of the enum
-abbrev pub header_of : HeaderReading → HeaderAnswer
-header_of (HeaderRead h) = header_accepted h.n h.t h.e
-header_of (HeaderUnread r) = header_refused (refusal_number r)
+abbrev pub header_of : Result Header SheetRefusal → HeaderAnswer
+header_of (Ok h) = header_accepted h.n h.t h.e
+header_of (Err r) = header_refused (refusal_number r)
 
 -- 2 to 4, with the words N, t and E
 abbrev pub ranges_answer : ℕ → ℕ → ℕ → HeaderAnswer
@@ -95,9 +91,9 @@ read_header s =
     (ranges_answer (get_or (words s) 0 0) (get_or (words s) 1 0) (get_or (words s) 2 0))
 
 -- 7, or the values
-abbrev pub summed_answer : ℕ → ℕ → ℕ → CountSum → SheetAnswer
-summed_answer n t e (Sum p) = accepted n t e p (limit_of p n t)
-summed_answer n t e Bad = refused 7
+abbrev pub summed_answer : ℕ → ℕ → ℕ → Option ℕ → SheetAnswer
+summed_answer n t e (Some p) = accepted n t e p (limit_of p n t)
+summed_answer n t e None = refused 7
 
 -- 5 to 7: "All cells come before all counts."
 abbrev pub entries_answer : List ℕ → ℕ → ℕ → ℕ → SheetAnswer

@@ -7,6 +7,8 @@ ghost use Rattle.fold.specs.Rising.{rising};
 ghost use Rattle.limit.specs.Limit.{max_nodes, max_tolerance};
 ghost use Rattle.sheet.specs.Sheet.{cells_of, counts_of, cell_fine, running_sum, header_of, read_header, entries_answer, read_sheet, refusal_number, answer_of};
 
+use words::Refusal;
+
 pub mod table;
 pub mod totals;
 pub mod write;
@@ -22,7 +24,7 @@ pub struct Sheet {
 }
 
 // Why a sheet is refused, in the order of the checks.
-#[derive(Drop)]
+#[derive(Clone, Copy, Debug, PartialEq, Eq)]
 pub enum SheetRefusal {
     Short,
     Nodes,
@@ -33,29 +35,17 @@ pub enum SheetRefusal {
     Count,
 }
 
-// The three words of a header, and what reading them answers.
-#[derive(Drop)]
+// The three words of a header.
+#[derive(Clone, Copy)]
 pub struct Header {
     pub n: u32,
     pub t: u32,
     pub e: u32,
 }
 
-#[derive(Drop)]
-pub enum HeaderReading {
-    Accepted(Header),
-    Refused(SheetRefusal),
-}
-
-#[derive(Drop)]
-pub enum SheetReading {
-    Accepted(Sheet),
-    Refused(SheetRefusal),
-}
-
 // The answer in document 01's numbers: 0 or the refusal's, and the values named, all 0 in a refusal.
 #[repr(C)]
-#[derive(Drop)]
+#[derive(Clone, Copy, Default)]
 pub struct SheetAnswer {
     pub refusal: u32,
     pub n: u32,
@@ -65,154 +55,118 @@ pub struct SheetAnswer {
     pub limit: u32,
 }
 
-// The sum of all counts, or that one of them is refused.
-#[derive(Drop)]
-pub enum CountSum {
-    Sum(u32),
-    Bad,
-}
-
 // Whether cell c names two nodes below n.
 pub fn cell_fine(n: u32, c: u32) -> bool
     ensures { result ≡ cell_fine n c }
 {
-    if c / 64 < n { c % 64 < n } else { false }
+    c / 64 < n && c % 64 < n
 }
 
-// Whether the e cells of s rise and name nodes below n.
-fn cells_fine(s: &[u8], n: u32, e: usize) -> bool
-    requires { (4 * (3 + e) ≤ length s.now) × (n ≤ max_nodes) }
-    ensures { result ≡ rising (cell_fine n) 0 (cells_of s.now e) }
-{
-    let mut low = 0;
-    let mut i = 0;
-    while i < e {
-        let c = words::word_number(s, 3 + i);
-        if c < low {
-            return false;
-        }
-        if !cell_fine(n, c) {
-            return false;
-        }
-        low = c + 1;
-        i += 1;
-    }
-    true
-}
-
-// The running sum of the e counts of s, which stand after its e cells.
-fn sum_counts(s: &[u8], e: usize) -> CountSum
+// The running sum of the e counts of s, which stand after its e cells; None where one of them is refused.
+#[tactic(auto, using(words::proofs::Words::part_more, words::proofs::Words::part_end), unfolding(crate::specs::Sheet::running_sum))]
+fn sum_counts(s: &[u8], e: usize) -> Option<u32>
     requires { 4 * (3 + 2 * e) ≤ length s.now }
     ensures { result ≡ running_sum 0 (counts_of s.now e) }
 {
     let mut sum = 0;
-    let mut i = 0;
-    while i < e {
+    for i in 0..e {
         let c = words::word_number(s, 3 + e + i);
-        if c == 0 {
-            return CountSum::Bad;
-        }
-        if limit::MAX_TOTAL - sum < c {
-            return CountSum::Bad;
+        if c == 0 || limit::MAX_TOTAL - sum < c {
+            return None;
         }
         sum += c;
-        i += 1;
     }
-    CountSum::Sum(sum)
+    Some(sum)
 }
 
 // The cells and counts of a sheet whose header is right.
-fn read_entries(s: &[u8], n: u32, t: u32, e: u32) -> SheetReading
-    requires { (1 ≤ n) × (n ≤ max_nodes) × (t ≤ max_tolerance) }
-    ensures { answer_of result ≡ entries_answer s.now n t e }
+fn read_entries(s: &[u8], h: Header) -> Result<Sheet, SheetRefusal>
+    requires { (1 ≤ h.n) × (h.n ≤ max_nodes) × (h.t ≤ max_tolerance) }
+    ensures { answer_of result ≡ entries_answer s.now h.n h.t h.e }
 {
+    let Header { n, t, e } = h;
     let k = e as usize;
     if s.len() != 4 * (3 + 2 * k) {
-        return SheetReading::Refused(SheetRefusal::Length);
+        return Err(SheetRefusal::Length);
     }
-    if cells_fine(s, n, k) {
-        match sum_counts(s, k) {
-            CountSum::Sum(p) => SheetReading::Accepted(Sheet {
-                n: n,
-                t: t,
-                e: e,
-                p: p,
-                limit: limit::limit(p, n, t),
-            }),
-            CountSum::Bad => SheetReading::Refused(SheetRefusal::Count),
-        }
-    } else {
-        SheetReading::Refused(SheetRefusal::Cell)
+    if !words::lists::rising(s, 3, k, |c| cell_fine(n, c)) {
+        return Err(SheetRefusal::Cell);
     }
+    let p = sum_counts(s, k).ok_or(SheetRefusal::Count)?;
+    Ok(Sheet {
+        n,
+        t,
+        e,
+        p,
+        limit: limit::limit(p, n, t),
+    })
 }
 
 // The header of a sheet: the checks that look at its three words alone.
-pub fn read_header(s: &[u8]) -> HeaderReading
+#[tactic(auto, unfolding(crate::specs::Sheet::read_header))]
+pub fn read_header(s: &[u8]) -> Result<Header, SheetRefusal>
     ensures { header_of result ≡ read_header s.now }
 {
     if s.len() < 12 {
-        return HeaderReading::Refused(SheetRefusal::Short);
+        return Err(SheetRefusal::Short);
     }
     let n = words::word_number(s, 0);
     let t = words::word_number(s, 1);
     let e = words::word_number(s, 2);
     if !limit::one_to(limit::MAX_NODES, n) {
-        return HeaderReading::Refused(SheetRefusal::Nodes);
+        return Err(SheetRefusal::Nodes);
     }
     if !limit::one_to(limit::MAX_TOLERANCE, t) {
-        return HeaderReading::Refused(SheetRefusal::Tolerance);
+        return Err(SheetRefusal::Tolerance);
     }
     if n * n < e {
-        return HeaderReading::Refused(SheetRefusal::Entries);
+        return Err(SheetRefusal::Entries);
     }
-    HeaderReading::Accepted(Header { n: n, t: t, e: e })
+    Ok(Header { n, t, e })
 }
 
 // *Read sheet*.
-pub fn read_sheet(s: &[u8]) -> SheetReading
+#[tactic(auto, unfolding(crate::specs::Sheet::read_sheet, crate::specs::Sheet::read_header))]
+pub fn read_sheet(s: &[u8]) -> Result<Sheet, SheetRefusal>
     ensures { answer_of result ≡ read_sheet s.now }
 {
-    match read_header(s) {
-        HeaderReading::Accepted(h) => read_entries(s, h.n, h.t, h.e),
-        HeaderReading::Refused(r) => SheetReading::Refused(r),
+    let h = read_header(s)?;
+    read_entries(s, h)
+}
+
+impl Refusal for SheetRefusal {
+    ghost number_of = { refusal_number };
+
+    fn number(self) -> u32 {
+        match self {
+            SheetRefusal::Short => 1,
+            SheetRefusal::Nodes => 2,
+            SheetRefusal::Tolerance => 3,
+            SheetRefusal::Entries => 4,
+            SheetRefusal::Length => 5,
+            SheetRefusal::Cell => 6,
+            SheetRefusal::Count => 7,
+        }
     }
 }
 
-// Document 01's number of a refusal.
-pub fn number(r: SheetRefusal) -> u32
-    ensures { result ≡ refusal_number r }
-{
-    match r {
-        SheetRefusal::Short => 1,
-        SheetRefusal::Nodes => 2,
-        SheetRefusal::Tolerance => 3,
-        SheetRefusal::Entries => 4,
-        SheetRefusal::Length => 5,
-        SheetRefusal::Cell => 6,
-        SheetRefusal::Count => 7,
-    }
-}
+impl From<Result<Sheet, SheetRefusal>> for SheetAnswer {
+    ghost from_gives = { λ reading answer. answer ≡ answer_of reading };
 
-// A reading in document 01's numbers.
-pub fn answer(a: SheetReading) -> SheetAnswer
-    ensures { result ≡ answer_of a }
-{
-    match a {
-        SheetReading::Accepted(h) => SheetAnswer {
-            refusal: 0,
-            n: h.n,
-            t: h.t,
-            e: h.e,
-            p: h.p,
-            limit: h.limit,
-        },
-        SheetReading::Refused(r) => SheetAnswer {
-            refusal: number(r),
-            n: 0,
-            t: 0,
-            e: 0,
-            p: 0,
-            limit: 0,
-        },
+    fn from(reading: Result<Sheet, SheetRefusal>) -> SheetAnswer {
+        match reading {
+            Ok(Sheet { n, t, e, p, limit }) => SheetAnswer {
+                refusal: 0,
+                n,
+                t,
+                e,
+                p,
+                limit,
+            },
+            Err(r) => SheetAnswer {
+                refusal: r.number(),
+                ..SheetAnswer::default()
+            },
+        }
     }
 }

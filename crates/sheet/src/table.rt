@@ -28,11 +28,9 @@ pub fn unpack(s: &[u8], e: usize) -> [u32; TABLE_SIZE]
     ensures { result ≡ table_of s.now e }
 {
     let mut table = [0u32; TABLE_SIZE];
-    let mut i = 0;
-    while i < e {
+    for i in 0..e {
         let c = words::word_number(s, 3 + i) as usize;
         table[c] = words::word_number(s, 3 + e + i);
-        i += 1;
     }
     table
 }

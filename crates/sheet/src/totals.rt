@@ -13,10 +13,8 @@ fn add_row(totals: &mut [u32; 64], table: &[u32; TABLE_SIZE], holder: usize, nod
         × (totals.old ≡ tabulate nodes (total_of holder table.now)) }
     ensures { totals.new ≡ tabulate nodes (total_of (holder + 1) table.now) }
 {
-    let mut n = 0;
-    while n < nodes {
+    for n in 0..nodes {
         totals[n] += table[64 * holder + n];
-        n += 1;
     }
 }
 
@@ -27,10 +25,8 @@ pub fn totals(table: &[u32; TABLE_SIZE], nodes: usize) -> [u32; 64]
     ensures { result ≡ totals_of nodes table.now }
 {
     let mut out = [0u32; 64];
-    let mut holder = 0;
-    while holder < nodes {
+    for holder in 0..nodes {
         add_row(&mut out, table, holder, nodes);
-        holder += 1;
     }
     out
 }

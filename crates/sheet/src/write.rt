@@ -6,21 +6,19 @@ ghost use Rattle.words.specs.Buffer.{placed, written, writing};
 ghost use Rattle.sheet.specs.Write.{filled_cells, sheet_bytes};
 
 use limit::TABLE_SIZE;
-use words::Written;
+use words::TooShort;
 
-// How many cells of holders below n have a count: the sheet's E.
+// How many cells of holders below n have a count: the sheet's E. Counted in 32 bits by the index, which the compiler turns into several
+// at once; a chain that ends in `count` takes half as long again for the whole of *carry out*.
 pub fn count_cells(table: &[u32; TABLE_SIZE], n: u32) -> u32
     requires { n ≤ max_nodes }
     ensures { result ≡ length (filled_cells n table.now) }
 {
-    let end = 64 * n as usize;
     let mut e = 0;
-    let mut c = 0;
-    while c < end {
+    for c in 0..64 * n as usize {
         if table[c] != 0 {
             e += 1;
         }
-        c += 1;
     }
     e
 }
@@ -41,21 +39,24 @@ pub fn put_sheet(out: &mut [u8], n: u32, t: u32, e: u32, table: &[u32; TABLE_SIZ
 {
     words::put_head(out, n, t, e);
     let entries = e as usize;
-    let cells = 64 * n as usize;
     let mut i = 0;
-    let mut c = 0;
-    while c < cells {
+    for c in 0..64 * n as usize {
         let count = table[c];
         if count != 0 {
             put_entry(out, entries, i, c as u32, count);
             i += 1;
         }
-        c += 1;
     }
 }
 
 // The same into any buffer: too short, it is left as it was.
-pub fn write_sheet(out: &mut [u8], n: u32, t: u32, table: &[u32; TABLE_SIZE]) -> Written
+#[tactic(auto, using(crate::proofs::Filled::sizes))]
+pub fn write_sheet(
+    out: &mut [u8],
+    n: u32,
+    t: u32,
+    table: &[u32; TABLE_SIZE],
+) -> Result<usize, TooShort>
     requires { n ≤ max_nodes }
     ensures answer { result ≡ writing (sheet_bytes n t table.now) out.old }
     ensures bytes { out.new ≡ written (sheet_bytes n t table.now) out.old }
@@ -63,8 +64,8 @@ pub fn write_sheet(out: &mut [u8], n: u32, t: u32, table: &[u32; TABLE_SIZE]) ->
     let e = count_cells(table, n);
     let size = 4 * (3 + 2 * e as usize);
     if out.len() < size {
-        return Written::Short;
+        return Err(TooShort);
     }
     put_sheet(out, n, t, e, table);
-    Written::Bytes(size)
+    Ok(size)
 }

@@ -5,27 +5,18 @@
 
 use std::io;
 use std::io::{ErrorKind, Read};
-use text::put::{BLANK, put_byte, put_number};
 
 // The bytes of the longest plan.
 const MOST: usize = 524;
 
-// Prints a blank and a helpand.
-fn print_helpand(rt: &impl Print, helpand: u32) -> io::Result<()> {
-    let mut text = [0u8; 16];
-    let at = put_byte(&mut text, 0, BLANK);
-    let size = put_number(&mut text, at, helpand);
-    rt.write_all(&text[..size])
-}
-
 // Prints the line of a stretch of helpands.
 fn print_stretch(rt: &impl Print, stretch: &[u8]) -> io::Result<()> {
-    let nodes = stretch.len() / 4;
-    rt.write_all(b"stretch")?;
-    for k in 0..nodes {
-        print_helpand(rt, words::word_number(stretch, k))?;
+    print!(rt; "stretch")?;
+    for k in 0..stretch.len() / 4 {
+        let helpand = words::word_number(stretch, k);
+        print!(rt; " {helpand}")?;
     }
-    rt.write_all(b"\n")
+    println!(rt; "")
 }
 
 // Prints the line of two plans. The stretch is a part of one of them, so that both are lent for as long.

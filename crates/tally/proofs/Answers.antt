@@ -10,9 +10,8 @@ use Rattle.weigh.specs.Checks.{check_number}
 use Rattle.weigh.proofs.Answers.{check_of, numbered as check-numbered}
 use Rattle.tally.specs.declared.TallyRefusal.{TallyRefusal}
 use Rattle.tally.specs.declared.TallyRefusal.TheVariants.{Check, NoCell, TooFew, TooMany}
-use Rattle.tally.specs.declared.Tallying.{Tallying}
-use Rattle.tally.specs.declared.Tallying.TheVariants.{Holding, Refused}
 use Rattle.tally.specs.Tally.{number_of, answer_of}
+use Rattle.std.specs.Prelude.{Bool, Err, Ok, Result}
 
 -- the refusal of a number
 abbrev refusal_of : ℕ → TallyRefusal
@@ -27,16 +26,16 @@ numbered NoCell = (omega arith, refl)
 numbered TooFew = (omega arith, refl)
 numbered TooMany = (omega arith, refl)
 
-abbrev tallying_of : WeighAnswer → Tallying
-tallying_of a = cond (eqb a.refusal 0) (Holding (eqb a.holds 1)) (Refused (refusal_of a.refusal))
+abbrev tallying_of : WeighAnswer → Result Bool TallyRefusal
+tallying_of a = cond (eqb a.refusal 0) (Ok (eqb a.holds 1)) (Err (refusal_of a.refusal))
 
-back : (t : Tallying) → tallying_of (answer_of t) ≡ t
-back (Holding true) = refl
-back (Holding false) = refl
-back (Refused r) =
+back : (t : Result Bool TallyRefusal) → tallying_of (answer_of t) ≡ t
+back (Ok true) = refl
+back (Ok false) = refl
+back (Err r) =
     let n = numbered r in
-    rw (ne_eqb (number_of r) 0 (λ z. omega (arith, n.0))) (ap Refused n.1)
+    rw (ne_eqb (number_of r) 0 (λ z. omega (arith, n.0))) (ap Err n.1)
 
 -- THEOREM. Two openings or calls with the same numbers are the same.
-pub answer_determines : (a b : Tallying) → answer_of a ≡ answer_of b → a ≡ b
+pub answer_determines : (a b : Result Bool TallyRefusal) → answer_of a ≡ answer_of b → a ≡ b
 answer_determines a b e = sym (back a) ∙ ap tallying_of e ∙ back b

@@ -2,11 +2,12 @@
 -- present counts say. Assumes nothing.
 use mathlib.Core.Path.{◌≡◌, refl, sym, ap, ◌∙◌}
 use mathlib.Core.Logic.{◌≢◌, ◌↔◌}
-use mathlib.Core.Bool.{Bool, true, false, not}
+use mathlib.Core.Bool.{Bool, true, false}
 use mathlib.Core.List.{List, [], ◌∷◌}
 use Prim.Native.Nat.{ℕ, ◌≤◌}
 use native.Mathlib.Omega.{arith}
-use borrow.Author.Tests.{le-ltb, eq-eqb, ne_eqb}
+use Rattle.std.proofs.lemmas.Bool.Decides.{nat_tests}
+use borrow.Author.Tests.{eq-eqb, ne_eqb}
 use Rattle.fold.specs.Sum.{only}
 use Rattle.fold.proofs.Tests.{only-is, handed}
 use Rattle.limit.specs.Limit.{max_nodes}
@@ -27,11 +28,9 @@ use Rattle.weigh.proofs.Checks.{passes}
 use Rattle.weigh.specs.declared.WeighAnswer.{WeighAnswer}
 use Rattle.weigh.specs.Weigh.{refused, weighed}
 use Rattle.tally.specs.declared.Tally.{Tally}
-use Rattle.tally.specs.Call.{Call, cell_of, call_number}
-use Rattle.tally.specs.Layout.{count_at}
-use Rattle.tally.specs.Tally.{tally_of, no_tally, helpands_in, opened, usable, number_in, tally_after, call_answer}
+use Rattle.tally.specs.Call.{Call, call_number}
+use Rattle.tally.specs.Tally.{tally_of, no_tally, helpands_in, opened, number_in, tally_after, call_answer}
 use Rattle.tally.specs.Calls.{after_calls, number_on, counts_after, present_counts, present_in, holds_with, Follows}
-use Rattle.tally.proofs.Calling.{cond_same}
 use Rattle.tally.proofs.Fresh.{Valid, after_fresh, after_valid, answer_fresh}
 
 -- ---- the tally of any counts
@@ -130,14 +129,9 @@ unfolding call_answer
 refused_alters_nothing t c d = altered t c (λ e. d (rw e))
 
 -- a tally with N 0 refuses every call with 58
-no_cell : (n has total : ℕ) (c : Call) → n ≡ 0 → call_number n has total c ≡ 58
-unfolding call_number
-no_cell n has total c e = rw (le-ltb c.holder n (omega arith))
-
 no_nodes : (t : Tally) → t.head.n ≡ 0 → (c : Call) → number_in t c ≡ 58
-unfolding number_in
-no_nodes t e c =
-    rw (no_cell t.head.n (count_at t.cells (cell_of c)) t.head.total c e) (cond_same (not (usable t c)) 58)
+unfolding number_in call_number
+no_nodes t e c = grind (arith, nat_tests)
 
 no_tally-number : (c : Call) → number_in no_tally c ≡ 58
 no_tally-number = no_nodes no_tally none

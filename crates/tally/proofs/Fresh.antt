@@ -1,16 +1,17 @@
 -- A call on the tally of some counts gives the tally of the counts after it, and is refused as the counts say. Assumes nothing.
 use mathlib.Core.Path.{◌≡◌, sym, ap, ◌∙◌}
 use mathlib.Core.Logic.{inl, inr}
-use mathlib.Core.Bool.{Bool, true, false, not, ◌&&◌, ◌||◌}
+use mathlib.Core.Bool.{Bool, true, false, not, ◌||◌}
 use mathlib.Core.List.{List}
 use Prim.Native.Nat.{ℕ, suc, ◌+◌, ◌≤◌, ◌<◌}
 use native.Mathlib.Decide.{ℕ_discrete}
 use native.Mathlib.Omega.{arith}
-use borrow.Author.Tests.{ltb-true, ltb-false, lt-ltb, le-leb, eq-eqb, ne_eqb, not-false}
+use Rattle.std.proofs.lemmas.Bool.Decides.{nat_tests}
+use borrow.Author.Tests.{lt-ltb, eq-eqb, ne_eqb}
 use lib.Dec.{eqb, ltb, leb}
 use lib.ListN.{length, set}
 use Rattle.fold.specs.Sum.{sum}
-use Rattle.fold.proofs.Tests.{either, and_both, or_left, or_right, passed, all_of, all-eq}
+use Rattle.fold.proofs.Tests.{either, all_of, all-eq}
 use Rattle.fold.proofs.Sums.{sum_term}
 use Rattle.limit.specs.Limit.{max_nodes, max_total, table_size}
 use Rattle.arrays.specs.Arrays.{at, tabulate}
@@ -18,7 +19,7 @@ use Rattle.arrays.proofs.Tabulate.{tabulate-at, length-tabulate}
 use Rattle.sheet.specs.Table.{held}
 use Rattle.sheet.specs.Totals.{total_of, totals_of}
 use Rattle.sheet.proofs.Totalled.{total-le}
-use Rattle.plan.specs.Tree.{Tree, helpands_below}
+use Rattle.plan.specs.Tree.{Tree}
 use Rattle.tree.specs.Least.{least, holds}
 use Rattle.tree.proofs.Weighing.{holds_tabulated}
 use Rattle.weigh.specs.Weigh.{refused, weighed}
@@ -29,7 +30,6 @@ use Rattle.tally.specs.Renew.{renewed}
 use Rattle.tally.specs.Layout.{total_at, least_at, count_at, laid}
 use Rattle.tally.specs.Tally.{tally_of, usable, number_in, counted_cells, cells_after, changed, tally_after, call_answer, holding}
 use Rattle.tally.specs.Calls.{number_on, counts_after}
-use Rattle.tally.proofs.Calling.{cond_same}
 use Rattle.tally.proofs.Laid.{Rows, laid-total, laid-least, laid-count, set-total, set-count}
 use Rattle.tally.proofs.Renewing.{renewed-leasts}
 use Rattle.tally.proofs.Counting.{OneCell, counted-length, counted-all, counted-other, counted-totals}
@@ -45,17 +45,11 @@ pub record Fits (n has total : ℕ) (c : Call) : Type 0 where
 pub fits : (n has total : ℕ) (c : Call) → call_number n has total c ≡ 0 → Fits n has total c
 unfolding call_number
 fits n has total c e =
-    let f : ℕ → ℕ = λ k. k in
-    let no_cell = not (ltb c.holder n) || (not (ltb c.subdomain n) || eqb c.count 0) in
-    let a₁ = passed f no_cell 58 _ (λ z. omega arith) e in
-    let a₂ = passed f (not c.adds && ltb has c.count) 59 _ (λ z. omega arith) a₁.1 in
-    let a₃ = passed f (c.adds && ltb max_total (total + c.count)) 60 _ (λ z. omega arith) a₂.1 in
-    let b = or_right (not (ltb c.holder n)) (not (ltb c.subdomain n) || eqb c.count 0) a₁.0 in
     record {
-      holder = ltb-true c.holder n (not-false _ (or_left (not (ltb c.holder n)) _ a₁.0));
-      subdomain = ltb-true c.subdomain n (not-false _ (or_left (not (ltb c.subdomain n)) (eqb c.count 0) b));
-      removed = λ q. ltb-false has c.count (rw q at a₂.0);
-      added = λ q. ltb-false max_total (total + c.count) (rw q at a₃.0);
+      holder = grind (arith, nat_tests);
+      subdomain = grind (arith, nat_tests);
+      removed = λ q. grind (arith, nat_tests);
+      added = λ q. grind (arith, nat_tests);
     }
 
 -- ---- the tally of n nodes with these counts
@@ -103,21 +97,15 @@ module _ (n limit : ℕ) (helpands : List ℕ) (few : n ≤ max_nodes) {r : ℕ}
       let whole = total-le counts n c.subdomain few (omega arith) in
       let has = count_at (laid (totals_of n counts) leasts counts) (cell_of c) in
       let own = total_at (laid (totals_of n counts) leasts counts) c.subdomain in
-      and_both (leb n max_nodes) _ (le-leb n max_nodes few)
-      (and_both (helpands_below n (at helpands)) _ (all_of n (λ j. ltb (at helpands j) n) (λ j l. lt-ltb (at helpands j) n (t.inside j l)))
-      (and_both (leb has own) _ (le-leb has own (omega (arith, total, count, part)))
-      (le-leb own (sum table_size (at counts)) (omega (arith, total, whole)))))
+      let below = all_of n (λ j. ltb (at helpands j) n) (λ j l. lt-ltb (at helpands j) n (t.inside j l)) in
+      grind (arith, nat_tests, total, count, part, whole, below)
 
   -- and refuses as the counts say
   pub number_same : (c : Call) → number_in now c ≡ number_on n counts c
   unfolding number_in call_number tally_of
   number_same c = elim (either no_cell) [
-    | inl e ↦ rw e (cond_same (not (usable now c)) 58)
-    | inr e ↦
-        let b = or_right (not (ltb c.holder n)) _ e in
-        let k = ltb-true c.holder n (not-false _ (or_left (not (ltb c.holder n)) _ e)) in
-        let d = ltb-true c.subdomain n (not-false _ (or_left (not (ltb c.subdomain n)) _ b)) in
-        rw (now-usable c k d, laid-count rows counts (cell_of c))
+    | inl e ↦ grind (arith, nat_tests)
+    | inr e ↦ rw (now-usable c (grind (arith, nat_tests)) (grind (arith, nat_tests)), laid-count rows counts (cell_of c))
   ]
     where
       no_cell : Bool

@@ -1,13 +1,16 @@
--- The numbers of a tally as they are laid out: what lies where, and a store in each of the three parts. Assumes nothing.
-use mathlib.Core.Path.{◌≡◌, ap, ◌∙◌}
+-- The numbers of a tally as they are laid out: one row put behind the other, what lies where, and a store in each part. Assumes nothing.
+use mathlib.Core.Path.{◌≡◌, refl, sym, ap, ◌∙◌}
 use mathlib.Core.List.{List, [], ◌∷◌, ◌++◌}
 use Prim.Native.Nat.{ℕ, ◌+◌, ◌<◌}
 use native.Mathlib.Nat.{zero-add, suc-add}
 use native.Mathlib.Omega.{arith}
-use lib.ListN.{length, set, length-append, get_or-append}
-use lib.Seq.{get_or-append-add, set-append_left}
+use lib.ListN.{length, set, drop, length-append, length-drop, get_or-append}
+use lib.Seq.{get_or-append-add, set-append_left, take-append_seam, drop-append-add}
+use Rattle.std.proofs.Common.{append_assoc, append-nil}
+use Rattle.std.proofs.lemmas.List.{drop_all}
 use Rattle.arrays.specs.Arrays.{at}
 use Rattle.tally.specs.Layout.{total_at, least_at, count_at, laid}
+use Rattle.tally.specs.Inner.{put_at}
 
 -- a store behind a part
 set-append-add : (xs ys : List ℕ) (i v : ℕ) → set (xs ++ ys) (length xs + i) v ≡ xs ++ set ys i v
@@ -19,6 +22,29 @@ set-append-add (x ∷ xs) ys i v =
 pub record Rows (totals leasts : List ℕ) : Type 0 where
   pub totals_long : length totals ≡ 64
   pub leasts_long : length leasts ≡ 64
+
+-- a row that is put behind those before it
+put-behind : (front row rest : List ℕ) (from : ℕ) → from ≡ length front
+    → put_at from row (front ++ rest) ≡ front ++ row ++ drop (length row) rest
+put-behind front row rest from e =
+    rw (e, take-append_seam, drop-append-add front rest (length row)) (sym (append_assoc front row (drop (length row) rest)))
+
+-- three rows fill the cells
+pub put_all : {totals leasts : List ℕ} → Rows totals leasts → (counts cells : List ℕ) → 128 + length counts ≡ length cells
+    → put_at 128 counts (put_at 64 leasts (put_at 0 totals cells)) ≡ laid totals leasts counts
+put_all {totals} {leasts} r counts cells e =
+    let rest = drop (length leasts) (drop (length totals) cells) in
+    let none : drop (length counts) rest ≡ [] =
+    drop_all (length counts) rest
+    (omega (arith, e, r.totals_long, r.leasts_long, length-drop (length leasts) (drop (length totals) cells), length-drop (length totals) cells)) in
+    rw (
+      put-behind [] totals cells 0 refl,
+      put-behind totals leasts (drop (length totals) cells) 64 (sym r.totals_long),
+      put-behind (totals ++ leasts) counts rest 128 (omega (arith, r.totals_long, r.leasts_long, length-append totals leasts)),
+      none,
+      append-nil,
+    )
+    (append_assoc totals leasts counts)
 
 two : (c : ℕ) → 128 + c ≡ 64 + (64 + c)
 two c = omega arith

@@ -1,6 +1,5 @@
 pub mod Answers
 pub mod Laid
-pub mod Copying
 pub mod Renewing
 pub mod Counting
 pub mod Calling

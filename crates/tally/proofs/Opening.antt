@@ -59,8 +59,8 @@ module _ {s p : List ℕ} {h : Sheet} (w : Weighable s p h) {table totals helpan
   opened-is : tally_with head (laid totals leasts table) ≡ opened s p
   unfolding opened tally_of
   opened-is =
-      let sum_is_lem = table-sum s (accepted h.n h.t h.e h.p h.limit) (facts s p h w) in
-      rw (weighable_checked s p h w, ← w.sheet, l, a, o, t, ← sum_is_lem)
+      let total = table-sum s (accepted h.n h.t h.e h.p h.limit) (facts s p h w) in
+      rw (weighable_checked s p h w, ← w.sheet, l, a, o, t, ← total)
 
   pub ends_opened : {cells : List ℕ} → cells ≡ laid totals leasts table
       → Ends s p (record { answer = weighed (all h.n (λ k. leb (at leasts k) h.limit)); head = head }) cells

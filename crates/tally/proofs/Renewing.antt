@@ -5,7 +5,6 @@ use mathlib.Core.Logic.{◌≢◌}
 use mathlib.Core.Bool.{true}
 use mathlib.Core.List.{List}
 use Prim.Native.Nat.{ℕ, zero, suc, ◌+◌, ◌-◌, ◌≤◌, ◌<◌}
-use native.Mathlib.Numerals.{sub-one}
 use native.Mathlib.Decide.{ℕ_discrete, dec_lt}
 use native.Mathlib.Omega.{arith}
 use borrow.Author.Tests.{eq-eqb, ne_eqb}
@@ -128,23 +127,19 @@ module _ (nodes : ℕ) (h : ℕ → ℕ) (limit : ℕ) (n : ℕ) (cells : List �
   unfolding renewed
   renewed-none = refl
 
-  module _ {v : ℕ} (is : v ≡ least_from nodes h limit cells n) where
-    pub renewed-same : (more : ℕ) → more ≢ 0 → v ≡ least_at cells n → renewed nodes h limit more n cells ≡ cells
+  module _ (more : ℕ) {v : ℕ} (is : v ≡ least_from nodes h limit cells n) where
+    pub renewed-same : v ≡ least_at cells n → renewed nodes h limit (suc more) n cells ≡ cells
     unfolding renewed
-    renewed-same zero z e = absurd (z refl)
-    renewed-same (suc more) z e = rw (← is, eq-eqb v (least_at cells n) e)
+    renewed-same e = rw (← is, eq-eqb v (least_at cells n) e)
 
-    pub renewed-root : (more : ℕ) → more ≢ 0 → v ≢ least_at cells n → h n ≡ n
-        → renewed nodes h limit more n cells ≡ set cells (64 + n) v
+    pub renewed-root : v ≢ least_at cells n → h n ≡ n → renewed nodes h limit (suc more) n cells ≡ set cells (64 + n) v
     unfolding renewed
-    renewed-root zero z d q = absurd (z refl)
-    renewed-root (suc more) z d q = rw (← is, ne_eqb v (least_at cells n) d, eq-eqb (h n) n q)
+    renewed-root d q = rw (← is, ne_eqb v (least_at cells n) d, eq-eqb (h n) n q)
 
-    pub renewed_up : (more : ℕ) → more ≢ 0 → v ≢ least_at cells n → h n ≢ n
-        → renewed nodes h limit more n cells ≡ renewed nodes h limit (more - 1) (h n) (set cells (64 + n) v)
+    pub renewed_up : v ≢ least_at cells n → h n ≢ n
+        → renewed nodes h limit (suc more) n cells ≡ renewed nodes h limit more (h n) (set cells (64 + n) v)
     unfolding renewed
-    renewed_up zero z d q = absurd (z refl)
-    renewed_up (suc more) z d q = rw (← is, ne_eqb v (least_at cells n) d, ne_eqb (h n) n q, sub-one)
+    renewed_up d q = rw (← is, ne_eqb v (least_at cells n) d, ne_eqb (h n) n q)
 
 -- ---- the cells of a tally
 

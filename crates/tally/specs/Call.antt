@@ -1,8 +1,10 @@
 -- Request 2026-08: a call "adds or removes a count in a cell, named by holder and subdomain".
-use Rattle.std.specs.Prelude.{ℕ, ◌+◌, ◌-◌, Bool, cond, not, ◌&&◌, ◌||◌, eqb, ltb}
+use Rattle.std.specs.Prelude.{ℕ, ◌+◌, ◌-◌, Bool, true, false, cond, not, ◌&&◌, ◌||◌, eqb, ltb}
 use Rattle.limit.specs.Limit.{max_total}
 use Rattle.words.specs.Checks.{refuse_if}
 use Rattle.sheet.specs.Sheet.{cell}
+use Rattle.tally.specs.declared.Operation.{Operation}
+use Rattle.tally.specs.declared.Operation.TheVariants.{Add, Remove}
 
 -- a call: whether it adds, and otherwise it removes
 pub record Call : Type 0 where
@@ -10,6 +12,11 @@ pub record Call : Type 0 where
   pub holder : ℕ
   pub subdomain : ℕ
   pub count : ℕ
+
+-- whether an operation adds
+abbrev pub adding : Operation → Bool
+adding Add = true
+adding Remove = false
 
 abbrev pub call_of : Bool → ℕ → ℕ → ℕ → Call
 call_of adds holder subdomain count = record { adds = adds; holder = holder; subdomain = subdomain; count = count }

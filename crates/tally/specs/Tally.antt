@@ -1,7 +1,7 @@
 -- Request 2026-08, 'Arrivals between steps': "A tally is opened from a sheet and a plan of kind 1 or 2; its limit stays that of the opening
 -- sheet. The open tally is lent to each call, which adds or removes a count in a cell, named by holder and subdomain, and says whether the
 -- tree holds." *Tally* is the request's word.
-use Rattle.std.specs.Prelude.{ℕ, suc, ◌+◌, Bool, not, ◌&&◌, List, eqb, leb, set, replicate}
+use Rattle.std.specs.Prelude.{ℕ, suc, ◌+◌, Bool, not, ◌&&◌, List, eqb, leb, set, replicate, Result}
 use Rattle.fold.specs.Sum.{sum}
 use Rattle.fold.specs.All.{all}
 use Rattle.limit.specs.Limit.{max_nodes, table_size}
@@ -15,11 +15,9 @@ use Rattle.plan.specs.Plan.{helpands_of}
 use Rattle.tree.specs.Least.{least}
 use Rattle.weigh.specs.declared.WeighAnswer.{WeighAnswer}
 use Rattle.weigh.specs.Checks.{check_number, checked}
-use Rattle.weigh.specs.Weigh.{refused, weighed, holds_in}
+use Rattle.weigh.specs.Weigh.{refused, weighed, holds_in, answer_in}
 use Rattle.tally.specs.declared.TallyRefusal.{TallyRefusal}
 use Rattle.tally.specs.declared.TallyRefusal.TheVariants.{Check, NoCell, TooFew, TooMany}
-use Rattle.tally.specs.declared.Tallying.{Tallying}
-use Rattle.tally.specs.declared.Tallying.TheVariants.{Holding, Refused}
 use Rattle.tally.specs.declared.Head.{Head}
 use Rattle.tally.specs.declared.Tally.{Tally}
 use Rattle.tally.specs.declared.Opened.{Opened}
@@ -38,9 +36,8 @@ number_of TooFew = 59
 number_of TooMany = 60
 
 -- the paper's number and values for each case of the enum
-abbrev pub answer_of : Tallying → WeighAnswer
-answer_of (Holding b) = weighed b
-answer_of (Refused r) = refused (number_of r)
+abbrev pub answer_of : Result Bool TallyRefusal → WeighAnswer
+answer_of = answer_in number_of
 
 -- ---- the tally of counts: totals and leasts "worked out afresh from the present counts with that limit"
 

@@ -10,16 +10,18 @@ ghost use Rattle.arrays.specs.Arrays.{at};
 ghost use Rattle.weigh.specs.Checks.{check_number};
 ghost use Rattle.weigh.specs.Weigh.{refused};
 ghost use Rattle.weigh.specs.Inner.{Weighable};
-ghost use Rattle.tally.specs.Call.{call_of, counted};
+ghost use Rattle.tally.specs.Call.{adding, call_of, counted};
 ghost use Rattle.tally.specs.Renew.{renewed};
 ghost use Rattle.tally.specs.Tally.{number_of, answer_of, no_tally, opened, open_result, counted_cells, holding};
-ghost use Rattle.tally.specs.Tally.{tally_with, tally_after, call_result};
+ghost use Rattle.tally.specs.Tally.{tally_with, number_in, tally_after, call_result};
 ghost use Rattle.tally.specs.Inner.{named, checked_number, amount_number, Countable, CellsChangeable};
 
 use limit::{MAX_NODES, MAX_TOTAL};
 use sheet::Sheet;
+use tree::links::Helpers;
 use weigh::WeighAnswer;
-use weigh::check::{CheckRefusal, PairReading};
+use weigh::check::CheckRefusal;
+use words::Refusal;
 
 pub mod lay;
 pub mod renew;
@@ -44,9 +46,16 @@ pub struct Tally {
     pub cells: [u32; CELLS],
 }
 
+// What a call does with its particles.
+#[derive(Clone, Copy, Debug, PartialEq, Eq)]
+pub enum Operation {
+    Add,
+    Remove,
+}
+
 // Why an opening or a call is refused: as *weigh* up to 24; the call names no cell or no particles; it removes more than the cell has;
 // it makes the total too large.
-#[derive(Drop)]
+#[derive(Clone, Copy, Debug, PartialEq, Eq)]
 pub enum TallyRefusal {
     Check(CheckRefusal),
     NoCell,
@@ -54,18 +63,17 @@ pub enum TallyRefusal {
     TooMany,
 }
 
-// Whether the tree holds, or why there is no answer.
-#[derive(Drop)]
-pub enum Tallying {
-    Holding(bool),
-    Refused(TallyRefusal),
-}
+impl Refusal for TallyRefusal {
+    ghost number_of = { number_of };
 
-// Whether the checks of a call pass, or why not.
-#[derive(Drop)]
-enum CallCheck {
-    Passed,
-    Refused(TallyRefusal),
+    fn number(self) -> u32 {
+        match self {
+            TallyRefusal::Check(r) => r.number(),
+            TallyRefusal::NoCell => 58,
+            TallyRefusal::TooFew => 59,
+            TallyRefusal::TooMany => 60,
+        }
+    }
 }
 
 // What an opening gives: its answer, and the head of the tally.
@@ -82,32 +90,11 @@ pub struct Called {
     pub total: u32,
 }
 
-// Document 02's number of a refusal.
-fn number(r: TallyRefusal) -> u32
-    ensures { result ≡ number_of r }
+// Whether the tree holds, or why there is no answer, in document 02's numbers.
+fn answer(holding: Result<bool, TallyRefusal>) -> WeighAnswer
+    ensures { result ≡ answer_of holding }
 {
-    match r {
-        TallyRefusal::Check(r) => weigh::check::number(r),
-        TallyRefusal::NoCell => 58,
-        TallyRefusal::TooFew => 59,
-        TallyRefusal::TooMany => 60,
-    }
-}
-
-// The answer in document 02's numbers.
-fn answer(t: Tallying) -> WeighAnswer
-    ensures { result ≡ answer_of t }
-{
-    match t {
-        Tallying::Holding(holds) => WeighAnswer {
-            refusal: 0,
-            holds: holds as u32,
-        },
-        Tallying::Refused(r) => WeighAnswer {
-            refusal: number(r),
-            holds: 0,
-        },
-    }
+    weigh::answer(holding)
 }
 
 // Opens a tally from a sheet and a plan that were read.
@@ -124,12 +111,12 @@ fn open_read(sheet: &[u8], plan: &[u8], s: Sheet, cells: &mut [u32; CELLS]) -> O
     let holds = tree::least::holds(leasts, nodes, s.limit);
     *cells = lay::lay_out(&totals, &leasts, &table);
     Opened {
-        answer: answer(Tallying::Holding(holds)),
+        answer: answer(Ok(holds)),
         head: Head {
             n: s.n,
             limit: s.limit,
             total: s.p,
-            helpands: helpands,
+            helpands,
         },
     }
 }
@@ -140,7 +127,7 @@ fn open_refused(r: CheckRefusal, cells: &mut [u32; CELLS]) -> Opened
 {
     *cells = [0u32; CELLS];
     Opened {
-        answer: answer(Tallying::Refused(TallyRefusal::Check(r))),
+        answer: answer(Err(TallyRefusal::Check(r))),
         head: Head {
             n: 0,
             limit: 0,
@@ -156,8 +143,8 @@ pub fn open(sheet: &[u8], plan: &[u8], cells: &mut [u32; CELLS]) -> Opened
         × (cells.new ≡ (opened sheet.now plan.now).cells) }
 {
     match weigh::check::read_pair(sheet, plan) {
-        PairReading::Refused(r) => open_refused(r, cells),
-        PairReading::Accepted(s) => open_read(sheet, plan, s, cells),
+        Err(r) => open_refused(r, cells),
+        Ok(s) => open_read(sheet, plan, s, cells),
     }
 }
 
@@ -165,19 +152,11 @@ pub fn open(sheet: &[u8], plan: &[u8], cells: &mut [u32; CELLS]) -> Opened
 fn is_named(n: u32, helpands: [u32; 64], holder: u32, subdomain: u32, count: u32) -> bool
     ensures { result ≡ named n (at helpands) holder subdomain count }
 {
-    if n > MAX_NODES {
-        return false;
-    }
-    if holder >= n {
-        return false;
-    }
-    if subdomain >= n {
-        return false;
-    }
-    if count == 0 {
-        return false;
-    }
-    plan::tree::helpands_below(helpands, n)
+    n <= MAX_NODES
+        && holder < n
+        && subdomain < n
+        && count != 0
+        && plan::tree::helpands_below(helpands, n)
 }
 
 // Whether so many more make the total too large. The sum may take more than 32 bits.
@@ -188,33 +167,54 @@ fn exceeds(total: u32, count: u32) -> bool
 }
 
 // Checks a call by what its cell has, what its subdomain has, and the total.
-fn check_amounts(has: u32, own: u32, total: u32, count: u32, adds: bool) -> CallCheck
-    ensures { checked_number result ≡ amount_number has own total count adds }
+fn check_amounts(
+    has: u32,
+    own: u32,
+    total: u32,
+    count: u32,
+    operation: Operation,
+) -> Result<(), TallyRefusal>
+    ensures { checked_number result ≡ amount_number has own total count (adding operation) }
 {
-    if has > own {
-        return CallCheck::Refused(TallyRefusal::NoCell);
+    if has > own || own > total {
+        return Err(TallyRefusal::NoCell);
     }
-    if own > total {
-        return CallCheck::Refused(TallyRefusal::NoCell);
+    match operation {
+        Operation::Add if exceeds(total, count) => Err(TallyRefusal::TooMany),
+        Operation::Remove if has < count => Err(TallyRefusal::TooFew),
+        _ => Ok(()),
     }
-    if adds {
-        if exceeds(total, count) {
-            return CallCheck::Refused(TallyRefusal::TooMany);
-        }
-        return CallCheck::Passed;
+}
+
+// Checks a call, and the tally that it is lent.
+fn check_call(
+    h: &Head,
+    cells: &[u32; CELLS],
+    holder: u32,
+    subdomain: u32,
+    count: u32,
+    operation: Operation,
+) -> Result<(), TallyRefusal>
+    ensures { checked_number result
+        ≡ number_in (tally_with h.now cells.now) (call_of (adding operation) holder subdomain count) }
+{
+    if !is_named(h.n, h.helpands, holder, subdomain, count) {
+        return Err(TallyRefusal::NoCell);
     }
-    if has < count {
-        return CallCheck::Refused(TallyRefusal::TooFew);
-    }
-    CallCheck::Passed
+    let n = subdomain as usize;
+    let has = cells[128 + sheet::table::cell(holder as usize, n)];
+    check_amounts(has, cells[n], h.total, count, operation)
 }
 
 // What a call makes of a number of particles.
-fn count_in(x: u32, count: u32, adds: bool) -> u32
-    requires { Countable adds count x }
-    ensures { result ≡ counted adds count x }
+fn count_in(x: u32, count: u32, operation: Operation) -> u32
+    requires { Countable (adding operation) count x }
+    ensures { result ≡ counted (adding operation) count x }
 {
-    if adds { x + count } else { x - count }
+    match operation {
+        Operation::Add => x + count,
+        Operation::Remove => x - count,
+    }
 }
 
 // Counts the particles of an accepted call, and renews the leasts. The helpands are those of the head, and n is the subdomain.
@@ -226,34 +226,30 @@ fn change_cells(
     holder: usize,
     n: usize,
     count: u32,
-    adds: bool,
+    operation: Operation,
 )
-    requires { CellsChangeable nodes (at helpands.now) cells.old (call_of adds holder n count) }
+    requires { CellsChangeable nodes (at helpands.now) cells.old (call_of (adding operation) holder n count) }
     ensures { cells.new
         ≡ renewed nodes (at helpands.now) limit (suc nodes) n
-        (counted_cells cells.old (call_of adds holder n count)) }
+        (counted_cells cells.old (call_of (adding operation) holder n count)) }
 {
     let cell = 128 + sheet::table::cell(holder, n);
     let has = cells[cell];
     let own = cells[n];
-    cells[cell] = count_in(has, count, adds);
-    cells[n] = count_in(own, count, adds);
-    let links = tree::links::helper_links(helpands, nodes);
-    renew::renew(helpands, &links, nodes, limit, n, cells);
+    cells[cell] = count_in(has, count, operation);
+    cells[n] = count_in(own, count, operation);
+    let helpers = Helpers::of(helpands, nodes);
+    renew::renew(&helpers, limit, n, cells);
 }
 
-// "The tree holds if no least is above L."
+// "The tree holds if no least is above L." It looks at all of them, which takes less time than to stop at the first.
 fn holds(cells: &[u32; CELLS], nodes: usize, limit: u32) -> bool
     requires { nodes ≤ max_nodes }
     ensures { result ≡ holding nodes limit cells.now }
 {
     let mut fine = true;
-    let mut k = 0;
-    while k < nodes {
-        if limit < cells[64 + k] {
-            fine = false;
-        }
-        k += 1;
+    for least in &cells[64..64 + nodes] {
+        fine &= *least <= limit;
     }
     fine
 }
@@ -265,32 +261,24 @@ pub fn change(
     holder: u32,
     subdomain: u32,
     count: u32,
-    adds: bool,
+    operation: Operation,
 ) -> Called
-    ensures { (result ≡ call_result (tally_with h cells.old) (call_of adds holder subdomain count))
-        × (cells.new ≡ (tally_after (tally_with h cells.old) (call_of adds holder subdomain count)).cells) }
+    ensures { (result ≡ call_result (tally_with h cells.old) (call_of (adding operation) holder subdomain count))
+        × (cells.new ≡ (tally_after (tally_with h cells.old) (call_of (adding operation) holder subdomain count)).cells) }
 {
-    let helpands = h.helpands;
-    if !is_named(h.n, helpands, holder, subdomain, count) {
-        return Called {
-            answer: answer(Tallying::Refused(TallyRefusal::NoCell)),
-            total: h.total,
-        };
-    }
-    let k = holder as usize;
-    let n = subdomain as usize;
-    let has = cells[128 + sheet::table::cell(k, n)];
-    match check_amounts(has, cells[n], h.total, count, adds) {
-        CallCheck::Refused(r) => Called {
-            answer: answer(Tallying::Refused(r)),
+    match check_call(&h, cells, holder, subdomain, count, operation) {
+        Err(r) => Called {
+            answer: answer(Err(r)),
             total: h.total,
         },
-        CallCheck::Passed => {
+        Ok(()) => {
             let nodes = h.n as usize;
-            change_cells(cells, &helpands, nodes, h.limit, k, n, count, adds);
+            let k = holder as usize;
+            let n = subdomain as usize;
+            change_cells(cells, &h.helpands, nodes, h.limit, k, n, count, operation);
             Called {
-                answer: answer(Tallying::Holding(holds(cells, nodes, h.limit))),
-                total: count_in(h.total, count, adds),
+                answer: answer(Ok(holds(cells, nodes, h.limit))),
+                total: count_in(h.total, count, operation),
             }
         }
     }

@@ -4,10 +4,11 @@ use mathlib.Core.Path.{◌≡◌}
 use mathlib.Core.List.{List}
 use Prim.Native.Nat.{ℕ, zero, suc, ◌+◌, ◌*◌, ◌≤◌, ◌<◌}
 use native.Mathlib.Omega.{arith}
-use lib.ListN.{length, get_or, length-append}
+use lib.ListN.{length, get_or, take, length-append}
+use lib.Seq.{get_or-take}
+use Rattle.fold.proofs.Lists.{collect-eq}
 use Rattle.fold.specs.Collect.{collect}
 use Rattle.limit.specs.Limit.{max_nodes}
-use Rattle.moves.specs.Moves.{subdomain, sender, receiver}
 use Rattle.text.specs.Text.{decimal, blank, newline, ascii, field, head_line, node_line, nodes_text, move_line, moves_text, step_text, refused_text}
 use Rattle.text.proofs.Digits.{digits_le, digits_short}
 
@@ -29,31 +30,17 @@ node-field-le node end h = omega (arith, length-field (ascii "node") node end, d
 
 pub head-le : (kind limit : ℕ) → length (head_line kind limit) ≤ 64
 unfolding head_line
-head-le kind limit = simp length-append (omega (arith, field-le (ascii "kind") kind blank, field-le (ascii "limit") limit newline))
+head-le kind limit = simp length-append (omega (arith, field-le))
 
 pub node-le : (node helpand share own : ℕ) → node < max_nodes → length (node_line node helpand share own) ≤ 64
 unfolding node_line
 node-le node helpand share own h =
-    simp length-append
-    (omega (
-      arith,
-      node-field-le node blank h,
-      field-le (ascii "helps") helpand blank,
-      field-le (ascii "share") share blank,
-      field-le (ascii "own") own newline,
-    ))
+    simp length-append (omega (arith, node-field-le node blank h, field-le))
 
 pub move-le : (route count : ℕ) → length (move_line route count) ≤ 64
 unfolding move_line
 move-le route count =
-    simp length-append
-    (omega (
-      arith,
-      field-le (ascii "move") (subdomain route) blank,
-      field-le (ascii "from") (sender route) blank,
-      field-le (ascii "to") (receiver route) blank,
-      field-le (ascii "count") count newline,
-    ))
+    simp length-append (omega (arith, field-le))
 
 pub refused-le : (number : ℕ) → length (refused_text number) ≤ 64
 unfolding refused_text
@@ -71,6 +58,16 @@ nodes-le n helpands shares own h = collect-le 64 n _ (λ k l. node-le k (get_or 
 
 pub moves-le : (e : ℕ) (routes counts : List ℕ) → length (moves_text e routes counts) ≤ 64 * e
 moves-le e routes counts = collect-le 64 e _ (λ i l. move-le (get_or routes i 0) (get_or counts i 0))
+
+-- the lines of the first e entries of two arrays
+pub moves-front : (e : ℕ) (routes counts : List ℕ) → moves_text e (take e routes) (take e counts) ≡ moves_text e routes counts
+moves-front e routes counts =
+    collect-eq e _ _ (λ i l. rw (get_or-take e routes i 0 l, get_or-take e counts i 0 l))
+
+pub step-front : (kind limit n : ℕ) (helpands shares own : List ℕ) (e : ℕ) (routes counts : List ℕ)
+    → step_text kind limit n helpands shares own e (take e routes) (take e counts) ≡ step_text kind limit n helpands shares own e routes counts
+unfolding step_text
+step-front kind limit n helpands shares own e routes counts = rw (moves-front e routes counts)
 
 -- THEOREM. The text of a step with n nodes and e moves has at most 64 × (1 + n + e) bytes.
 pub step-le : (kind limit n : ℕ) (helpands shares own : List ℕ) (e : ℕ) (routes counts : List ℕ) → n ≤ max_nodes

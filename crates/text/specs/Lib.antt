@@ -2,3 +2,4 @@ pub mod Text
 pub mod Columns
 pub mod Split
 pub mod Inner
+pub mod Writer

@@ -7,6 +7,8 @@ ghost use Rattle.limit.specs.Limit.{max_nodes};
 ghost use Rattle.words.specs.Buffer.{placed};
 ghost use Rattle.text.specs.Text.{step_text, refused_text};
 
+use put::Writer;
+
 pub mod lines;
 pub mod put;
 pub mod split;
@@ -22,16 +24,19 @@ pub fn write_step(
     own: [u32; 64],
     routes: &[u32],
     counts: &[u32],
-    e: usize,
 ) -> usize
-    requires { (nodes ≤ max_nodes) × (e ≤ length routes.now) × (e ≤ length counts.now) × (64 * (1 + nodes + e) ≤ length out.old) }
-    ensures size { result ≡ length (step_text kind limit nodes helpands shares own e routes.now counts.now) }
-    ensures bytes { out.new ≡ placed (step_text kind limit nodes helpands shares own e routes.now counts.now)
+    requires few { nodes ≤ max_nodes }
+    requires same { length routes.now ≡ length counts.now }
+    requires room { 64 * (1 + nodes + length routes.now) ≤ length out.old }
+    ensures size { result ≡ length (step_text kind limit nodes helpands shares own (length routes.now) routes.now counts.now) }
+    ensures bytes { out.new ≡ placed (step_text kind limit nodes helpands shares own (length routes.now) routes.now counts.now)
         out.old }
 {
-    let first = lines::put_head(out, 0, kind, limit);
-    let second = lines::put_nodes(out, first, nodes, helpands, shares, own);
-    lines::put_moves(out, second, routes, counts, e)
+    let mut w = Writer::new(out);
+    lines::put_head(&mut w, kind, limit);
+    lines::put_nodes(&mut w, nodes, helpands, shares, own);
+    lines::put_moves(&mut w, routes, counts);
+    w.at
 }
 
 // Writes the text of a refusal to the front of out, and gives its length.
@@ -40,5 +45,7 @@ pub fn write_refused(out: &mut [u8], number: u32) -> usize
     ensures size { result ≡ length (refused_text number) }
     ensures bytes { out.new ≡ placed (refused_text number) out.old }
 {
-    lines::put_refused(out, 0, number)
+    let mut w = Writer::new(out);
+    lines::put_refused(&mut w, number);
+    w.at
 }

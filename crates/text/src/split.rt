@@ -2,17 +2,15 @@
 ghost use Rattle.std.specs.Prelude.{◌≡◌};
 ghost use Rattle.text.specs.Split.{split_at};
 
-use sheet::HeaderReading;
-
 // How many bytes of the input are the sheet; what is left is the old plan. The size is worked out only once the header has passed:
 // of any word E it could exceed 32 bits.
 pub fn split(input: &[u8]) -> usize
     ensures { result ≡ split_at input.now }
 {
     let all = input.len();
-    let HeaderReading::Accepted(h) = sheet::read_header(input) else {
+    let Ok(h) = sheet::read_header(input) else {
         return all;
     };
     let size = 4 * (3 + 2 * h.e as usize);
-    if all < size { all } else { size }
+    size.min(all)
 }

@@ -21,10 +21,9 @@ use Rattle.carry.specs.Checks.{routes_in, counts_in}
 use Rattle.carry.proofs.Checks.{Carriable}
 use Rattle.text.specs.Text.{decimal, ascii, blank, newline}
 use Rattle.text.specs.Columns.{right_aligned, read_column}
-use Rattle.text.proofs.Lengths.{decimal-le}
 use Rattle.text.proofs.Columns.{length_aligned, read_aligned}
 use Rattle.traffic.specs.Page.{sent_by, received_by, line, node_lines, last_line, page_of, page_in, page_answer, page_after, line_at, node_column, sent_column, received_column, PageReadBack}
-use Rattle.traffic.proofs.Lines.{node_short, length-line, length_lines, length-nodes, length_last, length-page}
+use Rattle.traffic.proofs.Lines.{node_short, length-column, length-line, length_lines, length-nodes, length_last, length-page}
 use Rattle.traffic.proofs.Sums.{total-small, sent-sum, received-sum}
 use Rattle.traffic.proofs.Printed.{printed, prints}
 
@@ -66,10 +65,10 @@ module _ (node : List ℕ) (sent received : ℕ) (short : length node ≤ 2) whe
   size_1 = length_aligned 2 node short
 
   size_2 : length second ≡ 10
-  size_2 = length_aligned 10 (decimal sent) (decimal-le sent)
+  size_2 = length-column sent
 
   size_3 : length third ≡ 10
-  size_3 = length_aligned 10 (decimal received) (decimal-le received)
+  size_3 = length-column received
 
   node-is : node_column (line node sent received) ≡ first
   unfolding line

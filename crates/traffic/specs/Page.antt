@@ -1,13 +1,13 @@
 -- Request 2026-04, *Traffic page*: "The shift desk pins up each step's traffic. From a sheet and moves that *carry out* would accept,
 -- buffer aside, write N lines of 25 bytes".
-use Rattle.std.specs.Prelude.{◌≡◌, ℕ, ◌+◌, ◌*◌, ◌<◌, List, [], ◌∷◌, ◌++◌, ltb, length}
+use Rattle.std.specs.Prelude.{◌≡◌, ℕ, ◌+◌, ◌*◌, ◌<◌, List, [], ◌∷◌, ◌++◌, ltb, length, Result}
 use Rattle.fold.specs.Sum.{sum, total}
 use Rattle.fold.specs.Collect.{collect}
 use Rattle.words.specs.Words.{part}
 use Rattle.words.specs.Checks.{refuse_if, refuse_as}
 use Rattle.words.specs.Buffer.{after_call}
 use Rattle.words.specs.declared.WrittenAnswer.{WrittenAnswer}
-use Rattle.words.specs.Answer.{refused, accepted}
+use Rattle.words.specs.Answer.{refused, accepted, answer_of as written_answer_of}
 use Rattle.sheet.specs.Sheet.{read_sheet}
 use Rattle.sheet.specs.Table.{table_in, held}
 use Rattle.moves.specs.Moves.{sender, receiver}
@@ -17,8 +17,6 @@ use Rattle.text.specs.Text.{decimal, ascii, blank, newline}
 use Rattle.text.specs.Columns.{right_aligned, read_column}
 use Rattle.traffic.specs.declared.PageRefusal.{PageRefusal}
 use Rattle.traffic.specs.declared.PageRefusal.TheVariants.{Check, Buffer}
-use Rattle.traffic.specs.declared.Printing.{Printing}
-use Rattle.traffic.specs.declared.Printing.TheVariants.{Printed, Refused}
 
 -- ---- answers
 
@@ -28,9 +26,8 @@ number_of (Check r) = check_number r
 number_of Buffer = 53
 
 -- the paper's number and values for each case of the enum
-abbrev pub answer_of : Printing → WrittenAnswer
-answer_of (Printed bytes) = accepted bytes
-answer_of (Refused r) = refused (number_of r)
+abbrev pub answer_of : Result ℕ PageRefusal → WrittenAnswer
+answer_of = written_answer_of number_of
 
 -- ---- the traffic of moves: each node's sent and received, over all subdomains and partners
 

@@ -1,12 +1,12 @@
 -- What the inner functions of this crate ask of each other. No promise to a caller rests on these definitions.
-use Rattle.std.specs.Prelude.{◌≡◌, ℕ, ◌+◌, ◌*◌, ◌≤◌, ◌<◌, List, ltb, length, get_or}
-use Rattle.fold.specs.First.{FirstFrom}
+use Rattle.std.specs.Prelude.{◌≡◌, ℕ, ◌+◌, ◌*◌, ◌≤◌, ◌<◌, List, length, get_or, None, Option, Some}
 use Rattle.limit.specs.Limit.{max_total, table_size}
 use Rattle.arrays.specs.Arrays.{at}
 use Rattle.words.specs.Words.{words}
 use Rattle.tree.specs.Family.{over_helpers}
 use Rattle.moves.specs.Moves.{routes_of, counts_of}
 use Rattle.transfer.specs.Apply.{receives}
+use Rattle.transfer.specs.declared.matching.Remaining.{Remaining}
 
 -- what due amounts and moves ask of a plan: each helpand is a node, and no owner's helpers are given more than there is
 pub record Allotted (nodes : ℕ) (h total share : ℕ → ℕ) : Type 0 where
@@ -14,9 +14,11 @@ pub record Allotted (nodes : ℕ) (h total share : ℕ → ℕ) : Type 0 where
   pub enough : (n : ℕ) → n < nodes → over_helpers nodes h n share ≤ total n
 
 -- a step of going through nodes "by rising number": the first node from `from` on with an amount, and the amount
-pub record NextFrom (nodes : ℕ) (amount : ℕ → ℕ) (from node count : ℕ) : Type 0 where
-  pub first : FirstFrom nodes (λ k. ltb 0 (amount k)) from node
-  pub is : node < nodes → count ≡ amount node
+abbrev pub NextAbove : ℕ → (ℕ → ℕ) → ℕ → Option Remaining → Type 0
+NextAbove nodes amount from None = (k : ℕ) → from ≤ k → k < nodes → amount k ≡ 0
+NextAbove nodes amount from (Some x) =
+    (from ≤ x.node) × (x.node < nodes) × (x.count ≡ amount x.node) × (0 < x.count)
+    × ((k : ℕ) → from ≤ k → k < x.node → amount k ≡ 0)
 
 -- what reading moves entry by entry asks: the bytes of moves with e entries, each route one of 64 × 4,096
 pub record Readable (moves : List ℕ) (e : ℕ) : Type 0 where

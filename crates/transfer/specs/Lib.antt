@@ -2,3 +2,4 @@ pub mod Due
 pub mod Matching
 pub mod Apply
 pub mod Inner
+pub mod List

@@ -1,6 +1,6 @@
 // Document 01, *Carry out*: "42, some cell sends in all more than the old sheet gives it", and the table that follows, "each cell
 // less what it sends, plus what it receives".
-ghost use Rattle.std.specs.Prelude.{◌≡◌, true, ◌≤◌};
+ghost use Rattle.std.specs.Prelude.{◌≡◌, true, ◌*◌, ◌≤◌, ◌<◌};
 ghost use Rattle.fold.specs.Sum.{sum};
 ghost use Rattle.arrays.specs.Arrays.{at};
 ghost use Rattle.limit.specs.Limit.{max_total, table_size};
@@ -13,7 +13,8 @@ use moves::route;
 
 // The cell that a route leads from.
 fn from_cell(route: u32) -> usize
-    ensures { result ≡ from_cell route }
+    ensures cell { result ≡ from_cell route }
+    ensures inside { route < 64 * table_size → result < table_size }
 {
     sheet::table::cell(
         route::sender(route) as usize,
@@ -23,7 +24,8 @@ fn from_cell(route: u32) -> usize
 
 // The cell that a route leads to.
 fn into_cell(route: u32) -> usize
-    ensures { result ≡ into_cell route }
+    ensures cell { result ≡ into_cell route }
+    ensures inside { route < 64 * table_size → result < table_size }
 {
     sheet::table::cell(
         route::receiver(route) as usize,
@@ -40,15 +42,13 @@ pub fn subtract_sends(table: &mut [u32; TABLE_SIZE], moves: &[u8], e: usize) -> 
     ensures left { result ≡ true
         → table.new ≡ less_sends table.old (routes_of moves.now e) (counts_of moves.now e) }
 {
-    let mut i = 0;
-    while i < e {
+    for i in 0..e {
         let from = from_cell(words::word_number(moves, 2 + i));
         let sent = words::word_number(moves, 2 + e + i);
         if table[from] < sent {
             return false;
         }
         table[from] -= sent;
-        i += 1;
     }
     true
 }
@@ -58,12 +58,10 @@ pub fn add_receipts(table: &mut [u32; TABLE_SIZE], moves: &[u8], e: usize)
     requires { Ready table.old moves.now e × Room table.old moves.now e }
     ensures { table.new ≡ plus_receipts table.old (routes_of moves.now e) (counts_of moves.now e) }
 {
-    let mut i = 0;
-    while i < e {
+    for i in 0..e {
         let into = into_cell(words::word_number(moves, 2 + i));
         let received = words::word_number(moves, 2 + e + i);
         table[into] += received;
-        i += 1;
     }
 }
 

@@ -18,13 +18,11 @@ pub fn own_amounts(
     ensures { result ≡ tabulate nodes (own_of nodes (at helpands) (at totals) (at shares)) }
 {
     let mut own = totals;
-    let mut k = 0;
-    while k < nodes {
+    for k in 0..nodes {
         let owner = helpands[k] as usize;
         if owner != k {
-            own[owner] = own[owner] - shares[k];
+            own[owner] -= shares[k];
         }
-        k += 1;
     }
     own
 }
@@ -54,10 +52,8 @@ pub fn due_amounts(
     ensures { result ≡ tabulate nodes (due_with (at helpands.now) (at shares.now) own n) }
 {
     let mut due = [0u32; 64];
-    let mut k = 0;
-    while k < nodes {
+    for k in 0..nodes {
         due[k] = due_amount(helpands[k], shares[k], own, n as u32, k as u32);
-        k += 1;
     }
     due
 }

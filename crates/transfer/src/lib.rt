@@ -3,4 +3,5 @@
 
 pub mod apply;
 pub mod due;
+pub mod list;
 pub mod matching;

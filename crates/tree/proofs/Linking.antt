@@ -13,7 +13,7 @@ use Rattle.tree.specs.Family.{helps, over_helpers}
 use Rattle.fold.specs.First.{FirstFrom}
 use Rattle.fold.proofs.First.{first-end, first-here, first-later}
 use Rattle.tree.specs.Links.{Linked}
-use Rattle.tree.proofs.Families.{helps_of, helps-yes, helps_self, helps-other, helper-below, helpers_none, helpers_next, helpers_more}
+use Rattle.tree.proofs.Families.{helps-yes, helps_self, helps-other, helpers_none, helpers_next, helpers_more}
 
 -- the links once node m, which helps g, is put before g's other helpers
 abbrev link_to : List ℕ → ℕ → ℕ → List ℕ
@@ -22,6 +22,7 @@ link_to links g m = set (set links (64 + m) (at links g)) g m
 -- the links among the nodes from m on
 pub record Linking (nodes : ℕ) (h : ℕ → ℕ) (m : ℕ) (links : List ℕ) : Type 0 where
   pub first : (n : ℕ) → n < nodes → FirstFrom nodes (helps h n) m (at links n)
+  pub onward : (k : ℕ) → k < nodes → k < at links (64 + k)
   pub next : (k : ℕ) → m ≤ k → k < nodes → h k ≢ k → FirstFrom nodes (helps h (h k)) (k + 1) (at links (64 + k))
 
 module _ {nodes : ℕ} {h : ℕ → ℕ} where
@@ -30,6 +31,7 @@ module _ {nodes : ℕ} {h : ℕ → ℕ} where
   pub linking_none : nodes ≤ 64 → Linking nodes h nodes (replicate 128 nodes)
   linking_none b = record {
     first = λ n l. rw (get_or-replicate 128 n nodes 0 (omega arith)) (first-end nodes (helps h n));
+    onward = λ k l. rw (get_or-replicate 128 (64 + k) nodes 0 (omega arith)) l;
     next = λ k c l. absurd (omega arith);
   }
 
@@ -39,6 +41,7 @@ module _ {nodes : ℕ} {h : ℕ → ℕ} where
       | yes q ↦ helps_self h n m (sym e ∙ q)
       | no d ↦ helps-other h n m d
     ]);
+    onward = x.onward;
     next = λ k b l d. x.next k (elim (ℕ_discrete k m) [
       | yes q ↦ absurd (d (rw q e))
       | no c ↦ omega arith
@@ -54,6 +57,10 @@ module _ {nodes : ℕ} {h : ℕ → ℕ} where
       | no c ↦
           rw (other n c (λ p. absurd (omega arith)))
           (first-later nodes (helps h n) m (at links n) (x.first n ln) (helps-other h n m (λ p. c (sym p))))
+    ];
+    onward = λ k lk. elim (ℕ_discrete k m) [
+      | yes q ↦ rw (q, after) (omega (arith, (x.first (h m) i).from_le))
+      | no f ↦ rw (other (64 + k) (λ p. absurd (omega arith)) (λ p. f (omega arith))) (x.onward k lk)
     ];
     next = λ k c lk dk. elim (ℕ_discrete k m) [
       | yes q ↦ rw (q, after) (x.first (h m) i)
@@ -76,15 +83,7 @@ module _ {nodes : ℕ} {h : ℕ → ℕ} where
 
   -- after it
   pub linked-all : {links : List ℕ} → Linking nodes h 0 links → Linked nodes h links
-  linked-all x = record { first = x.first; next = λ k l d. x.next k (omega arith) l d }
-
--- where a loop over the helpers of n begins, and the next helper behind its helper k
-module _ {nodes : ℕ} {h : ℕ → ℕ} {links : List ℕ} (x : Linked nodes h links) (n : ℕ) where
-  pub link_first : {to : ℕ} → n < nodes → to ≡ at links n → FirstFrom nodes (helps h n) 0 to
-  link_first l e = rw e (x.first n l)
-
-  pub link_next : {k to : ℕ} → k < nodes → helps h n k ≡ true → to ≡ at links (64 + k) → FirstFrom nodes (helps h n) (k + 1) to
-  link_next {k} l y e = rw (e, ← helps_of h n k y) (x.next k l (helper-below h n k y))
+  linked-all x = record { first = x.first; onward = x.onward; next = λ k l d. x.next k (omega arith) l d }
 
 -- ---- a loop over the helpers of n: k is the next one, or the number of nodes, and each helper below k has taken its part of x
 

@@ -1,16 +1,8 @@
 -- What the inner functions of this crate ask of each other. No promise to a caller rests on these definitions.
 use Rattle.std.specs.Prelude.{◌≡◌, true, List, ℕ, zero, suc, ◌≤◌, ◌<◌}
-use Rattle.limit.specs.Limit.{max_nodes}
-use Rattle.plan.specs.Tree.{walk, Tree}
+use Rattle.plan.specs.Tree.{walk}
 use Rattle.tree.specs.Family.{helps}
-use Rattle.tree.specs.Links.{Linked}
 use Rattle.arrays.specs.Arrays.{at}
-
--- a tree, with the links from helper to helper
-pub record LinkedTree (nodes : ℕ) (h : ℕ → ℕ) (links : List ℕ) : Type 0 where
-  pub few : nodes ≤ max_nodes
-  pub rooted : (r : ℕ) × Tree nodes h r
-  pub linked : Linked nodes h links
 
 -- the tree below n has fewer than so many levels
 unfoldable pub Shallow : ℕ → (ℕ → ℕ) → ℕ → ℕ → Type 0

@@ -1,17 +1,15 @@
 // Weighing a tree of helpands. "What a helper can spare is L less its least, or 0 if its least is above L. An owner's least is its
 // count less what all its helpers can spare, and never below 0. The tree holds if no least is above L." Least and spare are document
 // 01's words.
-ghost use Rattle.std.specs.Prelude.{◌≡◌, ℕ, ◌-◌, ◌≤◌, ◌<◌, leb, length};
+ghost use Rattle.std.specs.Prelude.{◌≡◌, ℕ, ◌-◌, ◌≤◌, ◌<◌, leb};
 ghost use Rattle.fold.specs.All.{all};
 ghost use Rattle.limit.specs.Limit.{max_nodes};
 ghost use Rattle.plan.specs.Tree.{Tree};
 ghost use Rattle.arrays.specs.Arrays.{at, tabulate};
 ghost use Rattle.tree.specs.Least.{least};
-ghost use Rattle.tree.specs.Links.{Linked};
-ghost use Rattle.tree.specs.Inner.{LinkedTree, Shallow, Descended};
+ghost use Rattle.tree.specs.Inner.{Shallow, Descended};
 
-use super::links;
-use fold::numbers;
+use super::links::Helpers;
 
 // The root of a tree: the node that is its own helpand.
 pub fn find_root(helpands: [u32; 64], nodes: usize) -> usize
@@ -26,35 +24,32 @@ pub fn find_root(helpands: [u32; 64], nodes: usize) -> usize
 }
 
 // The least of node n. It is noted, and so are those of all nodes below n, in the array that is lent down the tree, so that one pass
-// finds them all. The links lead from helper to helper; the helpands are there for the contract. No tree is so deep that the remaining
-// depth is used up.
+// finds them all. No tree is so deep that the remaining depth is used up.
 #[cycle(least_spare)]
 fn least(
     depth: usize,
     n: usize,
     totals: &[u32; 64],
-    helpands: &[u32; 64],
-    links: &[usize; 128],
-    nodes: usize,
+    helpers: &Helpers,
     limit: u32,
     leasts: &mut [u32; 64],
 ) -> u32
-    requires { (LinkedTree nodes (at helpands.now) links.now) × (n < nodes) × (Shallow nodes (at helpands.now) depth n)
-        × (length leasts.old ≡ 64) }
-    ensures { (result ≡ least nodes (at helpands.now) (at totals.now) limit n) × (length leasts.new ≡ 64)
-        × Descended nodes (at helpands.now)
-        (least nodes (at helpands.now) (at totals.now) limit)
+    requires { ((r : ℕ) × Tree helpers.now.nodes (at helpers.now.helpands.now) r) × (n < helpers.now.nodes)
+        × (Shallow helpers.now.nodes (at helpers.now.helpands.now) depth n) }
+    ensures { (result ≡ least helpers.now.nodes (at helpers.now.helpands.now) (at totals.now) limit n)
+        × Descended helpers.now.nodes (at helpers.now.helpands.now)
+        (least helpers.now.nodes (at helpers.now.helpands.now) (at totals.now) limit)
         n leasts.old leasts.new }
 {
     if depth == 0 {
         return 0;
     }
     let mut left = totals[n];
-    let mut k = links::first(links, n);
-    while k < nodes {
-        let spared = spare(depth - 1, k, totals, helpands, links, nodes, limit, leasts);
-        left = numbers::saturating_sub(left, spared);
-        k = links::next(links, k);
+    let mut k = helpers.first(n);
+    while k < helpers.nodes {
+        let spared = spare(depth - 1, k, totals, helpers, limit, leasts);
+        left = left.saturating_sub(spared);
+        k = helpers.next(k);
     }
     leasts[n] = left;
     left
@@ -66,46 +61,28 @@ fn spare(
     depth: usize,
     n: usize,
     totals: &[u32; 64],
-    helpands: &[u32; 64],
-    links: &[usize; 128],
-    nodes: usize,
+    helpers: &Helpers,
     limit: u32,
     leasts: &mut [u32; 64],
 ) -> u32
-    requires { (LinkedTree nodes (at helpands.now) links.now) × (n < nodes) × (Shallow nodes (at helpands.now) depth n)
-        × (length leasts.old ≡ 64) }
-    ensures { (result ≡ limit - least nodes (at helpands.now) (at totals.now) limit n) × (length leasts.new ≡ 64)
-        × Descended nodes (at helpands.now)
-        (least nodes (at helpands.now) (at totals.now) limit)
+    requires { ((r : ℕ) × Tree helpers.now.nodes (at helpers.now.helpands.now) r) × (n < helpers.now.nodes)
+        × (Shallow helpers.now.nodes (at helpers.now.helpands.now) depth n) }
+    ensures { (result ≡ limit - least helpers.now.nodes (at helpers.now.helpands.now) (at totals.now) limit n)
+        × Descended helpers.now.nodes (at helpers.now.helpands.now)
+        (least helpers.now.nodes (at helpers.now.helpands.now) (at totals.now) limit)
         n leasts.old leasts.new }
 {
-    let own = least(depth, n, totals, helpands, links, nodes, limit, leasts);
-    numbers::saturating_sub(limit, own)
+    let own = least(depth, n, totals, helpers, limit, leasts);
+    limit.saturating_sub(own)
 }
 
-// The leasts of all nodes of a tree, whose helpers are linked.
-pub fn leasts(
-    totals: [u32; 64],
-    helpands: [u32; 64],
-    links: &[usize; 128],
-    nodes: usize,
-    root: usize,
-    limit: u32,
-) -> [u32; 64]
-    requires { (nodes ≤ max_nodes) × (Tree nodes (at helpands) root) × (Linked nodes (at helpands) links.now) }
-    ensures { result ≡ tabulate nodes (least nodes (at helpands) (at totals) limit) }
+// The leasts of all nodes of a tree.
+pub fn leasts(totals: [u32; 64], helpers: &Helpers, root: usize, limit: u32) -> [u32; 64]
+    requires { Tree helpers.now.nodes (at helpers.now.helpands.now) root }
+    ensures { result ≡ tabulate helpers.now.nodes (least helpers.now.nodes (at helpers.now.helpands.now) (at totals) limit) }
 {
     let mut out = [0u32; 64];
-    least(
-        nodes + 1,
-        root,
-        &totals,
-        &helpands,
-        links,
-        nodes,
-        limit,
-        &mut out,
-    );
+    least(helpers.nodes + 1, root, &totals, helpers, limit, &mut out);
     out
 }
 

@@ -5,8 +5,6 @@ use Prim.Native.Nat.{ℕ, ◌≤◌}
 use native.Mathlib.Omega.{arith}
 use borrow.Author.Tests.{le-leb, lt-leb, ne_eqb}
 use lib.Dec.{eqb, leb}
-use mir.Val.{bool_byte}
-use Rattle.fold.specs.Sum.{only}
 use Rattle.sheet.specs.Sheet.{refusal_number as sheet_number}
 use Rattle.sheet.proofs.Answers.{refusal_of as sheet_refusal, numbered as sheet-numbered}
 use Rattle.plan.specs.Plan.{refusal_number as plan_number}
@@ -15,16 +13,10 @@ use Rattle.weigh.specs.declared.check.CheckRefusal.{CheckRefusal}
 use Rattle.weigh.specs.declared.check.CheckRefusal.TheVariants.{Sheet, Plan, NodesDiffer, Primary}
 use Rattle.weigh.specs.declared.WeighRefusal.{WeighRefusal}
 use Rattle.weigh.specs.declared.WeighRefusal.TheVariants.{Check, Buffer}
-use Rattle.weigh.specs.declared.Weighing.{Weighing}
-use Rattle.weigh.specs.declared.Weighing.TheVariants.{Weighed, Refused}
 use Rattle.weigh.specs.declared.WeighAnswer.{WeighAnswer}
 use Rattle.weigh.specs.Checks.{check_number}
 use Rattle.weigh.specs.Weigh.{answer_of}
-
--- a bool as the number that crosses
-pub bool-number : (b : Bool) → bool_byte b ≡ only b 1
-bool-number true = refl
-bool-number false = refl
+use Rattle.std.specs.Prelude.{Bool, Err, Ok, Result}
 
 -- ---- the checks
 
@@ -51,18 +43,18 @@ abbrev refusal_of : ℕ → WeighRefusal
 refusal_of k = cond (leb k 24) (Check (check_of k)) Buffer
 
 -- the weighing of an answer
-abbrev weighing_of : WeighAnswer → Weighing
-weighing_of a = cond (eqb a.refusal 0) (Weighed (eqb a.holds 1)) (Refused (refusal_of a.refusal))
+abbrev weighing_of : WeighAnswer → Result Bool WeighRefusal
+weighing_of a = cond (eqb a.refusal 0) (Ok (eqb a.holds 1)) (Err (refusal_of a.refusal))
 
-back : (w : Weighing) → weighing_of (answer_of w) ≡ w
-back (Weighed true) = refl
-back (Weighed false) = refl
-back (Refused (Check r)) =
+back : (w : Result Bool WeighRefusal) → weighing_of (answer_of w) ≡ w
+back (Ok true) = refl
+back (Ok false) = refl
+back (Err (Check r)) =
     let n = numbered r in
     rw (ne_eqb (check_number r) 0 (λ z. omega (arith, n.0)), le-leb (check_number r) 24 n.1)
-    (ap (λ (x : CheckRefusal). Refused (Check x)) n.2)
-back (Refused Buffer) = refl
+    (ap (λ (x : CheckRefusal). Err (Check x)) n.2)
+back (Err Buffer) = refl
 
 -- THEOREM. Two weighings with the same numbers are the same.
-pub answer_determines : (a b : Weighing) → answer_of a ≡ answer_of b → a ≡ b
+pub answer_determines : (a b : Result Bool WeighRefusal) → answer_of a ≡ answer_of b → a ≡ b
 answer_determines a b e = sym (back a) ∙ ap weighing_of e ∙ back b

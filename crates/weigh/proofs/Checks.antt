@@ -1,15 +1,15 @@
 -- The checks up to 24: one law for each way out, what they say together, and what is known of a sheet and a plan that passed them.
 -- Assumes nothing.
-use mathlib.Core.Path.{◌≡◌, refl, sym, ap, ◌∙◌}
+use mathlib.Core.Path.{◌≡◌, sym}
 use mathlib.Core.Logic.{◌≢◌}
-use mathlib.Core.Bool.{not}
+use mathlib.Core.Bool.{true}
 use mathlib.Core.List.{List}
 use Prim.Native.Nat.{ℕ, ◌≤◌}
 use native.Mathlib.Omega.{arith}
-use borrow.Author.Tests.{eqb-true, eqb-false, eq-eqb, ne_eqb, not-false}
+use Rattle.std.proofs.lemmas.Bool.Decides.{nat_tests}
+use borrow.Author.Tests.{eq-eqb, ne_eqb}
 use lib.Dec.{eqb}
 use Rattle.fold.specs.Sum.{sum}
-use Rattle.fold.proofs.Tests.{passed, handed, most}
 use Rattle.limit.specs.Limit.{max_total, table_size}
 use Rattle.arrays.specs.Arrays.{padded, at}
 use Rattle.arrays.proofs.Padded.{padded-same}
@@ -19,17 +19,12 @@ use Rattle.sheet.specs.Table.{table_of}
 use Rattle.sheet.proofs.Accepted.{Accepted as AcceptedSheet, reading_accepted}
 use Rattle.sheet.proofs.Refusals.{sheet-most}
 use Rattle.sheet.proofs.Tables.{table-within}
-use Rattle.plan.specs.declared.Plan.{Plan}
-use Rattle.plan.specs.declared.PlanAnswer.{PlanAnswer}
 use Rattle.plan.specs.Tree.{Tree}
 use Rattle.plan.specs.Plan.{read_plan, helpands_of, accepted as plan_accepted}
 use Rattle.plan.proofs.AcceptedTree.{accepted-tree}
 use Rattle.plan.proofs.Refusals.{plan-most}
-use Rattle.weigh.specs.declared.check.CheckRefusal.{CheckRefusal}
-use Rattle.weigh.specs.declared.check.PairReading.{PairReading}
-use Rattle.weigh.specs.declared.check.PairReading.TheVariants.{Accepted, Refused}
-use Rattle.weigh.specs.Checks.{check_number, checked}
-use Rattle.weigh.specs.Inner.{Weighable, PairRead}
+use Rattle.weigh.specs.Checks.{checked}
+use Rattle.weigh.specs.Inner.{Weighable}
 
 -- ---- the ways out
 
@@ -43,32 +38,15 @@ module _ (s p : List ℕ) where
   stops_plan z k e d = rw (← z, ← e, ne_eqb k 0 d)
 
   -- both were read
-  module _ {h : Sheet} {q : Plan} (a : sheet_accepted h.n h.t h.e h.p h.limit ≡ read_sheet s)
-      (b : plan_accepted q.n q.kind q.limit ≡ read_plan p) where
-    pub stops_differ : h.n ≢ q.n → 21 ≡ checked s p
+  module _ {h : Sheet} {n kind limit : ℕ} (a : sheet_accepted h.n h.t h.e h.p h.limit ≡ read_sheet s)
+      (b : plan_accepted n kind limit ≡ read_plan p) where
+    pub stops_differ : h.n ≢ n → 21 ≡ checked s p
     unfolding checked
-    stops_differ d = rw (← a, ← b, ne_eqb h.n q.n d)
+    stops_differ d = rw (← a, ← b, ne_eqb h.n n d)
 
-    pub stops_primary : h.n ≡ q.n → q.kind ≡ 0 → 24 ≡ checked s p
+    pub stops_primary : h.n ≡ n → true ≡ eqb kind 0 → 24 ≡ checked s p
     unfolding checked
-    stops_primary e z = rw (← a, ← b, eq-eqb h.n q.n e, eq-eqb q.kind 0 z)
-
-    pub stops_nowhere : h.n ≡ q.n → q.kind ≢ 0 → Weighable s p h
-    stops_nowhere e d =
-        record {
-          sheet = a;
-          plan = ap (λ (x : PlanAnswer). x.refusal) (sym b);
-          nodes = ap (λ (x : PlanAnswer). x.n) (sym b) ∙ sym e;
-          kind = λ z. d (ap (λ (x : PlanAnswer). x.kind) b ∙ z);
-        }
-
--- what reading both gave
-module _ (s p : List ℕ) {x : PairReading} (gave : PairRead s p x) where
-  pub pair-refused : {r : CheckRefusal} → x ≡ Refused r → check_number r ≡ checked s p
-  pair-refused e = rw e at gave
-
-  pub pair-accepted : {h : Sheet} → x ≡ Accepted h → Weighable s p h
-  pair-accepted e = rw e at gave
+    stops_primary e z = rw (← a, ← b, eq-eqb h.n n e, ← z)
 
 -- ---- what they say together
 
@@ -83,30 +61,16 @@ module _ (s p : List ℕ) where
   pub passes : checked s p ≡ 0 → Passes
   unfolding checked
   passes q =
-      let f : ℕ → ℕ = λ k. k in
-      let n = (read_sheet s).n in
-      let a₁ = handed f f (λ k. refl) (read_sheet s).refusal _ q in
-      let a₂ = handed f f (λ k. refl) (read_plan p).refusal _ a₁.1 in
-      let a₃ = passed f (not (eqb n (read_plan p).n)) 21 _ (λ z. omega arith) a₂.1 in
-      let a₄ = passed f (eqb (read_plan p).kind 0) 24 _ (λ z. omega arith) a₃.1 in
       record {
-        sheet = a₁.0;
-        plan = a₂.0;
-        nodes = eqb-true n (read_plan p).n (not-false _ a₃.0);
-        kind = eqb-false (read_plan p).kind 0 a₄.0;
+        sheet = grind (arith, nat_tests);
+        plan = grind (arith, nat_tests);
+        nodes = grind (arith, nat_tests);
+        kind = λ z. grind (arith, nat_tests);
       }
 
   pub checked-most : checked s p ≤ 24
   unfolding checked
-  checked-most =
-      let f : ℕ → ℕ = λ k. k in
-      let k = (read_sheet s).refusal in
-      let j = (read_plan p).refusal in
-      let z : 0 ≤ 24 = omega arith in
-      most f 24 (not (eqb k 0)) k _ (omega (arith, sheet-most s))
-      (most f 24 (not (eqb j 0)) j _ (omega (arith, plan-most p))
-      (most f 24 (not (eqb (read_sheet s).n (read_plan p).n)) 21 _ (omega arith)
-      (most f 24 (eqb (read_plan p).kind 0) 24 _ (omega arith) z)))
+  checked-most = grind (arith, nat_tests, sheet-most s, plan-most p)
 
 -- ---- what is known of a sheet and a plan that passed them
 

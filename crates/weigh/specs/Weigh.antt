@@ -1,5 +1,5 @@
 -- Document 01, *Weigh*: "takes sheet and plan, writes N words of least under the sheet's limit, and says whether the tree holds."
-use Rattle.std.specs.Prelude.{◌≡◌, ℕ, ◌*◌, ◌<◌, List, [], ◌∷◌, Bool, ltb, length, get_or}
+use Rattle.std.specs.Prelude.{◌≡◌, ℕ, ◌*◌, ◌<◌, List, [], ◌∷◌, Bool, ltb, length, get_or, Err, Ok, Result}
 use Rattle.fold.specs.Sum.{only}
 use Rattle.fold.specs.Collect.{collect}
 use Rattle.words.specs.Checks.{refuse_if, refuse_as}
@@ -13,8 +13,6 @@ use Rattle.tree.specs.Least.{least, holds}
 use Rattle.weigh.specs.Checks.{check_number, checked}
 use Rattle.weigh.specs.declared.WeighRefusal.{WeighRefusal}
 use Rattle.weigh.specs.declared.WeighRefusal.TheVariants.{Check, Buffer}
-use Rattle.weigh.specs.declared.Weighing.{Weighing}
-use Rattle.weigh.specs.declared.Weighing.TheVariants.{Weighed, Refused}
 use Rattle.weigh.specs.declared.WeighAnswer.{WeighAnswer}
 
 -- ---- answers
@@ -30,10 +28,13 @@ abbrev pub number_of : WeighRefusal → ℕ
 number_of (Check r) = check_number r
 number_of Buffer = 25
 
--- the paper's number and values for each case of the enum
-abbrev pub answer_of : Weighing → WeighAnswer
-answer_of (Weighed b) = weighed b
-answer_of (Refused r) = refused (number_of r)
+-- the paper's number and values for each case, where the refusals have these numbers
+abbrev pub answer_in : {R : Type 0} → (R → ℕ) → Result Bool R → WeighAnswer
+answer_in number (Ok b) = weighed b
+answer_in number (Err r) = refused (number r)
+
+abbrev pub answer_of : Result Bool WeighRefusal → WeighAnswer
+answer_of = answer_in number_of
 
 -- ---- what is weighed, for a sheet s and a plan p that are accepted and have the same N
 

@@ -1,13 +1,15 @@
-// The checks of *weigh* up to 24, as the opening of a tally makes them, too.
+// The checks up to 24, which *weigh* and the opening of a tally both make.
 ghost use Rattle.std.specs.Prelude.{◌≡◌};
 ghost use Rattle.weigh.specs.Checks.{check_number};
+ghost use Rattle.weigh.specs.declared.check.CheckRefusal.TheVariants.{Sheet as OfSheet, Plan as OfPlan};
 ghost use Rattle.weigh.specs.Inner.{PairRead};
 
-use plan::{PlanReading, PlanRefusal};
-use sheet::{Sheet, SheetReading, SheetRefusal};
+use plan::PlanRefusal;
+use sheet::{Sheet, SheetRefusal};
+use words::Refusal;
 
 // Why a plan's tree cannot be weighed under a sheet's limit, in the order of the checks.
-#[derive(Drop)]
+#[derive(Clone, Copy, Debug, PartialEq, Eq)]
 pub enum CheckRefusal {
     Sheet(SheetRefusal),
     Plan(PlanRefusal),
@@ -15,42 +17,46 @@ pub enum CheckRefusal {
     Primary,
 }
 
-// A sheet beside a plan that has a tree of as many nodes, or why they are refused.
-#[derive(Drop)]
-pub enum PairReading {
-    Accepted(Sheet),
-    Refused(CheckRefusal),
+impl From<SheetRefusal> for CheckRefusal {
+    ghost from_gives = { λ r made. made ≡ OfSheet r };
+
+    fn from(r: SheetRefusal) -> CheckRefusal {
+        CheckRefusal::Sheet(r)
+    }
 }
 
-// Reads a sheet and a plan.
-pub fn read_pair(sheet: &[u8], plan: &[u8]) -> PairReading
+impl From<PlanRefusal> for CheckRefusal {
+    ghost from_gives = { λ r made. made ≡ OfPlan r };
+
+    fn from(r: PlanRefusal) -> CheckRefusal {
+        CheckRefusal::Plan(r)
+    }
+}
+
+impl Refusal for CheckRefusal {
+    ghost number_of = { check_number };
+
+    fn number(self) -> u32 {
+        match self {
+            CheckRefusal::Sheet(r) => r.number(),
+            CheckRefusal::Plan(r) => r.number(),
+            CheckRefusal::NodesDiffer => 21,
+            CheckRefusal::Primary => 24,
+        }
+    }
+}
+
+// Reads a sheet and a plan that has a tree of as many nodes.
+pub fn read_pair(sheet: &[u8], plan: &[u8]) -> Result<Sheet, CheckRefusal>
     ensures { PairRead sheet.now plan.now result }
 {
-    match sheet::read_sheet(sheet) {
-        SheetReading::Refused(r) => PairReading::Refused(CheckRefusal::Sheet(r)),
-        SheetReading::Accepted(s) => match plan::read_plan(plan) {
-            PlanReading::Refused(r) => PairReading::Refused(CheckRefusal::Plan(r)),
-            PlanReading::Accepted(p) => {
-                if s.n != p.n {
-                    PairReading::Refused(CheckRefusal::NodesDiffer)
-                } else if p.kind == 0 {
-                    PairReading::Refused(CheckRefusal::Primary)
-                } else {
-                    PairReading::Accepted(s)
-                }
-            }
-        },
+    let s = sheet::read_sheet(sheet)?;
+    let p = plan::read_plan(plan)?;
+    if s.n != p.n {
+        return Err(CheckRefusal::NodesDiffer);
     }
-}
-
-// Document 01's number of a refusal.
-pub fn number(r: CheckRefusal) -> u32
-    ensures { result ≡ check_number r }
-{
-    match r {
-        CheckRefusal::Sheet(r) => sheet::number(r),
-        CheckRefusal::Plan(r) => plan::number(r),
-        CheckRefusal::NodesDiffer => 21,
-        CheckRefusal::Primary => 24,
+    if p.kind.is_primary() {
+        return Err(CheckRefusal::Primary);
     }
+    Ok(s)
 }

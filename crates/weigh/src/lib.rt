@@ -1,6 +1,5 @@
 // *Weigh*: the leasts of a plan's tree under a sheet's limit, written to a lent buffer, and whether the tree holds.
-// The checks up to 24 stand in `check`, too, for the opening of a tally. They are made here in their places: in one function for both they
-// would take *weigh* a twentieth of its time on a dense sheet.
+// The checks up to 24 stand in `check`, for the opening of a tally, too.
 #![tactic(auto)]
 
 ghost use Rattle.std.specs.Prelude.{◌≡◌, ℕ, ◌≤◌, length};
@@ -8,34 +7,65 @@ ghost use Rattle.limit.specs.Limit.{max_nodes};
 ghost use Rattle.arrays.specs.Arrays.{at, tabulate};
 ghost use Rattle.plan.specs.Tree.{Tree};
 ghost use Rattle.tree.specs.Least.{least};
-ghost use Rattle.weigh.specs.Weigh.{least_in, weigh_answer, weigh_bytes, number_of, answer_of};
-ghost use Rattle.weigh.specs.Inner.{BothRead, Weighable};
+ghost use Rattle.weigh.specs.Weigh.{least_in, weigh_answer, weigh_bytes, number_of, answer_in, answer_of};
+ghost use Rattle.weigh.specs.Inner.{Weighable};
+ghost use Rattle.weigh.specs.declared.WeighRefusal.TheVariants.{Check};
 
 use check::CheckRefusal;
-use plan::{Plan, PlanReading};
-use sheet::{Sheet, SheetReading};
+use sheet::Sheet;
+use tree::links::Helpers;
+use words::Refusal;
 
 pub mod check;
 
 // Why weighing is refused, in the order of the checks.
-#[derive(Drop)]
+#[derive(Clone, Copy, Debug, PartialEq, Eq)]
 pub enum WeighRefusal {
     Check(CheckRefusal),
     Buffer,
 }
 
-#[derive(Drop)]
-pub enum Weighing {
-    Weighed(bool),
-    Refused(WeighRefusal),
+impl From<CheckRefusal> for WeighRefusal {
+    ghost from_gives = { λ r made. made ≡ Check r };
+
+    fn from(r: CheckRefusal) -> WeighRefusal {
+        WeighRefusal::Check(r)
+    }
+}
+
+impl Refusal for WeighRefusal {
+    ghost number_of = { number_of };
+
+    fn number(self) -> u32 {
+        match self {
+            WeighRefusal::Check(r) => r.number(),
+            WeighRefusal::Buffer => 25,
+        }
+    }
 }
 
 // The answer in document 01's numbers: 0 or the refusal's, and whether the tree holds, as 1 or 0.
 #[repr(C)]
-#[derive(Drop)]
+#[derive(Clone, Copy)]
 pub struct WeighAnswer {
     pub refusal: u32,
     pub holds: u32,
+}
+
+// Whether a tree holds, or why nobody says, in the papers' numbers.
+pub fn answer<R: Refusal>(weighed: Result<bool, R>) -> WeighAnswer
+    ensures { result ≡ answer_in R.number_of weighed }
+{
+    match weighed {
+        Ok(holds) => WeighAnswer {
+            refusal: 0,
+            holds: holds as u32,
+        },
+        Err(r) => WeighAnswer {
+            refusal: r.number(),
+            holds: 0,
+        },
+    }
 }
 
 // The leasts of a tree, from its helpands and the totals.
@@ -44,8 +74,8 @@ pub fn tree_leasts(totals: [u32; 64], helpands: [u32; 64], nodes: usize, limit: 
     ensures { result ≡ tabulate nodes (least nodes (at helpands) (at totals) limit) }
 {
     let root = tree::least::find_root(helpands, nodes);
-    let links = tree::links::helper_links(&helpands, nodes);
-    tree::least::leasts(totals, helpands, &links, nodes, root, limit)
+    let helpers = Helpers::of(&helpands, nodes);
+    tree::least::leasts(totals, &helpers, root, limit)
 }
 
 // The leasts of the plan's tree, for a sheet and a plan that are accepted.
@@ -60,65 +90,26 @@ fn leasts_of(sheet: &[u8], plan: &[u8], s: Sheet) -> [u32; 64]
     tree_leasts(totals, helpands, nodes, s.limit)
 }
 
-// Weighs a sheet and a plan that were read.
-fn weigh_read(sheet: &[u8], plan: &[u8], s: Sheet, p: Plan, least: &mut [u8]) -> Weighing
-    requires { BothRead sheet.now plan.now s p }
+// Weighs a sheet and a plan that are accepted.
+fn weigh_read(sheet: &[u8], plan: &[u8], s: Sheet, least: &mut [u8]) -> Result<bool, WeighRefusal>
+    requires { Weighable sheet.now plan.now s }
     ensures answer { answer_of result ≡ weigh_answer sheet.now plan.now (length least.old) }
     ensures bytes { least.new ≡ weigh_bytes sheet.now plan.now least.old }
 {
-    if s.n != p.n {
-        return Weighing::Refused(WeighRefusal::Check(CheckRefusal::NodesDiffer));
-    }
-    if p.kind == 0 {
-        return Weighing::Refused(WeighRefusal::Check(CheckRefusal::Primary));
-    }
     let nodes = s.n as usize;
     if least.len() < 4 * nodes {
-        return Weighing::Refused(WeighRefusal::Buffer);
+        return Err(WeighRefusal::Buffer);
     }
     let leasts = leasts_of(sheet, plan, s);
-    words::put_words(least, 0, &leasts, nodes);
-    Weighing::Weighed(tree::least::holds(leasts, nodes, s.limit))
+    words::put_words(least, 0, &leasts[..nodes]);
+    Ok(tree::least::holds(leasts, nodes, s.limit))
 }
 
 // *Weigh*. The leasts are written also when the tree does not hold.
-pub fn weigh(sheet: &[u8], plan: &[u8], least: &mut [u8]) -> Weighing
+pub fn weigh(sheet: &[u8], plan: &[u8], least: &mut [u8]) -> Result<bool, WeighRefusal>
     ensures answer { answer_of result ≡ weigh_answer sheet.now plan.now (length least.old) }
     ensures bytes { least.new ≡ weigh_bytes sheet.now plan.now least.old }
 {
-    match sheet::read_sheet(sheet) {
-        SheetReading::Refused(r) => Weighing::Refused(WeighRefusal::Check(CheckRefusal::Sheet(r))),
-        SheetReading::Accepted(s) => match plan::read_plan(plan) {
-            PlanReading::Refused(r) => Weighing::Refused(WeighRefusal::Check(CheckRefusal::Plan(
-                r,
-            ))),
-            PlanReading::Accepted(p) => weigh_read(sheet, plan, s, p, least),
-        },
-    }
-}
-
-// Document 01's number of a refusal.
-fn number(r: WeighRefusal) -> u32
-    ensures { result ≡ number_of r }
-{
-    match r {
-        WeighRefusal::Check(r) => check::number(r),
-        WeighRefusal::Buffer => 25,
-    }
-}
-
-// A weighing in document 01's numbers.
-pub fn answer(w: Weighing) -> WeighAnswer
-    ensures { result ≡ answer_of w }
-{
-    match w {
-        Weighing::Weighed(holds) => WeighAnswer {
-            refusal: 0,
-            holds: holds as u32,
-        },
-        Weighing::Refused(r) => WeighAnswer {
-            refusal: number(r),
-            holds: 0,
-        },
-    }
+    let s = check::read_pair(sheet, plan)?;
+    weigh_read(sheet, plan, s, least)
 }

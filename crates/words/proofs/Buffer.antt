@@ -2,18 +2,19 @@
 use mathlib.Core.Path.{◌≡◌, refl, sym, ap, ◌∙◌}
 use mathlib.Core.Bool.{Bool, true, false, cond}
 use mathlib.Core.List.{List, [], ◌∷◌, ◌++◌}
-use Prim.Native.Nat.{ℕ, zero, suc, ◌+◌, ◌*◌, ◌≤◌, ◌<◌}
+use Prim.Native.Nat.{ℕ, zero, suc, ◌+◌, ◌*◌, ◌/◌, ◌%◌, ◌^◌, ◌≤◌, ◌<◌}
 use native.Mathlib.Nat.{suc-add, add-suc, add-zero, zero-add}
 use native.Mathlib.Numerals.{add-one, add-two, add-three}
 use native.Mathlib.Omega.{arith}
 use borrow.Author.Tests.{lt-ltb, le-ltb, ltb-false, ltb-true, eq-eqb}
 use lib.Dec.{ltb}
-use lib.ListN.{length, take, drop, set, length-append, length-set}
+use lib.ListN.{length, take, drop, set, length-append, length-set, length-take}
 use lib.Seq.{sets, sets-eq, set_comm, take_at}
-use Rattle.words.specs.Words.{bytes_of, encode, put_word}
-use Rattle.words.specs.declared.Written.TheVariants.{Bytes, Short}
-use Rattle.words.specs.Buffer.{placed, after_call, written, writing}
-use Rattle.words.proofs.Words.{length-encode, encode-append}
+use Rattle.std.specs.Int.{w32, to_le_bytes}
+use Rattle.words.specs.Words.{bytes_of, encode, put_word, part}
+use Rattle.words.specs.Buffer.{placed, after_call, written, writing, too_short}
+use Rattle.words.proofs.Words.{length-encode, length_part, encode-append}
+use Rattle.std.specs.Prelude.{Err, Ok}
 
 -- a run of stores in two parts
 pub sets-append : (l : List ℕ) (i : ℕ) (us vs : List ℕ) → sets l i (us ++ vs) ≡ sets (sets l i us) (i + length us) vs
@@ -27,6 +28,14 @@ length_put l i w = simp length-set
 -- a word is a run of four stores
 pub put_sets : (l : List ℕ) (i w : ℕ) → put_word l i w ≡ sets l i (bytes_of w)
 put_sets l i w = rw (add-one i, add-two i, add-three i)
+
+-- and stands between what was before and behind it
+pub put-eq : (l : List ℕ) (i w : ℕ) → i + 4 ≤ length l → put_word l i w ≡ take i l ++ bytes_of w ++ drop (i + 4) l
+put-eq l i w h = put_sets l i w ∙ sets-eq (bytes_of w) l i h
+
+-- std's four bytes of a word are those of `bytes_of`
+pub low_bytes : (w : ℕ) → w < 2 ^ 32 → to_le_bytes w32 w ≡ bytes_of w
+low_bytes w h = let e : w / 16777216 % 256 ≡ w / 16777216 = omega arith in rw e
 
 -- a word right behind a run of words
 pub put_behind : (l : List ℕ) (i : ℕ) (ws : List ℕ) (w : ℕ)
@@ -55,6 +64,13 @@ put_before l i vs j w h =
 -- a run of stores from the start is the record, with the buffer's own bytes behind it
 pub sets-placed : (rec out : List ℕ) → length rec ≤ length out → sets out 0 rec ≡ placed rec out
 sets-placed rec out h = sets-eq rec out 0 (omega arith) ∙ rw zero-add
+
+-- words that were read to the front of an array, with the array's own entries behind them
+pub read_placed : (ws out xs : List ℕ) (a k : ℕ) → a + k ≤ length ws → k ≤ length out → xs ≡ part a (length (take k out)) ws
+    → xs ++ drop k out ≡ placed (part a k ws) out
+read_placed ws out xs a k h l e =
+    let n : length (take k out) ≡ k = simp length-take (omega arith) in
+    rw (e, n, length_part a k ws h)
 
 -- a word of a record, and of a record that stands in front of a buffer
 put_encode : (ws rest : List ℕ) (k w : ℕ) → k < length ws → put_word (encode ws ++ rest) (4 * k) w ≡ encode (set ws k w) ++ rest
@@ -86,27 +102,27 @@ record_placed out h xs ys a b ea eb fits =
 -- ---- a record of k bytes, in a buffer that is too short for it, and in one that is not
 
 module _ (rec out : List ℕ) (k : ℕ) (e : length rec ≡ k) where
-  pub short_writes : length out < k → (Short ≡ writing rec out) × (out ≡ written rec out)
+  pub short_writes : length out < k → (Err too_short ≡ writing rec out) × (out ≡ written rec out)
   short_writes h = rw (lt-ltb (length out) (length rec) (omega arith)) (refl, refl)
 
-  pub long_writes : k ≤ length out → (Bytes k ≡ writing rec out) × (placed rec out ≡ written rec out)
-  long_writes h = rw (le-ltb (length out) (length rec) (omega arith)) (ap Bytes (sym e), refl)
+  pub long_writes : k ≤ length out → (Ok k ≡ writing rec out) × (placed rec out ≡ written rec out)
+  long_writes h = rw (le-ltb (length out) (length rec) (omega arith)) (ap Ok (sym e), refl)
 
 -- and back: what a writer answers says whether the record fits, and so what it wrote
 module _ (rec out : List ℕ) where
-  pub writing-bytes : (size : ℕ) → Bytes size ≡ writing rec out
+  pub writing-bytes : (size : ℕ) → Ok size ≡ writing rec out
       → (size ≡ length rec) × (length rec ≤ length out) × (written rec out ≡ placed rec out)
   writing-bytes size e = go (ltb (length out) (length rec)) refl e
     where
-      go : (b : Bool) → ltb (length out) (length rec) ≡ b → Bytes size ≡ cond b Short (Bytes (length rec))
+      go : (b : Bool) → ltb (length out) (length rec) ≡ b → Ok size ≡ cond b (Err too_short) (Ok (length rec))
           → (size ≡ length rec) × (length rec ≤ length out) × (cond b out (placed rec out) ≡ placed rec out)
       go true w q = let z : ◌≡◌ {A = ℕ} 0 1 = cc in absurd (omega arith)
       go false w q = let z : size ≡ length rec = cc in (z, ltb-false (length out) (length rec) w, refl)
 
-  pub writing_short : Short ≡ writing rec out → (length out < length rec) × (written rec out ≡ out)
+  pub writing_short : Err too_short ≡ writing rec out → (length out < length rec) × (written rec out ≡ out)
   writing_short e = go (ltb (length out) (length rec)) refl e
     where
-      go : (b : Bool) → ltb (length out) (length rec) ≡ b → Short ≡ cond b Short (Bytes (length rec))
+      go : (b : Bool) → ltb (length out) (length rec) ≡ b → Err too_short ≡ cond b (Err too_short) (Ok (length rec))
           → (length out < length rec) × (cond b out (placed rec out) ≡ out)
       go true w q = (ltb-true (length out) (length rec) w, refl)
       go false w q = let z : ◌≡◌ {A = ℕ} 0 1 = cc in absurd (omega arith)

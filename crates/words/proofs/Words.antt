@@ -1,12 +1,13 @@
 -- Laws of words: by index, there and back, and in parts. Assumes nothing.
-use mathlib.Core.Path.{◌≡◌, refl, sym, ap, ap₂, ◌∙◌}
+use mathlib.Core.Path.{◌≡◌, refl, ap, ap₂}
 use mathlib.Core.List.{List, [], ◌∷◌, ◌++◌}
 use Prim.Native.Nat.{ℕ, zero, suc, ◌+◌, ◌*◌, ◌/◌, ◌%◌, ◌≤◌, ◌<◌, ◌^◌}
-use native.Mathlib.Nat.{suc-add}
 use native.Mathlib.Numerals.{add-one}
 use native.Mathlib.Omega.{arith}
-use lib.ListN.{length, get_or, take, drop, replicate, length-append, length-take, length-drop, drop_of_length-le, get_or-append}
+use lib.ListN.{length, get_or, take, drop, replicate, length-take, length-drop, drop_of_length-le}
 use lib.Seq.{take-suc, drop-cons, get_or-take, get_or-drop}
+use Rattle.std.specs.Int.{w32, from_le_bytes}
+use Rattle.std.specs.Simd.{first_chunks}
 use Rattle.words.specs.Words.{word, words, bytes_of, encode, part}
 
 -- ---- lengths
@@ -29,27 +30,27 @@ length_part a n ws h = simp (length-take, length-drop) (omega arith)
 
 -- ---- by index
 
-pub words-at : (s : List ℕ) (i : ℕ) → 4 * i + 4 ≤ length s
-    → get_or (words s) i 0 ≡ word (get_or s (4 * i) 0) (get_or s (4 * i + 1) 0) (get_or s (4 * i + 2) 0) (get_or s (4 * i + 3) 0)
+-- word k is what std reads of its chunk k of four bytes
+pub chunk-word : (s : List ℕ) (k n : ℕ) → 4 * k + 4 ≤ length s → k < n
+    → from_le_bytes w32 (get_or (first_chunks 4 n s) k []) ≡ get_or (words s) k 0
 unfolding words
-words-at [] i h = absurd (omega arith)
-words-at (a ∷ []) i h = absurd (omega arith)
-words-at (a ∷ b ∷ []) i h = absurd (omega arith)
-words-at (a ∷ b ∷ c ∷ []) i h = absurd (omega arith)
-words-at (a ∷ b ∷ c ∷ d ∷ s) zero h = refl
-words-at (a ∷ b ∷ c ∷ d ∷ s) (suc i) h =
-    let e : 4 * suc i ≡ suc (suc (suc (suc (4 * i)))) = omega arith in
-    let k : 4 * i + 4 ≤ length s = omega arith in
-    rw e (simp suc-add (words-at s i k))
+chunk-word s k zero h l = absurd (omega arith)
+chunk-word [] k (suc n) h l = absurd (omega arith)
+chunk-word (a ∷ []) k (suc n) h l = absurd (omega arith)
+chunk-word (a ∷ b ∷ []) k (suc n) h l = absurd (omega arith)
+chunk-word (a ∷ b ∷ c ∷ []) k (suc n) h l = absurd (omega arith)
+chunk-word (a ∷ b ∷ c ∷ d ∷ s) zero (suc n) h l = omega arith
+chunk-word (a ∷ b ∷ c ∷ d ∷ s) (suc k) (suc n) h l = chunk-word s k n (omega arith) (omega arith)
 
 -- a word, whatever follows
 pub word-front : (s p : List ℕ) (i : ℕ) → 4 * i + 4 ≤ length s → get_or (words (s ++ p)) i 0 ≡ get_or (words s) i 0
-word-front s p i h =
-    let l : 4 * i + 4 ≤ length (s ++ p) = simp length-append (omega arith) in
-    let front : (j : ℕ) → j < length s → get_or (s ++ p) j 0 ≡ get_or s j 0 = λ j b. get_or-append s p 0 j b in
-    words-at (s ++ p) i l
-    ∙ rw (front (4 * i) (omega arith), front (4 * i + 1) (omega arith), front (4 * i + 2) (omega arith), front (4 * i + 3) (omega arith))
-    (sym (words-at s i h))
+unfolding words
+word-front [] p i h = absurd (omega arith)
+word-front (a ∷ []) p i h = absurd (omega arith)
+word-front (a ∷ b ∷ []) p i h = absurd (omega arith)
+word-front (a ∷ b ∷ c ∷ []) p i h = absurd (omega arith)
+word-front (a ∷ b ∷ c ∷ d ∷ s) p zero h = refl
+word-front (a ∷ b ∷ c ∷ d ∷ s) p (suc i) h = word-front s p i (omega arith)
 
 -- ---- there and back
 

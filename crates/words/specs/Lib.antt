@@ -2,3 +2,4 @@ pub mod Words
 pub mod Checks
 pub mod Buffer
 pub mod Answer
+pub mod Tests

@@ -1,17 +1,26 @@
 // 32-bit words in byte slices, low byte first: one word, and a run of words, read and written.
 #![tactic(auto)]
 
-ghost use Rattle.std.specs.Prelude.{◌≡◌, [], ◌∷◌, ◌+◌, ◌*◌, ◌≤◌, length, get_or, take};
+ghost use Rattle.std.specs.Prelude.{◌≡◌, ℕ, [], ◌∷◌, ◌+◌, ◌*◌, ◌≤◌, length, get_or, take};
 ghost use Rattle.std.proofs.lemmas.List.Edits.{sets};
 ghost use Rattle.words.specs.Words.{word, put_word, words, encode, part};
 ghost use Rattle.words.specs.Buffer.{placed};
+ghost use Rattle.words.specs.Answer.{answer_of};
 ghost use Rattle.arrays.specs.Arrays.{padded};
 
-// What writing a record into a lent buffer answers: its length in bytes, or that the buffer is too short.
-#[derive(Drop)]
-pub enum Written {
-    Bytes(usize),
-    Short,
+pub mod lists;
+
+// Why a record is not written: the lent buffer is too short for it.
+#[derive(Clone, Copy)]
+pub struct TooShort;
+
+// Why an operation refuses what it is called with. The papers number the reasons.
+pub trait Refusal: Drop {
+    // the paper's number of each reason
+    ghost number_of: { Self → ℕ };
+
+    fn number(self) -> u32
+        ensures { result ≡ number_of self };
 }
 
 // The answer in the papers' numbers of an operation that writes one record: 0 or the refusal's, and the record's length in bytes, 0 in a
@@ -23,11 +32,17 @@ pub struct WrittenAnswer {
     pub bytes: u32,
 }
 
-// The word of four bytes, the lowest first.
-fn join(a: u8, b: u8, c: u8, d: u8) -> u32
-    ensures { result ≡ word a b c d }
+// The length of a record that was written, or why it was not, in the papers' numbers.
+pub fn answer<R: Refusal>(written: Result<u32, R>) -> WrittenAnswer
+    ensures { result ≡ answer_of R.number_of written }
 {
-    a as u32 + 256 * (b as u32) + 65536 * (c as u32) + 16777216 * (d as u32)
+    match written {
+        Ok(bytes) => WrittenAnswer { refusal: 0, bytes },
+        Err(r) => WrittenAnswer {
+            refusal: r.number(),
+            bytes: 0,
+        },
+    }
 }
 
 // Word number k of s.
@@ -35,19 +50,17 @@ pub fn word_number(s: &[u8], k: usize) -> u32
     requires { 4 * k + 4 ≤ length s.now }
     ensures { result ≡ get_or (words s.now) k 0 }
 {
-    let i = 4 * k;
-    join(s[i], s[i + 1], s[i + 2], s[i + 3])
+    let (chunks, _) = s.as_chunks::<4>();
+    u32::from_le_bytes(chunks[k])
 }
 
-// Reads the k words of s from number first on to the front of out.
-pub fn get_words(s: &[u8], first: usize, k: usize, out: &mut [u32])
-    requires { (4 * (first + k) ≤ length s.now) × (k ≤ length out.old) }
-    ensures { out.new ≡ placed (part first k (words s.now)) out.old }
+// Fills out with the words of s from number first on.
+pub fn get_words(s: &[u8], first: usize, out: &mut [u32])
+    requires { 4 * (first + length out.old) ≤ length s.now }
+    ensures { out.new ≡ part first (length out.old) (words s.now) }
 {
-    let mut i = 0;
-    while i < k {
-        out[i] = word_number(s, first + i);
-        i += 1;
+    for (i, word) in out.iter_mut().enumerate() {
+        *word = word_number(s, first + i);
     }
 }
 
@@ -56,8 +69,8 @@ pub fn words_64(s: &[u8], first: usize, k: usize) -> [u32; 64]
     requires { (4 * (first + k) ≤ length s.now) × (k ≤ 64) }
     ensures { result ≡ padded (part first k (words s.now)) }
 {
-    let mut out = [0u32; 64];
-    get_words(s, first, k, &mut out);
+    let mut out = [0; 64];
+    get_words(s, first, &mut out[..k]);
     out
 }
 
@@ -67,10 +80,7 @@ pub fn put_word(out: &mut [u8], k: usize, w: u32)
     ensures { out.new ≡ put_word out.old (4 * k) w }
 {
     let i = 4 * k;
-    out[i] = (w % 256) as u8;
-    out[i + 1] = (w / 256 % 256) as u8;
-    out[i + 2] = (w / 65536 % 256) as u8;
-    out[i + 3] = (w / 16777216) as u8;
+    out[i..i + 4].copy_from_slice(&w.to_le_bytes());
 }
 
 // Writes the three words of a record's head.
@@ -83,14 +93,12 @@ pub fn put_head(out: &mut [u8], a: u32, b: u32, c: u32)
     put_word(out, 2, c);
 }
 
-// Writes the first k of ws as the words of out from number first on.
-pub fn put_words(out: &mut [u8], first: usize, ws: &[u32], k: usize)
-    requires { (4 * (first + k) ≤ length out.old) × (k ≤ length ws.now) }
-    ensures { out.new ≡ sets out.old (4 * first) (encode (take k ws.now)) }
+// Writes ws as the words of out from number first on.
+pub fn put_words(out: &mut [u8], first: usize, ws: &[u32])
+    requires { 4 * (first + length ws.now) ≤ length out.old }
+    ensures { out.new ≡ sets out.old (4 * first) (encode ws.now) }
 {
-    let mut i = 0;
-    while i < k {
-        put_word(out, first + i, ws[i]);
-        i += 1;
+    for (i, w) in ws.iter().enumerate() {
+        put_word(out, first + i, *w);
     }
 }

@@ -1,25 +1,23 @@
-use borrow.Author.Tests.{le-leb, lt-leb}
-use mathlib.Core.Path.{◌≡◌, sym, ◌∙◌}
-use Prim.Native.Nat.{◌+◌}
+use mathlib.Core.Path.{◌≡◌}
+use Prim.Native.Nat.{ℕ, ◌<◌}
+use native.Mathlib.Numerals.{add-one}
 use native.Mathlib.Omega.{arith}
-use Rattle.fold.proofs.Tests.{all_none, all-passes, all_fails}
-use Rattle.arrays.proofs.all_at_most.Goals.{else-bound-entries, then-bound-entries}
+use lib.ListN.{length-take}
+use lib.Seq.{get_or-take}
+use Rattle.fold.specs.All.{all}
 use Rattle.arrays.proofs.all_at_most.Goals as goal
 
-pub loop-k-preserved : goal.loop-k-preserved
-loop-k-preserved c =
-    let l = c.loop-k in (
-      omega (arith, c.loop-k-test.true),
-      elim c.if-bound-entries.branch [
-        | then-bound-entries w ↦ w.fine-is ∙ sym (all_fails (l.k + 1) _ l.k (omega arith) (lt-leb _ _ w.if-bound-entries.true))
-        | else-bound-entries w ↦ w.fine-is ∙ l.invariant.1 ∙ sym (all-passes l.k _ (le-leb _ _ w.if-bound-entries.false))
-      ],
-    )
+pub loop-entry-init : goal.loop-entry-init
+unfolding all
+loop-entry-init c = search
+
+pub loop-entry-preserved : goal.loop-entry-preserved
+unfolding all
+loop-entry-preserved c =
+    let h : c.loop-entry.entry-index < c.args.nodes = omega (arith, length-take {A = ℕ}) in
+    rw add-one (cc (get_or-take c.args.nodes c.args.entries c.loop-entry.entry-index 0 h))
 
 pub returns : goal.returns
 returns c =
-    let e : c.loop-k.k ≡ c.args.nodes = omega (arith, c.loop-k.invariant.0, c.loop-k-test.false) in
-    rw e at c.loop-k.invariant.1
-
-pub loop-k-init : goal.loop-k-init
-loop-k-init c = (omega arith, sym (all_none _))
+    let e : c.loop-entry.entry-index ≡ c.args.nodes = omega (arith, length-take {A = ℕ}) in
+    rw e at c.loop-entry.invariant

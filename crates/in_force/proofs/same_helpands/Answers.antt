@@ -1,40 +1,13 @@
-use borrow.Author.Rules.{rules}
-use borrow.Author.Tests.{eq-eqb, ne_eqb}
-use mathlib.Core.Path.{◌≡◌, sym, ap₂, ◌∙◌}
+-- `in_force::same_helpands` meets its contract: the helpands are the same where their bytes are. Assumes nothing.
 use native.Mathlib.Omega.{arith}
-use lib.Dec.{eqb}
-use Rattle.fold.proofs.Tests.{all_none, all_more, all_fails}
-use Rattle.words.specs.Words.{words}
-use Rattle.words.proofs.Words.{part_at}
-use Rattle.arrays.specs.Arrays.{at}
-use Rattle.plan.specs.Plan.{helpands_of}
-use Rattle.in_force.proofs.same_helpands.Goals.{After-word_number-after}
+use borrow.Author.Tests.{eqb-true, eq-eqb}
+use Rattle.std.proofs.lemmas.Slice.Eq.{slice_eq-Decides}
+use Rattle.in_force.proofs.Same.{same-bytes}
 use Rattle.in_force.proofs.same_helpands.Goals as goal
-
--- the words read are the helpands of node k
-read : (c : After-word_number-after) →
-    let a = c.args in
-    let k = c.loop-k.k in
-    eqb (at (helpands_of a.old.now a.nodes) k) (at (helpands_of a.new.now a.nodes) k) ≡ eqb c.word_number-before.result
-    c.word_number-after.result
-read c =
-    let a = c.args in
-    let k = c.loop-k.k in
-    ap₂ eqb
-    (part_at (words a.old.now) 3 a.nodes k (omega arith) ∙ sym c.word_number-before.ensures)
-    (part_at (words a.new.now) 3 a.nodes k (omega arith) ∙ sym c.word_number-after.ensures)
-
-pub returns-then-before-after : goal.returns-then-before-after
-returns-then-before-after c = sym (all_fails _ _ _ c.loop-k-test.true (read (goal.at.returns-then-before-after c).After-word_number-after ∙ ne_eqb _ _ c.if-before-after.true))
-
-pub loop-k-preserved : goal.loop-k-preserved
-loop-k-preserved c =
-    (search rules, all_more _ _ c.loop-k.invariant.1 (read (goal.at.loop-k-preserved c).After-word_number-after ∙ eq-eqb _ _ c.if-before-after.false))
 
 pub returns : goal.returns
 returns c =
-    let e : c.loop-k.k ≡ c.args.nodes = omega arith in
-    sym (rw e at c.loop-k.invariant.1)
-
-pub loop-k-init : goal.loop-k-init
-loop-k-init c = (search rules, all_none _)
+    let a = c.args in
+    let p = c.requires in
+    same-bytes a.nodes a.old.now a.new.now c.type_inv.old c.type_inv.new p.0 p.1 _ (omega arith) c.eq.result
+    (slice_eq-Decides (λ x y. (eqb-true x y, eq-eqb x y)) _ _ c.eq.result c.eq.ensures)

@@ -1,4 +1,3 @@
-use borrow.Author.Rules.{rules}
 use mathlib.Core.Path.{◌≡◌, sym, ◌∙◌}
 use Prim.Native.Nat.{◌<◌}
 use native.Mathlib.Omega.{arith}
@@ -14,43 +13,41 @@ pub returns-in_default : goal.returns-in_default
 returns-in_default c =
     sym (finish-none _ _ (sym c.lowest_in_b.ensures ∙ c.in_default.is))
 
+pub loop-k-init : goal.loop-k-init
+loop-k-init c = record {
+  root = sym c.lowest_in_b.ensures ∙ c.in-Some.is;
+  helpands = sym (tabulate-none _);
+  shares = sym (tabulate-none _);
+}
+
 pub loop-k-preserved : goal.loop-k-preserved
 loop-k-preserved c =
     let s = c.args.s in
-    let k = c.loop-k.k in
-    let v = c.loop-k.invariant in
+    let l = c.loop-k in
+    let v = l.invariant in
     let o = sym c.in_b.ensures in
-    let root = c.in-At.root in
-    let h : k < 64 = omega arith in
+    let root = c.in-Some.root in
+    let h : l.k < 64 = omega arith in
     elim c.if-in_b.branch [
-      | then-in_b w ↦ (
-        search rules,
-        v.1,
-        w.helpands-is ∙ tabulate-next (new_helpand s root) k root c.loop-k.helpands h v.2 (sym (helpand_in s k root (o ∙ w.if-in_b.true))),
-        w.shares-is ∙ tabulate-next (new_share s) k 0 c.loop-k.shares h v.3 (sym (share_in s k (o ∙ w.if-in_b.true))),
-      )
-      | else-in_b w ↦ (
-        search rules,
-        v.1,
-        w.helpands-is ∙ tabulate-next (new_helpand s root) k _ c.loop-k.helpands h v.2 (sym (helpand-out s k root (o ∙ w.if-in_b.false))),
-        w.shares-is ∙ tabulate-next (new_share s) k _ c.loop-k.shares h v.3 (sym (share-out s k (o ∙ w.if-in_b.false))),
-      )
+      | then-in_b w ↦ record {
+        root = v.root;
+        helpands = w.helpands-is
+            ∙ tabulate-next (new_helpand s root) l.k root l.helpands h v.helpands (sym (helpand_in s l.k root (o ∙ w.if-in_b.true)));
+        shares = w.shares-is ∙ tabulate-next (new_share s) l.k 0 l.shares h v.shares (sym (share_in s l.k (o ∙ w.if-in_b.true)));
+      }
+      | else-in_b w ↦ record {
+        root = v.root;
+        helpands = w.helpands-is
+            ∙ tabulate-next (new_helpand s root) l.k _ l.helpands h v.helpands (sym (helpand-out s l.k root (o ∙ w.if-in_b.false)));
+        shares = w.shares-is ∙ tabulate-next (new_share s) l.k _ l.shares h v.shares (sym (share-out s l.k (o ∙ w.if-in_b.false)));
+      }
     ]
 
 pub returns : goal.returns
 returns c =
     let v = c.loop-k.invariant in
     let e : c.loop-k.k ≡ c.args.nodes = omega arith in
-    rw (v.2, v.3, e) (sym (finish-at _ _ _ v.1))
-
-pub loop-k-init : goal.loop-k-init
-loop-k-init c = (
-  search rules,
-  sym c.lowest_in_b.ensures
-      ∙ c.in-At.is,
-  sym (tabulate-none _),
-  sym (tabulate-none _),
-)
+    rw (v.helpands, v.shares, e) (sym (finish-at _ _ _ v.root))
 
 pub overflow_cast-helpands : goal.overflow_cast-helpands
-overflow_cast-helpands c = omega (arith, (best-found _ _ _ _ c.loop-k.invariant.1).0)
+overflow_cast-helpands c = omega (arith, (best-found _ _ _ _ c.loop-k.invariant.root).0)

@@ -7,18 +7,18 @@ use Prim.Native.Nat.{ℕ, ◌-◌, ◌<◌}
 use native.Mathlib.Omega.{arith}
 use lib.Dec.{ltb}
 use lib.ListN.{length, replicate}
-use Rattle.fold.specs.declared.Found.TheVariants.{At}
 use Rattle.fold.proofs.Tests.{all-at}
 use Rattle.arrays.specs.Arrays.{at}
 use Rattle.rebuild.specs.declared.Balance.{Balance}
 use Rattle.rebuild.specs.Target.{targets_of}
-use Rattle.rebuild.specs.Rebuild.{is, start_of, finish_of, rebuilt_of, next_l, next_g}
-use Rattle.rebuild.proofs.Loops.{Served, next_l_lem, reached-end, reached-some, reached_served, reached-turn, reached-less, start-sound}
-use Rattle.rebuild.proofs.rebuild.Goals.{In-At, In-At-choose, Start}
+use Rattle.rebuild.specs.Rebuild.{start_of, finish_of, rebuilt_of, next_l, next_g}
+use Rattle.rebuild.proofs.Loops.{Served, reached-end, reached-some, reached_served, reached-turn, reached-less, start-sound}
+use Rattle.rebuild.proofs.rebuild.Goals.{In-Some, In-Some-choose, Start}
 use mathlib.Core.Bool.{true}
 use Rattle.fold.specs.All.{all}
-use Rattle.rebuild.proofs.rebuild.Goals.{in-At+in_default-choose, in_default}
+use Rattle.rebuild.proofs.rebuild.Goals.{in-Some+in_default-choose, in_default}
 use Rattle.rebuild.proofs.rebuild.Goals as goal
+use Rattle.std.specs.Prelude.{Some}
 
 -- the old helpands are nodes
 old_below : (n : ℕ) (old : List ℕ) → all n (λ j. ltb (at old j) n) ≡ true → (k : ℕ) → k < n → at old k < n
@@ -44,79 +44,66 @@ loop-l-init c =
       rest = rw (z, e);
     }
 
-l_is : (c : In-At) → next_l c.args.nodes c.loop-l.s ≡ At c.in-At.l
-l_is c = sym c.smallest_in_a.ensures ∙ c.in-At.is
+l_fits : (c : In-Some) → c.in-Some.l < c.args.nodes
+l_fits c = (rw c.in-Some.is at c.smallest_in_a.ensures.under).0
 
--- it is a node under its target
-l_fits : (c : In-At) → (c.in-At.l < c.args.nodes) × (is c.loop-l.s.finished c.in-At.l ≡ false)
-    × (at c.loop-l.s.loads c.in-At.l < at c.loop-l.s.targets c.in-At.l)
-l_fits c = next_l_lem c.args.nodes c.args.p c.requires.1 (at c.args.totals) c.loop-l.s c.in-At.l (l_is c)
+old-fits : (c : In-Some) → at c.args.old c.in-Some.l < c.args.nodes
+old-fits c = old_below c.args.nodes c.args.old c.requires.2 c.in-Some.l (l_fits c)
 
-old-fits : (c : In-At) → at c.args.old c.in-At.l < c.args.nodes
-old-fits c = old_below c.args.nodes c.args.old c.requires.2 c.in-At.l (l_fits c).0
+pub overflow_cast-old : goal.overflow_cast-old
+overflow_cast-old c = omega (arith, old-fits (goal.at.overflow_cast-old c).In-Some)
 
-g_is : (c : In-At-choose) → next_g c.args.nodes c.args.old c.loop-l.s c.in-At.l
-    ≡ At c.in-At-choose.g
-g_is c = sym c.choose.ensures ∙ c.in-At-choose.is
+pub choose-requires : goal.choose-requires
+choose-requires c = omega (arith, old-fits (goal.at.choose-requires c).In-Some)
 
-g_fits : (c : In-At-choose) → Served c.args.nodes c.loop-l.s c.in-At.l c.in-At-choose.g
-g_fits c =
-    let l_is' : next_l c.args.nodes c.loop-l.s ≡ At c.in-At.l =
-    sym c.smallest_in_a.ensures ∙ c.in-At.is in
-    reached_served c.args.nodes c.args.p c.requires.1 (at c.args.totals)
-    c.args.old (old_below c.args.nodes c.args.old c.requires.2)
-    _ c.loop-l.s c.loop-l.invariant c.in-At.l c.in-At-choose.g l_is' (g_is c)
+-- ---- a turn
+
+l_is : (c : In-Some-choose) → next_l c.args.nodes c.loop-l.s ≡ Some c.in-Some.l
+l_is c = sym c.smallest_in_a.ensures.smallest ∙ c.in-Some.is
+
+g_is : (c : In-Some-choose) → next_g c.args.nodes c.args.old c.loop-l.s c.in-Some.l ≡ Some c.in-Some-choose.g
+g_is c = sym c.choose.ensures ∙ c.in-Some-choose.is
+
+served : (c : In-Some-choose) → Served c.args.nodes c.loop-l.s c.in-Some.l c.in-Some-choose.g
+served c =
+    let a = c.args in
+    reached_served a.nodes a.p c.requires.1 (at a.totals) a.old (old_below a.nodes a.old c.requires.2) _ _ c.loop-l.invariant _ _
+    (l_is c) (g_is c)
+
+pub turn-s-requires : goal.turn-s-requires
+turn-s-requires c =
+    let q = served (goal.at.turn-s-requires c).In-Some-choose in
+    omega (arith, l_fits (goal.at.turn-s-requires c).In-Some, q.node, q.enough)
 
 pub loop-l-smaller : goal.loop-l-smaller
 loop-l-smaller c =
+    let a = c.args in
+    let t = (goal.at.loop-l-smaller c).In-Some-choose in
     rw c.turn-s.ensures
-    (reached-less c.args.nodes c.args.p c.requires.1 (at c.args.totals) c.args.old (old_below c.args.nodes c.args.old c.requires.2) _ _
-    c.loop-l.invariant _ _ (l_is (goal.at.loop-l-smaller c).In-At) (g_is (goal.at.loop-l-smaller c).In-At-choose))
+    (reached-less a.nodes a.p c.requires.1 (at a.totals) a.old (old_below a.nodes a.old c.requires.2) _ _ c.loop-l.invariant _ _
+    (l_is t) (g_is t))
 
 pub loop-l-preserved : goal.loop-l-preserved
 loop-l-preserved c =
+    let a = c.args in
+    let t = (goal.at.loop-l-preserved c).In-Some-choose in
     rw c.turn-s.ensures
-    (reached-turn c.args.nodes c.args.p c.requires.1 (at c.args.totals) c.args.old (old_below c.args.nodes c.args.old c.requires.2) _ _
-    c.loop-l.invariant _ _ (l_is (goal.at.loop-l-preserved c).In-At) (g_is (goal.at.loop-l-preserved c).In-At-choose))
+    (reached-turn a.nodes a.p c.requires.1 (at a.totals) a.old (old_below a.nodes a.old c.requires.2) _ _ c.loop-l.invariant _ _
+    (l_is t) (g_is t))
+
+-- ---- the end: no node is in A, or none is in B, which never is
 
 pub returns : goal.returns
 unfolding rebuilt_of
 returns c =
     let a = c.args in
+    let smallest = sym c.smallest_in_a.ensures.smallest in
     c.finish.ensures
     ∙ ap (finish_of a.nodes) (sym (elim c.match-smallest_in_a.branch [
-      | in-At+in_default-choose w ↦ absurd (reached-some a.nodes a.p c.requires.1 (at a.totals) a.old (old_below a.nodes a.old c.requires.2) _ _
-          c.loop-l.invariant _ (sym c.smallest_in_a.ensures ∙ w.in-At.is) (sym w.choose.ensures ∙ w.in_default-choose.is))
-      | in_default w ↦ reached-end a.nodes a.p c.requires.1 (at a.totals) a.old (old_below a.nodes a.old c.requires.2) _ _
-          c.loop-l.invariant (sym c.smallest_in_a.ensures ∙ w.in_default.is)
+      | in-Some+in_default-choose w ↦
+          absurd (reached-some a.nodes a.p c.requires.1 (at a.totals) a.old (old_below a.nodes a.old c.requires.2) _ _
+          c.loop-l.invariant _ (smallest ∙ w.in-Some.is) (sym w.choose.ensures ∙ w.in_default-choose.is))
+      | in_default w ↦
+          reached-end a.nodes a.p c.requires.1 (at a.totals) a.old (old_below a.nodes a.old c.requires.2) _ _
+          c.loop-l.invariant (smallest ∙ w.in_default.is)
     ]))
-
-pub offset_bounds-s-l : goal.offset_bounds-s-l
-offset_bounds-s-l c = omega (arith, (l_fits (goal.at.offset_bounds-s-l c).In-At).0)
-
-pub bounds-s-l : goal.bounds-s-l
-bounds-s-l c = omega (arith, (l_fits (goal.at.bounds-s-l c).In-At).0)
-
-pub offset_bounds-s-l-in-At : goal.offset_bounds-s-l-in-At
-offset_bounds-s-l-in-At c = omega (arith, (l_fits (goal.at.offset_bounds-s-l-in-At c).In-At).0)
-
-pub bounds-s-l-in-At : goal.bounds-s-l-in-At
-bounds-s-l-in-At c = omega (arith, (l_fits (goal.at.bounds-s-l-in-At c).In-At).0)
-
-pub overflow_sub-need : goal.overflow_sub-need
-overflow_sub-need c = omega (arith, (l_fits (goal.at.overflow_sub-need c).In-At).2)
-
-pub offset_bounds-old-l : goal.offset_bounds-old-l
-offset_bounds-old-l c = omega (arith, (l_fits (goal.at.offset_bounds-old-l c).In-At).0)
-
-pub bounds-old-l : goal.bounds-old-l
-bounds-old-l c = omega (arith, (l_fits (goal.at.bounds-old-l c).In-At).0)
-
-pub overflow_cast-old : goal.overflow_cast-old
-overflow_cast-old c = omega (arith, old-fits (goal.at.overflow_cast-old c).In-At)
-
-pub choose-requires : goal.choose-requires
-choose-requires c = omega (arith, old-fits (goal.at.choose-requires c).In-At)
-
-pub turn-s-requires : goal.turn-s-requires
-turn-s-requires c = omega (arith, (l_fits (goal.at.turn-s-requires c).In-At).0, (g_fits (goal.at.turn-s-requires c).In-At-choose).node, (g_fits (goal.at.turn-s-requires c).In-At-choose).enough)

@@ -3,8 +3,11 @@
 use mathlib.Core.Path.{◌≡◌, sym, ap, ◌∙◌}
 use mathlib.Core.List.{List}
 use Prim.Native.Nat.{ℕ, ◌+◌, ◌*◌, ◌≤◌}
+use borrow.Author.Rules.{rules}
 use native.Mathlib.Omega.{arith}
-use lib.ListN.{length, drop, length-append}
+use lib.ListN.{length, drop, take, replicate}
+use lib.Seq.{take_at, length-take-le}
+use Rattle.limit.specs.Limit.{table_size}
 use Rattle.words.specs.Words.{words, part}
 use Rattle.words.specs.Buffer.{placed}
 use Rattle.words.proofs.Words.{length_part}
@@ -15,9 +18,10 @@ use Rattle.moves.specs.Moves.{read_moves}
 use Rattle.moves.proofs.Accepted as moves
 use Rattle.transfer.specs.Inner.{Allotted}
 use Rattle.sheet.specs.Totals.{totals_in}
+use Rattle.text.specs.Text.{step_text}
 use Rattle.run.proofs.Lines.{moves-few, text_same}
 use Rattle.arrays.proofs.Padded.{padded-same}
-use Rattle.run.proofs.write_records.Goals.{After-word_number-e, After-word_number-nodes, Start}
+use Rattle.run.proofs.write_records.Goals.{After-read_words-counts, After-word_number-e, After-word_number-nodes, Start}
 use Rattle.run.proofs.write_records.Goals as goal
 
 accepted : (c : Start) → plan.Accepted c.args.plan.now (read_plan c.args.plan.now)
@@ -54,32 +58,6 @@ own_of-own-requires c =
     let fine = allotted-read _ _ _ _ _ (nodes-is (goal.at.own_of-own-requires c).After-word_number-nodes) g.allotted c.words_64-helpands.ensures c.words_64-shares.ensures in
     (g.sheet, nodes-is (goal.at.own_of-own-requires c).After-word_number-nodes ∙ g.nodes, fine)
 
--- an array that has e words at its front has at least e
-front_long : (xs ws a : List ℕ) (first e : ℕ) → first + e ≤ length ws → xs ≡ placed (part first e ws) a → e ≤ length xs
-front_long xs ws a first e l f =
-    omega (arith, ap length f, length-append (part first e ws) (drop (length (part first e ws)) a), length_part first e ws l)
-
-pub write_step-requires : goal.write_step-requires
-write_step-requires c =
-    let n = nodes-is (goal.at.write_step-requires c).After-word_number-nodes in
-    let e = moves-is (goal.at.write_step-requires c).After-word_number-e in
-    let l = moves.words_are c.args.moves.now (read_moves c.args.moves.now) (moves-accepted (goal.at.write_step-requires c).Start) in (
-      omega (arith, n, (accepted (goal.at.write_step-requires c).Start).n_high),
-      front_long _ (words c.args.moves.now) _ 2 _ (omega (arith, e, l)) c.get_words.ensures,
-      front_long _ (words c.args.moves.now) _ (2 + c.word_number-e.result) _ (omega (arith, e, l)) c.get_words-2.ensures,
-      omega (arith, n, e, (accepted (goal.at.write_step-requires c).Start).n_high, few (goal.at.write_step-requires c).Start, c.requires.1),
-    )
-
-pub returns : goal.returns
-returns c =
-    let same =
-    text_same c.args.sheet.now c.args.plan.now c.args.moves.now c.requires.0 _ _ _ _ _ _ _ _ _ _ _ (nodes-is (goal.at.returns c).After-word_number-nodes) (moves-is (goal.at.returns c).After-word_number-e)
-    c.words_64-helpands.ensures c.words_64-shares.ensures c.own_of-own.ensures c.get_words.ensures
-    c.get_words-2.ensures
-    (c.word_number-kind.ensures ∙ sym (accepted (goal.at.returns c).Start).kind_is)
-    (c.word_number-limit.ensures ∙ sym (accepted (goal.at.returns c).Start).limit_is) in
-    record { size = c.write_step.ensures.size ∙ ap length same; bytes = c.write_step.ensures.bytes ∙ ap (λ (x : List ℕ). placed x c.args.out.now) same }
-
 -- N words of the plan, and E of the moves, can be read
 words_requires : (c : After-word_number-nodes)
     → (4 * (3 + 2 * c.word_number-nodes.result) ≡ length c.args.plan.now) × (c.word_number-nodes.result ≤ 64)
@@ -110,8 +88,71 @@ words_64-shares-requires c = let r = words_requires (goal.at.words_64-shares-req
 pub word_number-e-requires : goal.word_number-e-requires
 word_number-e-requires c = omega (arith, (moves-accepted (goal.at.word_number-e-requires c).Start).size)
 
-pub get_words-requires : goal.get_words-requires
-get_words-requires c = let r = moves_requires (goal.at.get_words-requires c).After-word_number-e in (omega (arith, r), omega (arith, r))
+pub read_words-routes-requires : goal.read_words-routes-requires
+read_words-routes-requires c = let r = moves_requires (goal.at.read_words-routes-requires c).After-word_number-e in (omega (arith, r), omega (arith, r))
 
-pub get_words-requires-2 : goal.get_words-requires-2
-get_words-requires-2 c = let r = moves_requires (goal.at.get_words-requires-2 c).After-word_number-e in (omega (arith, r), omega (arith, r))
+pub read_words-counts-requires : goal.read_words-counts-requires
+read_words-counts-requires c = let r = moves_requires (goal.at.read_words-counts-requires c).After-word_number-e in (omega (arith, r), omega (arith, r))
+
+-- E words stand at the front of each array
+front : (ws : List ℕ) (first e : ℕ) {xs : List ℕ} → first + e ≤ length ws → xs ≡ placed (part first e ws) (replicate table_size 0)
+    → take e xs ≡ part first e ws
+front ws first e l f =
+    rw f (take_at (part first e ws) (drop (length (part first e ws)) (replicate table_size 0)) e (length_part first e ws l))
+
+-- each array has room for them
+module _ (c : After-read_words-counts) where
+  within : (c.word_number-e.result ≤ length c.read_words-routes.result) × (c.word_number-e.result ≤ length c.read_words-counts.result)
+  within =
+      let few' = moves-few c.args.sheet.now c.args.plan.now c.args.moves.now c.requires.0 in
+      let e = c.word_number-e.ensures ∙ sym (moves.moves-accepted c.args.moves.now c.requires.0.moves).e_is in
+      let long : (length c.read_words-routes.result ≡ 4096) × (length c.read_words-counts.result ≡ 4096) = search rules in
+      (omega (arith, few', e, long.0), omega (arith, few', e, long.1))
+
+pub slice_bounds-routes-end : goal.slice_bounds-routes-end
+slice_bounds-routes-end c = (within (goal.at.slice_bounds-routes-end c).After-read_words-counts).0
+
+pub slice_bounds-counts-end : goal.slice_bounds-counts-end
+slice_bounds-counts-end c = (within (goal.at.slice_bounds-counts-end c).After-read_words-counts).1
+
+pub slice_bounds-write_step-end : goal.slice_bounds-write_step-end
+slice_bounds-write_step-end c = sym (length-take-le _ _ (within (goal.at.slice_bounds-write_step-end c).After-read_words-counts).0)
+
+pub slice_bounds-write_step-end-2 : goal.slice_bounds-write_step-end-2
+slice_bounds-write_step-end-2 c = sym (length-take-le _ _ (within (goal.at.slice_bounds-write_step-end-2 c).After-read_words-counts).1)
+
+pub write_step-requires : goal.write_step-requires
+write_step-requires c =
+    let p = goal.at.write_step-requires c in
+    let w = within p.After-read_words-counts in
+    let r = length-take-le c.word_number-e.result c.read_words-routes.result w.0 in
+    let k = length-take-le c.word_number-e.result c.read_words-counts.result w.1 in
+    let n = nodes-is p.After-word_number-nodes in
+    let e = moves-is p.After-word_number-e in
+    record {
+      few = omega (arith, n, (accepted p.Start).n_high);
+      same = r ∙ sym k;
+      room = omega (arith, n, e, r, (accepted p.Start).n_high, few p.Start, c.requires.1);
+    }
+
+pub returns : goal.returns
+returns c =
+    let p = goal.at.returns c in
+    let ws = words c.args.moves.now in
+    let e = c.word_number-e.result in
+    let is = moves-is p.After-word_number-e in
+    let l = moves.words_are c.args.moves.now (read_moves c.args.moves.now) (moves-accepted p.Start) in
+    let r = length-take-le e c.read_words-routes.result (within p.After-read_words-counts).0 in
+    let same =
+    text_same c.args.sheet.now c.args.plan.now c.args.moves.now c.requires.0 _ _ _ _ _ _ _ _ _ (nodes-is p.After-word_number-nodes) is
+    c.words_64-helpands.ensures c.words_64-shares.ensures c.own_of-own.ensures
+    (front ws 2 e (omega (arith, is, l)) c.read_words-routes.ensures)
+    (front ws (2 + e) e (omega (arith, is, l)) c.read_words-counts.ensures)
+    (c.word_number-kind.ensures ∙ sym (accepted p.Start).kind_is)
+    (c.word_number-limit.ensures ∙ sym (accepted p.Start).limit_is) in
+    let length-is = ap (λ (k : ℕ). step_text c.word_number-kind.result c.word_number-limit.result c.word_number-nodes.result
+    c.words_64-helpands.result c.words_64-shares.result c.own_of-own.result k
+    (take e c.read_words-routes.result) (take e c.read_words-counts.result)) r in
+    let whole = length-is ∙ same in
+    let w = c.write_step.ensures in
+    record { size = w.size ∙ ap length whole; bytes = w.bytes ∙ ap (λ (x : List ℕ). placed x c.args.out.now) whole }

@@ -1,25 +1,17 @@
-use borrow.Author.Tests.{le-leb, lt-leb}
-use mathlib.Core.Path.{◌≡◌, sym, ◌∙◌}
-use Prim.Native.Nat.{◌+◌}
+use native.Mathlib.Numerals.{add-one}
 use native.Mathlib.Omega.{arith}
-use Rattle.fold.proofs.Tests.{all_none, all-passes, all_fails}
-use Rattle.tally.proofs.holds.Goals.{else-limit-cells, then-limit-cells}
+use Prim.Native.Nat.{ℕ, ◌+◌, ◌<◌}
+use Rattle.std.proofs.lemmas.List.Edits.{get_or-between, length-between}
+use Rattle.fold.specs.All.{all}
 use Rattle.tally.proofs.holds.Goals as goal
 
-pub loop-k-preserved : goal.loop-k-preserved
-loop-k-preserved c =
-    let l = c.loop-k in (
-      omega (arith, c.loop-k-test.true),
-      elim c.if-limit-cells.branch [
-        | then-limit-cells w ↦ w.fine-is ∙ sym (all_fails (l.k + 1) _ l.k (omega arith) (lt-leb _ _ w.if-limit-cells.true))
-        | else-limit-cells w ↦ w.fine-is ∙ l.invariant.1 ∙ sym (all-passes l.k _ (le-leb _ _ w.if-limit-cells.false))
-      ],
-    )
+pub loop-least-init : goal.loop-least-init
+unfolding all
+loop-least-init c = search
 
-pub returns : goal.returns
-returns c =
-    let e : c.loop-k.k ≡ c.args.nodes = omega (arith, c.loop-k.invariant.0, c.loop-k-test.false) in
-    rw e at c.loop-k.invariant.1
-
-pub loop-k-init : goal.loop-k-init
-loop-k-init c = (omega arith, sym (all_none _))
+pub loop-least-preserved : goal.loop-least-preserved
+unfolding all
+loop-least-preserved c =
+    let k = c.loop-least.least-index in
+    let inside : 64 + k < 64 + c.args.nodes = omega (arith, length-between {X = ℕ}) in
+    rw add-one (cc (get_or-between c.args.cells.now 64 (64 + c.args.nodes) k 0 inside))

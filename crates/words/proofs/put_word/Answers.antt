@@ -1,13 +1,16 @@
--- `words::put_word` meets its contract: its four stores are those of `put_word`. Assumes nothing.
+-- `words::put_word` meets its contract: its store of four bytes is that of `put_word`. Assumes nothing.
+use mathlib.Core.Path.{◌≡◌, sym, ◌∙◌}
 use native.Mathlib.Omega.{arith}
-use lib.ListN.{length-set}
+use Prim.Native.Nat.{◌*◌}
+use Rattle.std.proofs.lemmas.Slice.{put_mid-paste}
+use Rattle.words.specs.Words.{bytes_of}
+use Rattle.words.proofs.Buffer.{put-eq, low_bytes}
 use Rattle.words.proofs.put_word.Goals as goal
 
-pub bounds-out-i-2 : goal.bounds-out-i-2
-bounds-out-i-2 c = simp length-set (omega arith)
-
-pub bounds-out-i-3 : goal.bounds-out-i-3
-bounds-out-i-3 c = simp length-set (omega arith)
-
-pub bounds-out-i-4 : goal.bounds-out-i-4
-bounds-out-i-4 c = simp length-set (omega arith)
+pub returns : goal.returns
+returns c =
+    let a = c.args in
+    let bytes : c.copy_from_slice.new.self ≡ bytes_of a.w =
+    c.copy_from_slice.ensures.after ∙ c.to_le_bytes.ensures ∙ low_bytes a.w c.ranges.w.fits in
+    put_mid-paste (4 * a.k) _ a.out.now c.copy_from_slice.new.self (bytes_of a.w) 4 bytes (omega arith) (omega arith)
+    ∙ sym (put-eq a.out.now (4 * a.k) a.w c.requires)

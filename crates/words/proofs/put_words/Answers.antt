@@ -1,9 +1,9 @@
-use mathlib.Core.Path.{◌≡◌, refl, ap, ◌∙◌}
+use mathlib.Core.Path.{◌≡◌, ap, ◌∙◌}
 use mathlib.Core.List.{List}
 use Prim.Native.Nat.{ℕ, ◌+◌, ◌*◌, ◌<◌}
 use native.Mathlib.Omega.{arith}
-use lib.ListN.{length, get_or, take, length-set, length-take}
-use lib.Seq.{sets}
+use lib.ListN.{length, get_or, take, length-take}
+use lib.Seq.{sets, take_all}
 use Rattle.words.specs.Words.{encode, put_word}
 use Rattle.words.proofs.Words.{encode_more}
 use Rattle.words.proofs.Buffer.{put_behind}
@@ -11,7 +11,7 @@ use Rattle.words.proofs.put_words.Goals as goal
 
 pub loop-i-init : goal.loop-i-init
 unfolding encode
-loop-i-init c = (omega arith, refl, refl)
+loop-i-init c = search
 
 -- one more word
 more : (out ws : List ℕ) (first i : ℕ) → i < length ws
@@ -24,15 +24,9 @@ pub loop-i-preserved : goal.loop-i-preserved
 loop-i-preserved c =
     let a = c.args in
     let i = c.loop-i.i in
-    let e = c.put_word.ensures in (
-      omega arith,
-      e ∙ ap (λ (o : List ℕ). put_word o (4 * (a.first + i)) (get_or a.ws.now i 0)) c.loop-i.invariant.1
-          ∙ more a.out.now a.ws.now a.first i (omega arith),
-      ap length e ∙ simp length-set c.loop-i.invariant.2,
-    )
+    c.put_word.ensures
+    ∙ ap (λ (o : List ℕ). put_word o (4 * (a.first + i)) (get_or a.ws.now i 0)) c.loop-i.invariant
+    ∙ more a.out.now a.ws.now a.first i (omega arith)
 
 pub returns : goal.returns
-returns c =
-    let a = c.args in
-    let e : c.loop-i.i ≡ a.k = omega arith in
-    rw e at c.loop-i.invariant.1
+returns c = rw (take_all c.loop-i.i c.args.ws.now (omega arith)) at c.loop-i.invariant

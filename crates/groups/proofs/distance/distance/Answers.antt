@@ -5,7 +5,7 @@ use Rattle.arrays.specs.Arrays.{at}
 use Rattle.groups.specs.Colour.{distance}
 use Rattle.groups.proofs.Distances.{distance_most}
 use Rattle.groups.proofs.Noting.{unknown-step}
-use Rattle.groups.proofs.distance.distance.Goals.{After-loop-node, At-loop-node, In-loop-node}
+use Rattle.groups.proofs.distance.distance.Goals.{At-loop-node, In-loop-node}
 use Rattle.groups.proofs.distance.distance.Goals as goal
 
 -- a node that is not known: its helpand is nearer
@@ -22,51 +22,18 @@ short : (l : At-loop-node) → l.loop-node.steps ≤ 64
 short l = omega (arith, l.loop-node.invariant.1, distance_most l.requires.0 l.args.k)
 
 pub loop-node-preserved : goal.loop-node-preserved
-loop-node-preserved c =
-    (c.requires.0.inside c.loop-node.node c.loop-node.invariant.0, omega (arith, c.loop-node.invariant.1, nearer (goal.at.loop-node-preserved c).In-loop-node))
-
--- a node that is known
-known-right : (c : After-loop-node) →
-    let a = c.args in
-    at a.known.now c.loop-node.node ≡ distance a.nodes (at a.helpands.now) c.loop-node.node
-known-right c =
-    c.requires.1.right c.loop-node.node c.loop-node.invariant.0 c.loop-node-test.false
-
-pub returns : goal.returns
-returns c =
-    omega (arith, c.loop-node.invariant.1, known-right (goal.at.returns c).After-loop-node)
-
-pub loop-node-init : goal.loop-node-init
-loop-node-init c = (c.requires.2, omega arith)
-
-pub offset_bounds-known-node : goal.offset_bounds-known-node
-offset_bounds-known-node c = omega (arith, c.loop-node.invariant.0, c.requires.0.few)
-
-pub bounds-known-node : goal.bounds-known-node
-bounds-known-node c = omega (arith, c.loop-node.invariant.0, c.requires.0.few)
-
-pub offset_bounds-helpands-node : goal.offset_bounds-helpands-node
-offset_bounds-helpands-node c = omega (arith, c.loop-node.invariant.0, c.requires.0.few)
-
-pub bounds-helpands-node : goal.bounds-helpands-node
-bounds-helpands-node c = omega (arith, c.loop-node.invariant.0, c.requires.0.few)
-
-pub overflow_cast-node : goal.overflow_cast-node
-overflow_cast-node c =
-    let p = c.requires.0 in
-    omega (arith, p.inside c.loop-node.node c.loop-node.invariant.0, p.few)
-
-pub overflow_add-steps : goal.overflow_add-steps
-overflow_add-steps c = omega (arith, short (goal.at.overflow_add-steps c).At-loop-node)
+loop-node-preserved c = (
+  c.requires.0.inside c.loop-node.node c.loop-node.invariant.0,
+  omega (arith, c.loop-node.invariant.1, nearer (goal.at.loop-node-preserved c).In-loop-node),
+)
 
 pub loop-node-smaller : goal.loop-node-smaller
 loop-node-smaller c = omega (arith, nearer (goal.at.loop-node-smaller c).In-loop-node)
 
-pub offset_bounds-known-node-2 : goal.offset_bounds-known-node-2
-offset_bounds-known-node-2 c = omega (arith, c.loop-node.invariant.0, c.requires.0.few)
-
-pub bounds-known-node-2 : goal.bounds-known-node-2
-bounds-known-node-2 c = omega (arith, c.loop-node.invariant.0, c.requires.0.few)
+pub overflow_add-steps : goal.overflow_add-steps
+overflow_add-steps c = omega (arith, short (goal.at.overflow_add-steps c).At-loop-node)
 
 pub overflow_add-result : goal.overflow_add-result
-overflow_add-result c = omega (arith, short (goal.at.overflow_add-result c).At-loop-node, known-right (goal.at.overflow_add-result c).After-loop-node, distance_most c.requires.0 c.loop-node.node)
+overflow_add-result c =
+    let known = c.requires.1.right c.loop-node.node c.loop-node.invariant.0 c.loop-node-test.false in
+    omega (arith, short (goal.at.overflow_add-result c).At-loop-node, known, distance_most c.requires.0 c.loop-node.node)

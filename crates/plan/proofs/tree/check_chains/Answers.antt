@@ -1,6 +1,6 @@
 use borrow.Author.Rules.{rules}
 use borrow.Author.Tests.{ltb-true}
-use mathlib.Core.Path.{◌≡◌, refl, sym, ap, ◌∙◌}
+use mathlib.Core.Path.{refl, sym, ap, ◌∙◌}
 use native.Mathlib.Omega.{arith}
 use Rattle.fold.proofs.Tests.{all_none, all_more, all_fails, all-at}
 use Rattle.plan.specs.Inner.{checked_of}
@@ -16,16 +16,8 @@ steps-preserved c = (
 )
 
 pub nodes-preserved : goal.nodes-preserved
-nodes-preserved c = (
-  search rules,
-  all_more _ _ c.nodes.invariant.1 (c.steps.invariant.2 ∙ reaches-root _ _ _ c.if-next-here.true),
-  c.steps.invariant.3,
-)
-
-pub returns-after-nodes : goal.returns-after-nodes
-returns-after-nodes c =
-    let e : c.nodes.node ≡ c.args.nodes = omega arith in
-    c.nodes.invariant.2 ∙ ap checked_of (sym (rw e at c.nodes.invariant.1))
+nodes-preserved c =
+    (all_more _ _ c.nodes.invariant.0 (c.steps.invariant.2 ∙ reaches-root _ _ _ c.if-next-here.true), c.steps.invariant.3)
 
 pub returns-then-left-eq0 : goal.returns-then-left-eq0
 returns-then-left-eq0 c =
@@ -34,7 +26,4 @@ returns-then-left-eq0 c =
     (c.steps.invariant.2 ∙ reaches-none _ _ _ c.if-next-here.false c.if-left-eq0.true)))
 
 pub nodes-init : goal.nodes-init
-nodes-init c = (search rules, all_none _, refl)
-
-pub steps-init : goal.steps-init
-steps-init c = (search rules, search rules, refl, c.nodes.invariant.2)
+nodes-init c = (all_none _, refl)

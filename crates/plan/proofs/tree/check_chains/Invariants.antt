@@ -2,22 +2,19 @@
 -- chain reaches a root if what is left of it does, in the steps that are left. Assumes nothing.
 use mathlib.Core.Path.{◌≡◌}
 use mathlib.Core.Bool.{true}
-use Prim.Native.Nat.{◌≤◌, ◌<◌, ◌-◌}
+use Prim.Native.Nat.{◌≤◌, ◌<◌}
 use Rattle.fold.specs.All.{all}
-use Rattle.plan.specs.declared.Checked.TheVariants.{Passed}
 use Rattle.plan.specs.Tree.{reaches}
 use Rattle.arrays.specs.Arrays.{at}
 use Rattle.plan.proofs.tree.check_chains.Given as goal
+use Rattle.std.specs.Prelude.{Ok}
 
 abbrev pub invariant-steps : goal.invariant-steps
 invariant-steps l =
-    (l.here < l.nodes) × (l.left ≤ l.nodes) × (reaches (at l.helpands) l.nodes l.node ≡ reaches (at l.helpands) l.left l.here) × (l.found ≡ Passed)
+    (l.here < l.nodes) × (l.left ≤ l.nodes) × (reaches (at l.helpands) l.nodes l.node ≡ reaches (at l.helpands) l.left l.here) × (l.found ≡ Ok tt)
 
 abbrev pub decreases-steps : goal.decreases-steps
 decreases-steps l = l.left
 
 abbrev pub invariant-nodes : goal.invariant-nodes
-invariant-nodes l = (l.node ≤ l.nodes) × (all l.node (reaches (at l.helpands) l.nodes) ≡ true) × (l.found ≡ Passed)
-
-abbrev pub decreases-nodes : goal.decreases-nodes
-decreases-nodes l = l.nodes - l.node
+invariant-nodes l = (all l.node (reaches (at l.helpands) l.nodes) ≡ true) × (l.found ≡ Ok tt)

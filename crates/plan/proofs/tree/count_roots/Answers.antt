@@ -1,6 +1,6 @@
 use borrow.Author.Rules.{rules}
 use borrow.Author.Tests.{eq-eqb, ne_eqb}
-use mathlib.Core.Path.{◌≡◌, sym}
+use mathlib.Core.Path.{sym}
 use native.Mathlib.Omega.{arith}
 use Rattle.fold.specs.Sum.{only}
 use Rattle.fold.proofs.Tests.{only-is, only-not}
@@ -19,10 +19,5 @@ loop-k-preserved c =
       | else-helpands-k w ↦ omega (arith, sum_more k (λ j. only (is_root h j) 1), only-not (is_root h k) 1 (ne_eqb (h k) k w.if-helpands-k.false))
     ]
 
-pub returns : goal.returns
-returns c =
-    let e : c.loop-k.k ≡ c.args.nodes = omega arith in
-    rw e at c.loop-k.invariant.2
-
 pub loop-k-init : goal.loop-k-init
-loop-k-init c = (search rules, search rules, sym (sum-none _))
+loop-k-init c = (search rules, sym (sum-none _))

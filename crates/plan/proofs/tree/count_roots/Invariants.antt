@@ -1,12 +1,9 @@
 -- `plan::tree::count_roots` meets its contract: count is the number of roots among the nodes passed. Assumes nothing.
 use mathlib.Core.Path.{◌≡◌}
-use Prim.Native.Nat.{◌≤◌, ◌-◌}
+use Prim.Native.Nat.{◌≤◌}
 use Rattle.plan.specs.Tree.{roots}
 use Rattle.arrays.specs.Arrays.{at}
 use Rattle.plan.proofs.tree.count_roots.Given as goal
 
 abbrev pub invariant-loop-k : goal.invariant-loop-k
-invariant-loop-k l = (l.k ≤ l.nodes) × (l.count ≤ l.k) × (l.count ≡ roots l.k (at l.helpands))
-
-abbrev pub decreases-loop-k : goal.decreases-loop-k
-decreases-loop-k l = l.nodes - l.k
+invariant-loop-k l = (l.count ≤ l.k) × (l.count ≡ roots l.k (at l.helpands))

@@ -2,7 +2,7 @@
 -- were.
 -- Assumes nothing.
 use mathlib.Core.Path.{◌≡◌}
-use Prim.Native.Nat.{ℕ, ◌+◌, ◌≤◌, ◌<◌, ◌-◌}
+use Prim.Native.Nat.{ℕ, ◌+◌, ◌≤◌, ◌<◌}
 use lib.ListN.{length}
 use Rattle.arrays.specs.Arrays.{at}
 use Rattle.sheet.specs.Totals.{total_of}
@@ -10,7 +10,4 @@ use Rattle.sheet.proofs.totals.add_row.Given as goal
 
 abbrev pub invariant-loop-n : goal.invariant-loop-n
 invariant-loop-n l =
-    (l.n ≤ l.nodes) × (length l.totals ≡ 64) × ((k : ℕ) → k < l.n → at l.totals k ≡ total_of (l.holder + 1) l.table k) × ((k : ℕ) → l.n ≤ k → at l.totals k ≡ at l.initial.totals k)
-
-abbrev pub decreases-loop-n : goal.decreases-loop-n
-decreases-loop-n l = l.nodes - l.n
+    (length l.totals ≡ 64) × ((k : ℕ) → k < l.n → at l.totals k ≡ total_of (l.holder + 1) l.table k) × ((k : ℕ) → l.n ≤ k → at l.totals k ≡ at l.initial.totals k)

@@ -1,4 +1,4 @@
-use mathlib.Core.Path.{◌≡◌, refl, sym, ◌∙◌}
+use mathlib.Core.Path.{refl, sym, ◌∙◌}
 use native.Mathlib.Omega.{arith}
 use lib.ListN.{replicate, get_or-replicate}
 use Rattle.fold.proofs.Sums.{sum-none}
@@ -10,17 +10,7 @@ use Rattle.sheet.proofs.totals.totals.Goals as goal
 
 pub loop-holder-init : goal.loop-holder-init
 loop-holder-init c =
-    let a = c.args in (
-      omega arith,
-      tabulate-is a.nodes (total_of 0 a.table.now) (omega arith) (replicate 64 0) refl
-          (λ k l. get_or-replicate 64 k 0 0 (omega arith) ∙ sym (sum-none (λ j. held a.table.now j k)))
-          (λ k l. zeros-at 64 k),
-    )
-
-pub returns : goal.returns
-returns c =
-    let e : c.loop-holder.holder ≡ c.args.nodes = omega arith in
-    rw e at c.loop-holder.invariant.1
-
-pub loop-holder-preserved : goal.loop-holder-preserved
-loop-holder-preserved c = (omega arith, c.add_row.ensures)
+    let a = c.args in
+    tabulate-is a.nodes (total_of 0 a.table.now) (omega arith) (replicate 64 0) refl
+    (λ k l. get_or-replicate 64 k 0 0 (omega arith) ∙ sym (sum-none (λ j. held a.table.now j k)))
+    (λ k l. zeros-at 64 k)

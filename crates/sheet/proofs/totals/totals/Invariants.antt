@@ -1,12 +1,8 @@
 -- `sheet::totals::totals` meets its contract: the array has the totals of what the holders passed have. Assumes nothing.
 use mathlib.Core.Path.{◌≡◌}
-use Prim.Native.Nat.{◌≤◌, ◌-◌}
 use Rattle.sheet.specs.Totals.{total_of}
 use Rattle.arrays.specs.Arrays.{tabulate}
 use Rattle.sheet.proofs.totals.totals.Given as goal
 
 abbrev pub invariant-loop-holder : goal.invariant-loop-holder
-invariant-loop-holder l = (l.holder ≤ l.nodes) × (l.out ≡ tabulate l.nodes (total_of l.holder l.table))
-
-abbrev pub decreases-loop-holder : goal.decreases-loop-holder
-decreases-loop-holder l = l.nodes - l.holder
+invariant-loop-holder l = l.out ≡ tabulate l.nodes (total_of l.holder l.table)

@@ -1,7 +1,7 @@
 -- `sheet::write::put_sheet` meets its contract: at the loop's head both arrays hold the cells passed that have a count, and their
 -- counts. Assumes nothing.
 use mathlib.Core.Path.{◌≡◌}
-use Prim.Native.Nat.{◌+◌, ◌*◌, ◌-◌, ◌≤◌}
+use Prim.Native.Nat.{◌+◌, ◌*◌, ◌≤◌}
 use lib.ListN.{length}
 use lib.Seq.{sets}
 use Rattle.fold.specs.Collect.{collect}
@@ -12,9 +12,5 @@ use Rattle.sheet.proofs.write.put_sheet.Given as goal
 
 abbrev pub invariant-loop-c : goal.invariant-loop-c
 invariant-loop-c l =
-    (l.c ≤ l.cells) × (l.i ≤ l.c) × (l.i ≡ length (collect l.c (filled l.table)))
+    (l.i ≤ l.c) × (l.i ≡ length (collect l.c (filled l.table)))
     × (l.out ≡ sets (sets l.initial.out 12 (encode (collect l.c (filled l.table)))) (4 * (3 + l.e)) (encode (counts l.table l.c)))
-    × (length l.out ≡ length l.initial.out)
-
-abbrev pub decreases-loop-c : goal.decreases-loop-c
-decreases-loop-c l = l.cells - l.c

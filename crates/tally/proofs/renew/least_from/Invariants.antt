@@ -7,7 +7,8 @@ use Rattle.tally.proofs.renew.least_from.Given as goal
 
 abbrev pub invariant-loop-k : goal.invariant-loop-k
 invariant-loop-k l =
-    Left l.nodes (at l.helpands) l.n (λ j. l.limit - least_at l.cells j) (total_at l.cells l.n) l.left l.k
+    let h = l.helpers in
+    Left h.nodes (at h.helpands.now) l.n (λ j. l.limit - least_at l.cells j) (total_at l.cells l.n) l.left l.k
 
 abbrev pub decreases-loop-k : goal.decreases-loop-k
-decreases-loop-k l = l.nodes - l.k
+decreases-loop-k l = l.helpers.nodes - l.k

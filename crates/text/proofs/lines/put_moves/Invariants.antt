@@ -1,14 +1,8 @@
--- `text::lines::put_moves` meets its contract: after i turns the lines of the first i moves are written. Assumes nothing.
-use mathlib.Core.Path.{◌≡◌}
-use Prim.Native.Nat.{◌-◌, ◌≤◌}
+-- `text::lines::put_moves` meets its contract: after so many turns the lines of as many moves are written. Assumes nothing.
 use lib.ListN.{length}
 use Rattle.text.specs.Text.{moves_text}
-use Rattle.text.specs.Inner.{Put}
+use Rattle.text.specs.Writer.{Wrote}
 use Rattle.text.proofs.lines.put_moves.Given as goal
 
-abbrev pub invariant-loop-i : goal.invariant-loop-i
-invariant-loop-i l =
-    (l.i ≤ l.e) × Put l.initial.out l.at (moves_text l.i l.routes l.counts) l.out l.next × (length l.out ≡ length l.initial.out)
-
-abbrev pub decreases-loop-i : goal.decreases-loop-i
-decreases-loop-i l = l.e - l.i
+abbrev pub invariant-loop-route : goal.invariant-loop-route
+invariant-loop-route l = Wrote l.initial.w (moves_text (length l.yielded) l.routes l.counts) l.w

@@ -1,25 +1,22 @@
-use mathlib.Core.Path.{◌≡◌, refl}
+use mathlib.Core.Path.{◌≡◌}
 use native.Mathlib.Omega.{arith}
 use Rattle.fold.proofs.Lists.{collect-none, collect_more}
 use Rattle.text.proofs.Lengths.{nodes-le}
-use Rattle.text.proofs.Writing.{put_none, put_then}
+use Rattle.text.proofs.Writing.{wrote_none, wrote_then}
 use Rattle.text.proofs.lines.put_nodes.Goals as goal
 
 pub loop-k-init : goal.loop-k-init
-loop-k-init c =
-    let a = c.args in
-    (omega arith, rw collect-none (put_none a.out.now a.at), refl)
+loop-k-init c = rw collect-none (wrote_none c.args.w.now)
 
-pub put_node-next-requires : goal.put_node-next-requires
-put_node-next-requires c =
+pub put_node-requires-clause-room : goal.put_node-requires-clause-room
+put_node-requires-clause-room c =
     let a = c.args in
     omega (arith, nodes-le c.loop-k.k a.helpands a.shares a.own (omega arith))
 
 pub loop-k-preserved : goal.loop-k-preserved
-loop-k-preserved c =
-    (omega arith, rw collect_more (put_then c.loop-k.invariant.1 c.put_node-next.ensures), omega arith)
+loop-k-preserved c = rw collect_more (wrote_then c.loop-k.invariant c.put_node.ensures)
 
 pub returns : goal.returns
 returns c =
     let e : c.loop-k.k ≡ c.args.nodes = omega arith in
-    rw e at c.loop-k.invariant.1
+    rw e at c.loop-k.invariant

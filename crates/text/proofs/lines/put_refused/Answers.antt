@@ -4,4 +4,4 @@ use Rattle.text.proofs.lines.put_refused.Goals as goal
 
 pub returns : goal.returns
 unfolding refused_text
-returns c = c.put_field.ensures
+returns c = c.field.ensures

@@ -5,9 +5,6 @@ use Rattle.text.proofs.Digits.{decimal-one, length_more}
 use Rattle.text.proofs.Lengths.{decimal-le}
 use Rattle.text.proofs.put.digit_count.Goals as goal
 
-pub loop-rest-init : goal.loop-rest-init
-loop-rest-init c = (omega arith, c.ranges.x.fits)
-
 pub overflow_add-k : goal.overflow_add-k
 overflow_add-k c =
     omega (arith, c.loop-rest.invariant.0, decimal-le c.args.x)
@@ -20,6 +17,3 @@ loop-rest-preserved c =
 pub returns : goal.returns
 returns c =
     omega (arith, c.loop-rest.invariant.0, ap length (decimal-one c.loop-rest.rest (omega arith)))
-
-pub loop-rest-smaller : goal.loop-rest-smaller
-loop-rest-smaller c = omega arith

@@ -1,13 +1,11 @@
 -- `text::split::split` meets its contract: all the input where the header is refused, and its size or all otherwise. Assumes nothing.
-use mathlib.Core.Path.{◌≡◌, sym, ap, ◌∙◌}
+use mathlib.Core.Path.{sym, ap, ◌∙◌}
 use Prim.Native.Nat.{◌+◌, ◌*◌, min}
 use native.Mathlib.Omega.{arith}
 use lib.ListN.{length}
 use Rattle.sheet.specs.Sheet.{HeaderAnswer, header_of}
 use Rattle.sheet.proofs.Answers.{number_more}
-use Rattle.text.specs.Split.{split_at}
 use Rattle.text.proofs.Splitting.{split-whole, split-size}
-use Rattle.text.proofs.split.split.Goals.{In-Accepted}
 use Rattle.text.proofs.split.split.Goals as goal
 
 -- the header was refused
@@ -17,17 +15,8 @@ returns-in_default c =
     sym (split-whole c.args.input.now (λ z. omega (arith, e, number_more c.in_default.field-0)))
 
 -- the size that the header says, and what there is
-sized : (c : In-Accepted) →
+pub returns : goal.returns
+returns c =
     let s = c.args.input.now in
-    split_at s ≡ min (4 * (3 + 2 * c.in-Accepted.h.e)) (length s)
-sized c =
-    let s = c.args.input.now in
-    let read = sym (ap header_of c.in-Accepted.is) ∙ c.read_header.ensures in
-    split-size s (ap (λ (a : HeaderAnswer). a.refusal) (sym read))
-    ∙ ap (λ (a : HeaderAnswer). min (4 * (3 + 2 * a.e)) (length s)) (sym read)
-
-pub returns-then-all-size : goal.returns-then-all-size
-returns-then-all-size c = omega (arith, sized (goal.at.returns-then-all-size c).In-Accepted)
-
-pub returns-else-all-size : goal.returns-else-all-size
-returns-else-all-size c = omega (arith, sized (goal.at.returns-else-all-size c).In-Accepted)
+    let e = split-size s (ap (λ (a : HeaderAnswer). a.refusal) (sym c.in-Ok.ensures)) in
+    c.min.ensures ∙ ap (λ (a : HeaderAnswer). min (4 * (3 + 2 * a.e)) (length s)) c.in-Ok.ensures ∙ sym e

@@ -2,7 +2,7 @@
 -- have in the end. Assumes nothing.
 use mathlib.Core.Path.{◌≡◌}
 use mathlib.Core.List.{List}
-use Prim.Native.Nat.{ℕ, ◌+◌, ◌-◌, ◌≤◌}
+use Prim.Native.Nat.{ℕ, ◌+◌}
 use lib.ListN.{length}
 use Rattle.limit.specs.Limit.{table_size}
 use Rattle.arrays.specs.Arrays.{at}
@@ -12,12 +12,8 @@ use Rattle.transfer.proofs.Applied.{moved_from}
 use Rattle.transfer.proofs.apply.add_receipts.Given as goal
 
 pub record Adding (old moves : List ℕ) (e : ℕ) (table : List ℕ) (i : ℕ) : Type 0 where
-  pub i_le : i ≤ e
   pub size : length table ≡ table_size
   pub added : (c : ℕ) → at table c + moved_from into_cell moves e i c ≡ at old c + receives (routes_of moves e) (counts_of moves e) c
 
 abbrev pub invariant-loop-i : goal.invariant-loop-i
 invariant-loop-i l = Adding l.initial.table l.moves l.e l.table l.i
-
-abbrev pub decreases-loop-i : goal.decreases-loop-i
-decreases-loop-i l = l.e - l.i

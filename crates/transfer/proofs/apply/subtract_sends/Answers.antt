@@ -14,7 +14,7 @@ use Rattle.transfer.proofs.apply.subtract_sends.Invariants.{Subtracting}
 use Rattle.transfer.proofs.apply.subtract_sends.Goals as goal
 
 -- ---- a turn: the move of the route and the count that were read
-module _ (old moves : List ℕ) (e : ℕ) (table : List ℕ) (i : ℕ) (s : Subtracting old moves e table i) (h : i < e) (route count : ℕ)
+module _ {old moves : List ℕ} {e : ℕ} {table : List ℕ} {i : ℕ} (s : Subtracting old moves e table i) (h : i < e) {route count : ℕ}
     (entry : Entry moves e i route count) where
   abbrev cell : ℕ
   cell = from_cell route
@@ -30,13 +30,12 @@ module _ (old moves : List ℕ) (e : ℕ) (table : List ℕ) (i : ℕ) (s : Subt
   after l =
       let b : cell < length table = omega (arith, s.size, from-below route entry.below) in
       record {
-        i_le = omega arith;
         size = simp length-set s.size;
         left = λ c. omega (arith, s.left c, moved-from_more from_cell moves e i route count entry c, less-at table cell count b c l);
       }
 
 -- ---- no move is left
-module _ (old moves : List ℕ) (e : ℕ) (table : List ℕ) (i : ℕ) (s : Subtracting old moves e table i) (h : e ≤ i)
+module _ {old moves : List ℕ} {e : ℕ} {table : List ℕ} {i : ℕ} (s : Subtracting old moves e table i) (h : e ≤ i)
     (same : length old ≡ table_size) where
   left-all : (c : ℕ) → at table c + sends (routes_of moves e) (counts_of moves e) c ≡ at old c
   left-all c = omega (arith, s.left c, moved-from-none from_cell moves e i h c)
@@ -52,46 +51,25 @@ read : (c : After-word_number-sent) → let a = c.args in
     Entry a.moves.now a.e c.loop-i.i c.word_number.result c.word_number-sent.result
 read c = entry_read _ _ _ c.requires.entries c.loop-i-test.true _ _ c.word_number.ensures c.word_number-sent.ensures
 
-from-lt : (c : After-word_number-sent) → c.from_cell-from.result < table_size
-from-lt c = omega (arith, c.from_cell-from.ensures, (read c).below)
-
 pub loop-i-init : goal.loop-i-init
-loop-i-init c = record { i_le = omega arith; size = c.requires.size; left = λ j. refl }
+loop-i-init c = record { size = c.requires.size; left = λ j. refl }
 
 pub returns-then-table-from : goal.returns-then-table-from
 returns-then-table-from c =
-    let a = c.args in
-    let l = c.loop-i in record {
-      answer = sym (fails a.table.now a.moves.now a.e l.table l.i l.invariant c.loop-i-test.true _ _ (read (goal.at.returns-then-table-from c).After-word_number-sent)
-          c.requires.size (rw (← c.from_cell-from.ensures) c.if-table-from.true));
+    let entry = read (goal.at.returns-then-table-from c).After-word_number-sent in
+    let short = rw c.from_cell-from.ensures.cell at c.if-table-from.true in record {
+      answer = sym (fails c.loop-i.invariant c.loop-i-test.true entry c.requires.size short);
       left = λ z. absurd (true≢false (sym z));
     }
 
 pub loop-i-preserved : goal.loop-i-preserved
 loop-i-preserved c =
-    let a = c.args in
-    let l = c.loop-i in
-    rw c.from_cell-from.ensures
-    (after a.table.now a.moves.now a.e l.table l.i l.invariant c.loop-i-test.true _ _ (read (goal.at.loop-i-preserved c).After-word_number-sent)
-    (rw (← c.from_cell-from.ensures) c.if-table-from.false))
+    let entry = read (goal.at.loop-i-preserved c).After-word_number-sent in
+    let enough = rw c.from_cell-from.ensures.cell at c.if-table-from.false in
+    rw c.from_cell-from.ensures.cell (after c.loop-i.invariant c.loop-i-test.true entry enough)
 
 pub returns : goal.returns
 returns c =
-    let l = c.loop-i in
-    let a = c.args in
-    let h = c.loop-i-test.false in record { answer = sym (passes a.table.now a.moves.now a.e l.table l.i l.invariant h c.requires.size); left = λ z. left_is a.table.now a.moves.now a.e l.table l.i l.invariant h c.requires.size }
-
-pub offset_bounds-table-from : goal.offset_bounds-table-from
-offset_bounds-table-from c = omega (arith, from-lt (goal.at.offset_bounds-table-from c).After-word_number-sent)
-
-pub bounds-table-from : goal.bounds-table-from
-bounds-table-from c = from-lt (goal.at.bounds-table-from c).After-word_number-sent
-
-pub offset_bounds-table-from-in-loop-i : goal.offset_bounds-table-from-in-loop-i
-offset_bounds-table-from-in-loop-i c = omega (arith, from-lt (goal.at.offset_bounds-table-from-in-loop-i c).After-word_number-sent)
-
-pub bounds-table-from-in-loop-i : goal.bounds-table-from-in-loop-i
-bounds-table-from-in-loop-i c = from-lt (goal.at.bounds-table-from-in-loop-i c).After-word_number-sent
-
-pub bounds-table-from-in-loop-i-2 : goal.bounds-table-from-in-loop-i-2
-bounds-table-from-in-loop-i-2 c = from-lt (goal.at.bounds-table-from-in-loop-i-2 c).After-word_number-sent
+    let v = c.loop-i.invariant in
+    let end = c.loop-i-test.false in
+    record { answer = sym (passes v end c.requires.size); left = λ z. left_is v end c.requires.size }

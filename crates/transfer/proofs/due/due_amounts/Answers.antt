@@ -1,24 +1,22 @@
-use mathlib.Core.Path.{◌≡◌, refl, sym}
+use mathlib.Core.Path.{◌≡◌, sym}
 use Prim.Native.Nat.{ℕ}
 use native.Mathlib.Omega.{arith}
-use lib.ListN.{length-set}
 use Rattle.arrays.specs.Arrays.{at}
 use Rattle.transfer.specs.Due.{due_with}
-use Rattle.arrays.proofs.Tabulate.{tabulate-none, tabulate_more}
+use Rattle.arrays.proofs.Tabulate.{tabulate-none, tabulate-next}
 use Rattle.transfer.proofs.due.due_amounts.Goals as goal
+
+pub loop-k-init : goal.loop-k-init
+loop-k-init c = sym (tabulate-none _)
 
 pub loop-k-preserved : goal.loop-k-preserved
 loop-k-preserved c =
     let a = c.args in
     let due : ℕ → ℕ = due_with (at a.helpands.now) (at a.shares.now) a.own a.n in
-    let v : c.due_amount.result ≡ due c.loop-k.k = unfold due_with in c.due_amount.ensures in
-    (omega arith, simp length-set c.loop-k.invariant.1, rw (c.loop-k.invariant.2, v) (tabulate_more due c.loop-k.k (omega arith)))
+    tabulate-next due c.loop-k.k c.due_amount.result c.loop-k.due (omega arith) c.loop-k.invariant
+    (unfold due_with in c.due_amount.ensures)
 
 pub returns : goal.returns
 returns c =
-    let a = c.args in
-    let e : c.loop-k.k ≡ a.nodes = omega arith in
-    rw e at c.loop-k.invariant.2
-
-pub loop-k-init : goal.loop-k-init
-loop-k-init c = (omega arith, refl, sym (tabulate-none _))
+    let e : c.loop-k.k ≡ c.args.nodes = omega arith in
+    rw e at c.loop-k.invariant

@@ -1,7 +1,8 @@
 -- `transfer::matching::all_moves` meets its contract: after n turns the moves of the first n subdomains are written. Assumes nothing.
 use mathlib.Core.List.{List}
-use Prim.Native.Nat.{ℕ, ◌-◌, ◌≤◌}
+use Prim.Native.Nat.{ℕ}
 use Rattle.arrays.specs.Arrays.{at}
+use Rattle.transfer.specs.List.{routes_in, counts_in}
 use Rattle.transfer.specs.Due.{due_with}
 use Rattle.transfer.proofs.Subdomains.{WrittenBelow}
 use Rattle.transfer.proofs.matching.all_moves.Given as goal
@@ -12,7 +13,4 @@ dues helpands shares own n = due_with (at helpands) (at shares) (at own n) n
 
 abbrev pub invariant-loop-n : goal.invariant-loop-n
 invariant-loop-n l =
-    (l.n ≤ l.nodes) × WrittenBelow l.nodes l.table (dues l.helpands l.shares l.own) l.initial.routes l.initial.counts l.n l.routes l.counts l.e
-
-abbrev pub decreases-loop-n : goal.decreases-loop-n
-decreases-loop-n l = l.nodes - l.n
+    WrittenBelow l.nodes l.table (dues l.helpands l.shares l.own) l.n (routes_in l.moves) (counts_in l.moves)

@@ -21,7 +21,7 @@ pub record WeighedSoFar (nodes : ℕ) (h total : ℕ → ℕ) (limit n : ℕ) (b
 
 abbrev pub invariant-least-loop-k : goal.invariant-least-loop-k
 invariant-least-loop-k l =
-    WeighedSoFar l.nodes (at l.helpands) (at l.totals) l.limit l.n l.initial.leasts l.leasts l.left l.k
+    WeighedSoFar l.helpers.nodes (at l.helpers.helpands.now) (at l.totals) l.limit l.n l.initial.leasts l.leasts l.left l.k
 
 abbrev pub decreases-least-loop-k : goal.decreases-least-loop-k
-decreases-least-loop-k l = l.nodes - l.k
+decreases-least-loop-k l = l.helpers.nodes - l.k

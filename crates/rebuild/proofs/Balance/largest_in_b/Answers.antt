@@ -1,0 +1,23 @@
+-- `Balance::largest_in_b` meets its contract: what the chain keeps of the nodes in B is the best of them. Assumes nothing.
+use mathlib.Core.Path.{refl}
+use native.Mathlib.Omega.{arith}
+use borrow.Author.Rules.{rules}
+use borrow.Author.Tests.{tests}
+use Rattle.std.proofs.lemmas.Iterator.{YieldsList-from_range}
+use Rattle.std.proofs.lemmas.Iterator.Consumers.{YieldsList-at, YieldsList-from_filter}
+use Rattle.fold.specs.Best.{larger}
+use Rattle.arrays.specs.Arrays.{at}
+use Rattle.rebuild.specs.Rebuild.{in_b}
+use Rattle.rebuild.proofs.Chains.{best-of}
+use Rattle.rebuild.proofs.Balance.largest_in_b.Goals as goal
+
+pub returns : goal.returns
+returns c =
+    let s = c.args.self.now in
+    let ok = in_b s.loads s.targets s.finished in
+    let beats = larger (at s.loads) in
+    best-of ok beats _ c.filter.result c.reduce.result c.args.nodes c.reduce.ensures.ran
+    (YieldsList-from_filter _ ok
+    (YieldsList-at c.filter.ensures.source (YieldsList-from_range 0 c.args.nodes c.args.nodes refl (omega arith)))
+    c.filter.ensures.closure (λ x b q k. search (rules, tests)))
+    (λ b k v q called. search (rules, tests))
