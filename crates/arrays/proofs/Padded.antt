@@ -2,8 +2,9 @@
 use mathlib.Core.Path.{◌≡◌, refl, sym, fun_ext, ◌∙◌}
 use mathlib.Core.List.{List, [], ◌∷◌, ◌++◌, append_assoc}
 use Prim.Native.Nat.{ℕ, zero, suc, ◌-◌, ◌<◌}
+use native.Mathlib.Numerals.{unary_clauses}
 use native.Mathlib.Omega.{arith}
-use lib.ListN.{length, set, replicate, length-append}
+use lib.ListN.{length, set, drop, replicate, length-append}
 use lib.Seq.{set-append_seam}
 use Rattle.arrays.specs.Arrays.{at, padded}
 
@@ -12,6 +13,14 @@ pub zeros-at : (n k : ℕ) → at (replicate n 0) k ≡ 0
 zeros-at zero k = refl
 zeros-at (suc n) zero = refl
 zeros-at (suc n) (suc k) = zeros-at n k
+
+-- fewer zeros
+pub drop-zeros : (n m : ℕ) → ◌≡◌ {A = List ℕ} (drop n (replicate m 0)) (replicate (m - n) 0)
+drop-zeros zero m = simp unary_clauses refl
+drop-zeros (suc n) zero =
+    let e : 0 - suc n ≡ 0 = omega arith in
+    rw e
+drop-zeros (suc n) (suc m) = simp unary_clauses (drop-zeros n m)
 
 behind-at : (xs : List ℕ) (n k : ℕ) → at (xs ++ replicate n 0) k ≡ at xs k
 behind-at [] n k = zeros-at n k

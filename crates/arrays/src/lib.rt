@@ -12,8 +12,8 @@ pub fn all_at_most(entries: [u32; 64], nodes: usize, bound: u32) -> bool
     ensures { result ≡ all nodes (λ k. leb (at entries k) bound) }
 {
     let mut fine = true;
-    for entry in &entries[..nodes] {
-        fine &= *entry <= bound;
+    for k in 0..nodes {
+        fine &= entries[k] <= bound;
     }
     fine
 }

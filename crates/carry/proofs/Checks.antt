@@ -29,8 +29,9 @@ use Rattle.transfer.specs.Apply.{sends_within}
 use Rattle.transfer.specs.Inner.{Readable, Ready}
 use Rattle.carry.specs.declared.check.CheckRefusal.{CheckRefusal}
 use Rattle.carry.specs.Checks.{check_number, within_in, checked}
-use Rattle.carry.specs.Inner.{PairAccepted}
+use Rattle.carry.specs.Inner.{PairAccepted, PairRead}
 use Rattle.carry.proofs.Answers.{numbered}
+use Rattle.std.specs.Prelude.{Err, Ok, Result}
 
 -- every check passes
 pub record Carriable (s m : List ℕ) : Type 0 where
@@ -55,6 +56,14 @@ module _ (s m : List ℕ) where
       → moves_accepted q.n q.e ≡ read_moves m → h.n ≢ q.n → 41 ≡ checked s m
   unfolding checked
   stops_differ {h} {q} a b d = rw (← a, ← b, ne_eqb h.n q.n d)
+
+-- what reading both gave
+module _ (s m : List ℕ) {p : Result (Sheet × Moves) CheckRefusal} (gave : PairRead s m p) where
+  pub pair-refused : {r : CheckRefusal} → p ≡ Err r → check_number r ≡ checked s m
+  pair-refused e = (rw e at gave).0
+
+  pub pair-accepted : {h : Sheet} {q : Moves} → p ≡ Ok (h, q) → PairAccepted s m h q
+  pair-accepted e = rw e at gave
 
 -- past 41
 module _ {s m : List ℕ} {h : Sheet} {q : Moves} (r : PairAccepted s m h q) where

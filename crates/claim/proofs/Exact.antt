@@ -19,7 +19,8 @@ use Rattle.sheet.specs.Sheet.{read_sheet}
 use Rattle.sheet.specs.Table.{table_in, held}
 use Rattle.sheet.specs.Totals.{totals_in}
 use Rattle.sheet.proofs.Accepted.{sheet-accepted}
-use Rattle.plan.specs.Plan.{kind_number, read_plan, helpands_of, shares_of}
+use Rattle.plan.specs.Plan.{read_plan, helpands_of, shares_of}
+use Rattle.plan.specs.Kinds.{kind_number}
 use Rattle.plan.proofs.Accepted.{plan-accepted, helpands_are}
 use Rattle.moves.specs.declared.MovesAnswer.{MovesAnswer}
 use Rattle.moves.specs.Moves.{read_moves, routes_of, counts_of}

@@ -6,7 +6,7 @@ use mathlib.Core.List.{List}
 use Prim.Native.Nat.{ℕ, ◌-◌, ◌≤◌, ◌<◌}
 use native.Mathlib.Omega.{arith}
 use lib.ListN.{length, take}
-use Rattle.plan.specs.Plan.{kind_number}
+use Rattle.plan.specs.Kinds.{kind_number}
 use Rattle.arrays.specs.Arrays.{at}
 use Rattle.sheet.specs.Sheet.{cell, read_sheet}
 use Rattle.sheet.specs.Table.{table_in, held}

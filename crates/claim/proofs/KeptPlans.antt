@@ -9,7 +9,8 @@ use Rattle.arrays.specs.Arrays.{at, tabulate}
 use Rattle.sheet.specs.Sheet.{read_sheet}
 use Rattle.sheet.specs.Table.{table_in}
 use Rattle.sheet.specs.Totals.{totals_in}
-use Rattle.plan.specs.Plan.{kind_number, helpands_of, shares_of}
+use Rattle.plan.specs.Plan.{helpands_of, shares_of}
+use Rattle.plan.specs.Kinds.{kind_number}
 use Rattle.tree.specs.Least.{least}
 use Rattle.decide.specs.declared.Decision.{Decision}
 use Rattle.decide.specs.Decide.{leasts_of}

@@ -14,7 +14,7 @@ use Rattle.fold.proofs.Sums.{sum_zeros, sum_term}
 use Rattle.fold.proofs.Tests.{either, and_left, and_right, all_of, only-max}
 use Rattle.limit.specs.Limit.{max_nodes, max_tolerance, max_total, limit_of}
 use Rattle.plan.specs.declared.Kind.{Kind}
-use Rattle.plan.specs.Plan.{kind_number}
+use Rattle.plan.specs.Kinds.{kind_number}
 use Rattle.plan.specs.Tree.{helpands_below, Tree}
 use Rattle.plan.proofs.RoundTrip.{ReadBack, tree-read-written, roots-read-written}
 use Rattle.sheet.specs.Table.{held}

@@ -9,7 +9,7 @@ use native.Mathlib.Omega.{arith}
 use Rattle.fold.proofs.Tests.{either}
 use Rattle.limit.specs.Limit.{limit_of}
 use Rattle.arrays.specs.Arrays.{at}
-use Rattle.plan.specs.Plan.{kind_number}
+use Rattle.plan.specs.Kinds.{kind_number}
 use Rattle.tree.specs.Division.{WithinLimit}
 use Rattle.tree.specs.Primary.{primary}
 use Rattle.tree.specs.Least.{holds}

@@ -74,19 +74,42 @@ fn weighed_plan(
 {
     let root = tree::least::find_root(old, nodes);
     let helpers = Helpers::of(&old, nodes);
-    let leasts = tree::least::leasts(totals, &helpers, root, limit);
+    let leasts = helpers.leasts(totals, root, limit);
     if tree::least::holds(leasts, nodes, limit) {
         return Decision {
             kind: Kind::Kept,
             helpands: old,
-            shares: shares::shares(table, totals, leasts, &helpers, root, limit),
+            shares: shares::kept_shares(table, totals, leasts, &helpers, root, limit),
         };
     }
     rebuilt_plan(totals, old, nodes, p)
 }
 
-// The plan of a step with these totals, which add up to p. `old` has the helpands of the old tree, if there is one.
+// The plan of a step with these totals, which add up to p. `tree` says whether there is an old tree.
 pub fn decide(
+    table: &[u32; TABLE_SIZE],
+    totals: [u32; 64],
+    tree: bool,
+    old: [u32; 64],
+    nodes: usize,
+    p: u32,
+    limit: u32,
+) -> Decision
+    requires { (1 ≤ nodes) × (nodes ≤ max_nodes) × (totals ≡ totals_of nodes table.now) × (sum nodes (at totals) ≡ p) × (p ≤ max_total)
+        × (helpands_below nodes (at old) ≡ true) × (tree ≡ true → (r : ℕ) × Tree nodes (at old) r) }
+    ensures { result ≡ decided nodes p limit table.now totals tree old }
+{
+    if tree::is_primary(totals, nodes, limit) {
+        primary_plan(nodes)
+    } else if tree {
+        weighed_plan(table, totals, old, nodes, p, limit)
+    } else {
+        rebuilt_plan(totals, old, nodes, p)
+    }
+}
+
+// The same, where `old` has the helpands of the old tree, if there is one. Without one each node is its own old helpand.
+pub fn decide_step(
     table: &[u32; TABLE_SIZE],
     totals: [u32; 64],
     old: Option<[u32; 64]>,
@@ -98,11 +121,8 @@ pub fn decide(
         × IfSome old (λ h. (r : ℕ) × Tree nodes (at h) r) }
     ensures { result ≡ decided nodes p limit table.now totals (is_some old) (unwrap_or old (own_numbers nodes)) }
 {
-    if tree::is_primary(totals, nodes, limit) {
-        return primary_plan(nodes);
-    }
     match old {
-        Some(helpands) => weighed_plan(table, totals, helpands, nodes, p, limit),
-        None => rebuilt_plan(totals, own_numbers(nodes), nodes, p),
+        Some(helpands) => decide(table, totals, true, helpands, nodes, p, limit),
+        None => decide(table, totals, false, own_numbers(nodes), nodes, p, limit),
     }
 }

@@ -38,10 +38,10 @@ some-colour d = by (either (coloured Even d))
     by (inl e) = (Even, e)
     by (inr e) = (Odd, odd_not d ∙ ap not e)
 
-even-not_odd : (d : ℕ) → coloured Even d ≡ true → coloured Odd d ≡ false
+pub even-not_odd : (d : ℕ) → coloured Even d ≡ true → coloured Odd d ≡ false
 even-not_odd d e = odd_not d ∙ ap not e
 
-odd_not-even : (d : ℕ) → coloured Odd d ≡ true → coloured Even d ≡ false
+pub odd_not-even : (d : ℕ) → coloured Odd d ≡ true → coloured Even d ≡ false
 odd_not-even d e = sym (not-not (coloured Even d)) ∙ ap not (sym (odd_not d) ∙ e)
 
 -- one step farther is the other colour
@@ -86,7 +86,7 @@ module _ {nodes : ℕ} {h : ℕ → ℕ} (t : Rooted nodes h) (c : Colour) where
     Is g = group_in nodes h c k ≡ g
 
     -- the own family has the colour
-    entry-own : Coloured k true → Is (own_group nodes h k)
+    pub entry-own : Coloured k true → Is (own_group nodes h k)
     entry-own e = by (either (has_helper nodes h k))
       where
         by : (has_helper nodes h k ≡ true) ⊎ (has_helper nodes h k ≡ false) → Is (own_group nodes h k)
@@ -97,7 +97,7 @@ module _ {nodes : ℕ} {h : ℕ → ℕ} (t : Rooted nodes h) (c : Colour) where
         ]
 
     -- it has not: then the helpand's has it, where there is one
-    entry_helped : Coloured k false → Is (helped_group (h k) k)
+    pub entry_helped : Coloured k false → Is (helped_group (h k) k)
     entry_helped e = elim (ℕ_discrete (h k) k) [
       | yes r ↦ rw (eq-eqb (h k) k r, r, group_not nodes h c k e)
       | no d ↦

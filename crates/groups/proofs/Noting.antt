@@ -1,5 +1,5 @@
 -- Laws of the distances that are known, one for each store into them. Assumes nothing.
-use mathlib.Core.Path.{◌≡◌, sym, ◌∙◌}
+use mathlib.Core.Path.{◌≡◌, refl, sym, ◌∙◌}
 use mathlib.Core.Logic.{◌≢◌, ◌⊎◌, inl, inr}
 use mathlib.Core.List.{List}
 use Prim.Native.Nat.{ℕ, ◌+◌, ◌-◌, ◌≤◌, ◌<◌}
@@ -10,7 +10,7 @@ use lib.Seq.{get_or-set_same, get_or-set_other}
 use Rattle.limit.specs.Limit.{max_nodes}
 use Rattle.arrays.specs.Arrays.{at}
 use Rattle.groups.specs.Colour.{distance}
-use Rattle.groups.specs.Inner.{Rooted, Known, unknown}
+use Rattle.groups.specs.Inner.{Rooted, Known, Noted, unknown}
 use Rattle.groups.proofs.Distances.{distance-root, distance-step, distance_most}
 
 -- ---- the roots' distances: those below k are known
@@ -55,6 +55,9 @@ module _ {nodes : ℕ} {h : ℕ → ℕ} where
         here : at (set known k 0) k ≡ 0
         here = get_or-set_same known k 0 0 (omega (arith, x.size))
 
+  pub roots-all : {known : List ℕ} → RootsKnown nodes h nodes known → Known nodes h known
+  roots-all x = record { size = x.size; right = x.right; root = x.root }
+
 -- ---- a node that is not known, and its distance noted
 
 module _ {nodes : ℕ} {h : ℕ → ℕ} {known : List ℕ} (t : Rooted nodes h) (x : Known nodes h known) (m : ℕ) (l : m < nodes) where
@@ -94,19 +97,31 @@ pub record Noting (nodes : ℕ) (h : ℕ → ℕ) (k : ℕ) (before known : List
   pub kept : (j : ℕ) → at before j ≢ unknown → at known j ≢ unknown
   pub noted : (node ≡ k) ⊎ (at known k ≢ unknown)
 
-module _ {nodes : ℕ} {h : ℕ → ℕ} {k : ℕ} {before known : List ℕ} {node left : ℕ} (x : Noting nodes h k before known node left) where
-  pub noting_next : Rooted nodes h → at known node ≡ unknown → Noting nodes h k before (set known node left) (h node) (left - 1)
-  noting_next t e = record {
-    below = t.inside node x.below;
-    left_is = omega (arith, x.left_is, unknown-step t x.right node x.below e);
-    right = note_known t x.right node x.below left x.left_is;
-    kept = λ j d. keep j (x.kept j d);
-    noted = inr (by x.noted);
-  }
-    where
-      keep : (j : ℕ) → at known j ≢ unknown → at (set known node left) j ≢ unknown
-      keep = note_kept t x.right node x.below left x.left_is
+module _ {nodes : ℕ} {h : ℕ → ℕ} {k : ℕ} {before : List ℕ} where
+  pub noting_begin : {from : ℕ} → Known nodes h before → k < nodes → from ≡ distance nodes h k → Noting nodes h k before before k from
+  noting_begin x l e = record { below = l; left_is = e; right = x; kept = λ j d. d; noted = inl refl }
 
-      by : (node ≡ k) ⊎ (at known k ≢ unknown) → at (set known node left) k ≢ unknown
-      by (inl q) = rw (← q) (note_here t x.right node x.below left x.left_is)
-      by (inr d) = keep k d
+  module _ {known : List ℕ} {node left : ℕ} (x : Noting nodes h k before known node left) where
+    pub noting_next : Rooted nodes h → at known node ≡ unknown → Noting nodes h k before (set known node left) (h node) (left - 1)
+    noting_next t e = record {
+      below = t.inside node x.below;
+      left_is = omega (arith, x.left_is, unknown-step t x.right node x.below e);
+      right = note_known t x.right node x.below left x.left_is;
+      kept = λ j d. keep j (x.kept j d);
+      noted = inr (by x.noted);
+    }
+      where
+        keep : (j : ℕ) → at known j ≢ unknown → at (set known node left) j ≢ unknown
+        keep = note_kept t x.right node x.below left x.left_is
+
+        by : (node ≡ k) ⊎ (at known k ≢ unknown) → at (set known node left) k ≢ unknown
+        by (inl q) = rw (← q) (note_here t x.right node x.below left x.left_is)
+        by (inr d) = keep k d
+
+    -- the chain has come to a node that was known
+    pub noting_end : at known node ≢ unknown → Noted nodes h k before known
+    noting_end d = record { known = x.right; noted = by x.noted; kept = x.kept }
+      where
+        by : (node ≡ k) ⊎ (at known k ≢ unknown) → at known k ≢ unknown
+        by (inl q) = rw (← q) d
+        by (inr y) = y

@@ -11,7 +11,7 @@ use Rattle.arrays.proofs.Tabulate.{length-row, row_at}
 use Rattle.words.specs.Words.{bytes_of, encode, put_word}
 use Rattle.words.specs.Buffer.{placed}
 use Rattle.words.proofs.Words.{length-encode, encode_snoc}
-use Rattle.words.proofs.Buffer.{put_sets, put_before, put_behind, record_placed}
+use Rattle.words.proofs.Buffer.{length_put, put_sets, put_before, put_behind, record_placed}
 use Rattle.groups.specs.declared.colour.Colour.{Colour}
 use Rattle.groups.specs.declared.colour.Colour.TheVariants.{Even, Odd}
 use Rattle.groups.specs.Group.{none, group_in}
@@ -73,8 +73,16 @@ module _ (nodes : ℕ) (entry : Colour → ℕ → ℕ) (k : ℕ) where
   -- one node's two stores
   pub entries-stored : (before : List ℕ) {out out₁ out₂ : List ℕ} {e o : ℕ} → k < nodes → out ≡ with_entries nodes entry k before
       → e ≡ entry Even k → o ≡ entry Odd k → out₁ ≡ put_word out (4 * (1 + k)) e → out₂ ≡ put_word out₁ (4 * (1 + nodes + k)) o
-      → out₂ ≡ with_entries nodes entry (k + 1) before
-  entries-stored before {out} {out₁} {out₂} {e} {o} l is even odd first second = rw (second, first, even, odd, is) (entries_more before l)
+      → (out₂ ≡ with_entries nodes entry (k + 1) before) × (length out ≡ length before → length out₂ ≡ length before)
+  entries-stored before {out} {out₁} {out₂} {e} {o} l is even odd first second =
+      let both : out₂ ≡ put_word (put_word out (4 * (1 + k)) e) (4 * (1 + nodes + k)) o =
+      second ∙ ap (λ (x : List ℕ). put_word x (4 * (1 + nodes + k)) o) first in (
+        both ∙ rw (even, odd, is) (entries_more before l),
+        λ long. ap length both
+            ∙ length_put (put_word out (4 * (1 + k)) e) (4 * (1 + nodes + k)) o
+            ∙ length_put out (4 * (1 + k)) e
+            ∙ long,
+      )
 
 -- ---- no group at all
 

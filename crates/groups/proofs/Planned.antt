@@ -71,5 +71,5 @@ module _ (p : List ℕ) {n kind limit : ℕ} (read : accepted n kind limit ≡ r
   pub array_rooted : Rooted n (at (padded (helpands_of p n)))
   array_rooted = rw (padded-same (helpands_of p n)) (rw nodes at (plan-rooted p fine))
 
-  pub reading_none : eqb kind 0 ≡ true → (c : Colour) (k : ℕ) → group_in n (at (helpands_of p n)) c k ≡ none
-  reading_none z = rw nodes at (kind-none p fine (ap (λ (a : PlanAnswer). a.kind) (sym read) ∙ eqb-true kind 0 z))
+  pub reading_none : kind ≡ 0 → (c : Colour) (k : ℕ) → group_in n (at (helpands_of p n)) c k ≡ none
+  reading_none z = rw nodes at (kind-none p fine (ap (λ (a : PlanAnswer). a.kind) (sym read) ∙ z))

@@ -1,3 +1,4 @@
+pub mod Laws
 pub mod Stretch
 pub mod Same
 pub mod InForce

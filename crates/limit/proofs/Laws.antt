@@ -28,14 +28,23 @@ rounded_up p n hn =
     let h = div_ceil_times p n hn in
     sym (div-eq_of_lt-le n (omega (arith, h.1)) (omega (arith, h.0)))
 
--- the limit is one that a plan may carry
+-- the product fits 64 bits with much to spare
+pub product : (p t : ℕ) → p ≤ max_total → t ≤ max_tolerance → p * (tolerance_scale + t) ≤ max_total * (tolerance_scale + max_tolerance)
+product p t hp ht =
+    let h : tolerance_scale + t ≤ tolerance_scale + max_tolerance = omega arith in
+    mul-le-mul hp h
+
+-- and its quotient is a limit that a plan may carry
+pub loose_max : (p n t : ℕ) → p ≤ max_total → 1 ≤ n → t ≤ max_tolerance → p * (tolerance_scale + t) / (tolerance_scale * n) ≤ max_limit
+loose_max p n t hp hn ht =
+    let h : p * (tolerance_scale + t) ≤ max_total * (tolerance_scale + max_tolerance) = product p t hp ht in
+    div-le_of_le-mul (tolerance_scale * n) (omega arith)
+
 pub limit-max : (p n t : ℕ) → p ≤ max_total → 1 ≤ n → t ≤ max_tolerance → limit_of p n t ≤ max_limit
 unfolding limit_of
 limit-max p n t hp hn ht =
     let even : (p + n - 1) / n ≤ max_limit = div-le_of_le-mul n (omega arith) in
-    let product : p * (tolerance_scale + t) ≤ max_total * (tolerance_scale + max_tolerance) = grind arith in
-    let loose : p * (tolerance_scale + t) / (tolerance_scale * n) ≤ max_limit = div-le_of_le-mul (tolerance_scale * n) (omega arith) in
-    omega arith
+    omega (arith, loose_max p n t hp hn ht)
 
 -- P/N rounded up is at most the limit
 pub limit-even : (p n t : ℕ) → (p + n - 1) / n ≤ limit_of p n t

@@ -10,7 +10,8 @@ use Rattle.plan.specs.declared.PlanRefusal.TheVariants.{Short, Nodes, Kind as Of
 use Rattle.plan.specs.declared.PlanAnswer.{PlanAnswer}
 use Rattle.plan.specs.declared.Kind.{Kind}
 use Rattle.plan.specs.declared.Kind.TheVariants.{Primary, Kept, Rebuilt}
-use Rattle.plan.specs.Plan.{refusal_number, kind_number, answer_of}
+use Rattle.plan.specs.Plan.{refusal_number, answer_of}
+use Rattle.plan.specs.Kinds.{kind_number}
 use Rattle.std.specs.Prelude.{Err, Ok, Result}
 use Rattle.plan.specs.declared.Plan.{Plan}
 

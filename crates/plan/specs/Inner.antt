@@ -1,6 +1,7 @@
 -- What the inner functions of this crate ask of each other. No promise to a caller rests on these definitions.
 use Rattle.std.specs.Prelude.{Bool, true, false, cond, ℕ, Err, Ok, Result, ⊤}
-use Rattle.plan.specs.Plan.{kind_fine, kind_of}
+use Rattle.plan.specs.Plan.{kind_fine}
+use Rattle.plan.specs.Kinds.{kind_of}
 use Rattle.plan.specs.declared.Kind.{Kind}
 use Rattle.plan.specs.declared.PlanRefusal.TheVariants.{Kind as OfKind, Shape}
 use Rattle.plan.specs.declared.PlanRefusal.{PlanRefusal}

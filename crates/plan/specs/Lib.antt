@@ -1,4 +1,5 @@
 pub mod Tree
+pub mod Kinds
 pub mod Plan
 pub mod Write
 pub mod Inner

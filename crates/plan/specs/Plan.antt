@@ -1,13 +1,12 @@
 -- Document 01, *Read plan*: "gives N, kind, L", and its refusals 11 to 18, from the list of a plan's bytes.
-use Rattle.std.specs.Prelude.{ℕ, ◌+◌, ◌*◌, List, Bool, ◌||◌, ◌&&◌, not, length, get_or, ltb, leb, eqb, cond, Err, Ok, Result}
+use Rattle.std.specs.Prelude.{ℕ, ◌+◌, ◌*◌, List, Bool, ◌||◌, ◌&&◌, not, length, get_or, ltb, leb, eqb, Err, Ok, Result}
 use Rattle.limit.specs.Limit.{max_nodes, max_limit, one_to}
 use Rattle.words.specs.Checks.{refuse_if}
 use Rattle.words.specs.Words.{words, part}
 use Rattle.plan.specs.Tree.{helpands_below, shape_fine, shares_fine}
 use Rattle.plan.specs.declared.PlanRefusal.{PlanRefusal}
 use Rattle.plan.specs.declared.PlanRefusal.TheVariants.{Short, Nodes, Kind as OfKind, Limit, Length, Helpand, Shape, Share}
-use Rattle.plan.specs.declared.Kind.{Kind}
-use Rattle.plan.specs.declared.Kind.TheVariants.{Primary, Kept, Rebuilt}
+use Rattle.plan.specs.Kinds.{kind_number}
 use Rattle.plan.specs.declared.PlanAnswer.{PlanAnswer}
 use Rattle.arrays.specs.Arrays.{at}
 use Rattle.plan.specs.declared.Plan.{Plan}
@@ -30,19 +29,6 @@ refusal_number Length = 15
 refusal_number Helpand = 16
 refusal_number Shape = 17
 refusal_number Share = 18
-
--- "Kind 0 is primary, 1 kept, 2 rebuilt.": the paper's number of each kind, and the kind that a number stands for
-abbrev pub kind_number : Kind → ℕ
-kind_number Primary = 0
-kind_number Kept = 1
-kind_number Rebuilt = 2
-
-abbrev pub kind_of : ℕ → Result Kind PlanRefusal
-kind_of k =
-    cond (eqb k 0) (Ok Primary)
-    (cond (eqb k 1) (Ok Kept)
-    (cond (eqb k 2) (Ok Rebuilt)
-    (Err OfKind)))
 
 -- the paper's number and values for each case of the enum
 abbrev pub answer_of : Result Plan PlanRefusal → PlanAnswer

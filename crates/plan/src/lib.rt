@@ -4,7 +4,8 @@
 
 ghost use Rattle.std.specs.Prelude.{◌≡◌, eqb, ◌+◌, ◌*◌, ◌≤◌, length};
 ghost use Rattle.limit.specs.Limit.{max_nodes};
-ghost use Rattle.plan.specs.Plan.{kind_number, kind_of, arrays_answer, read_plan, refusal_number, answer_of};
+ghost use Rattle.plan.specs.Plan.{arrays_answer, read_plan, refusal_number, answer_of};
+ghost use Rattle.plan.specs.Kinds.{kind_number, kind_of};
 ghost use Rattle.plan.specs.Inner.{kind_read};
 
 use words::Refusal;
@@ -115,7 +116,7 @@ fn read_arrays(s: &[u8], n: u32, kind: Kind, limit: u32) -> Result<Plan, PlanRef
     if !tree::helpands_below(helpands, n) {
         return Err(PlanRefusal::Helpand);
     }
-    tree::check_shape(helpands, k, kind)?;
+    tree::check_shape(helpands, k, kind.into())?;
     let shares = words::words_64(s, 3 + k, k);
     if !tree::shares_fine(helpands, shares, k, limit) {
         return Err(PlanRefusal::Share);

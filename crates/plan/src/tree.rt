@@ -3,11 +3,10 @@ ghost use Rattle.std.specs.Prelude.{◌≡◌, true, ◌≤◌};
 ghost use Rattle.fold.specs.All.{all};
 ghost use Rattle.limit.specs.Limit.{max_nodes};
 ghost use Rattle.plan.specs.Tree.{helpands_below, roots, reaches, shape_fine, shares_fine};
-ghost use Rattle.plan.specs.Plan.{kind_number};
 ghost use Rattle.plan.specs.Inner.{checked_of};
 ghost use Rattle.arrays.specs.Arrays.{at};
 
-use super::{Kind, PlanRefusal};
+use super::PlanRefusal;
 
 // Whether each helpand of nodes below n is a node below n.
 pub fn helpands_below(helpands: [u32; 64], n: u32) -> bool
@@ -58,12 +57,12 @@ fn check_chains(helpands: [u32; 64], nodes: usize) -> Result<(), PlanRefusal>
 
 // Refusal 17 where the shape is not that of the kind: kind 0 has only roots, kinds 1 and 2 have one root, which every chain
 // reaches.
-pub fn check_shape(helpands: [u32; 64], nodes: usize, kind: Kind) -> Result<(), PlanRefusal>
+pub fn check_shape(helpands: [u32; 64], nodes: usize, kind: u32) -> Result<(), PlanRefusal>
     requires { (nodes ≤ max_nodes) × (helpands_below nodes (at helpands) ≡ true) }
-    ensures { result ≡ checked_of (shape_fine nodes (kind_number kind) (at helpands)) }
+    ensures { result ≡ checked_of (shape_fine nodes kind (at helpands)) }
 {
     let roots = count_roots(helpands, nodes);
-    if kind.is_primary() {
+    if kind == 0 {
         if roots == nodes {
             return Ok(());
         }

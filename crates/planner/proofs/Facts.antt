@@ -28,7 +28,7 @@ use Rattle.sheet.specs.Totals.{total_of, totals_of}
 use Rattle.decide.specs.Decide.{own_numbers, decided}
 use Rattle.decide.proofs.Decided.{Given, Fine, decided_fine}
 use Rattle.planner.specs.Step.{OldAnswer, old_refused, old_read, read_old, old_helpands, decision_in}
-use Rattle.planner.specs.Inner.{StepRead}
+use Rattle.planner.specs.Inner.{StepRead, OldTreeRead}
 use Rattle.arrays.proofs.Padded.{padded-same}
 use Rattle.arrays.proofs.Tabulate.{tabulate-at, length-tabulate}
 use Rattle.sheet.proofs.Totalled.{totals-sum}
@@ -105,6 +105,9 @@ module _ {s o : List ℕ} {h : Sheet} {tree : Bool} (r : StepRead s o h tree) wh
   rooted e =
       let p = old-tree-read o h.n (r.old ∙ ap old_read e) in
       rw (e, padded-same (helpands_of o h.n)) (rw p.nodes at (accepted-tree o p.accepted p.kind))
+
+  pub old_tree : tree ≡ true → OldTreeRead o h.n
+  old_tree e = record { size = old-size e; tree = rw e at (rooted e) }
 
   old_below : helpands_below h.n (at old) ≡ true
   old_below = split (either tree)

@@ -18,7 +18,7 @@ use Rattle.sheet.specs.Totals.{totals_in}
 use Rattle.sheet.proofs.Accepted.{sheet-accepted}
 use Rattle.moves.proofs.RoundTrip.{Writable, read-written, routes-written, counts-written}
 use Rattle.transfer.proofs.Carrying.{Carries}
-use Rattle.plan.specs.Plan.{kind_number}
+use Rattle.plan.specs.Kinds.{kind_number}
 use Rattle.planner.specs.declared.StepAnswer.{StepAnswer}
 use Rattle.planner.specs.Step.{refused, planned, read_old, decision_in, plan_in, due_in, decided_routes, decided_counts, moves_in, written_answer, step_answer, plan_after, moves_after, StepReadBack}
 use Rattle.planner.specs.Inner.{StepRead}

@@ -5,7 +5,7 @@ use mathlib.Core.List.{List}
 use Prim.Native.Nat.{ℕ, ◌-◌, ◌*◌, ◌≤◌}
 use native.Mathlib.Nat.{mul-le-mul}
 use native.Mathlib.Omega.{arith}
-use lib.ListN.{length, drop}
+use lib.ListN.{length, drop, length-append}
 use lib.Seq.{take_at, take_all, take-length}
 use Rattle.limit.specs.Limit.{table_size}
 use Rattle.fold.specs.Sum.{sum}
@@ -14,7 +14,7 @@ use Rattle.sheet.specs.declared.Sheet.{Sheet}
 use Rattle.sheet.specs.declared.SheetAnswer.{SheetAnswer}
 use Rattle.sheet.specs.Sheet.{read_sheet}
 use Rattle.sheet.proofs.Tables.{length-table}
-use Rattle.plan.specs.Plan.{kind_number}
+use Rattle.plan.specs.Kinds.{kind_number}
 use Rattle.plan.specs.Tree.{helpands_below, Tree}
 use Rattle.moves.specs.Write.{moves_bytes}
 use Rattle.sheet.specs.Totals.{totals_of}
@@ -97,6 +97,14 @@ module _ {s o : List ℕ} {h : Sheet} {tree : Bool} (r : StepRead s o h tree) wh
 
     pub here_few : length routes ≤ table_size
     here_few = omega (arith, here_carries.accepted.few, product_small)
+
+    -- arrays with the moves at their front have as many entries
+    pub here_long : (e : ℕ) (xs ys a b : List ℕ) → e ≡ length routes → xs ≡ placed routes a → ys ≡ placed counts b
+        → (e ≤ length xs) × (e ≤ length ys)
+    here_long e xs ys a b i j q = (
+      omega (arith, ap length j, length-append routes (drop (length routes) a)),
+      omega (arith, ap length q, length-append counts (drop (length counts) b), here_carries.accepted.same),
+    )
 
     here_plan : plan_record h.n h.limit d ≡ plan_in s o
     unfolding plan_in

@@ -17,7 +17,8 @@ use Rattle.sheet.specs.Sheet.{read_sheet}
 use Rattle.sheet.proofs.Accepted.{sheet-accepted}
 use Rattle.sheet.proofs.Refusals.{sheet-most}
 use Rattle.plan.specs.declared.PlanAnswer.{PlanAnswer}
-use Rattle.plan.specs.Plan.{kind_number, read_plan}
+use Rattle.plan.specs.Plan.{read_plan}
+use Rattle.plan.specs.Kinds.{kind_number}
 use Rattle.plan.specs.Write.{plan_length}
 use Rattle.plan.proofs.Accepted.{plan-accepted}
 use Rattle.plan.proofs.Refusals.{plan-most}

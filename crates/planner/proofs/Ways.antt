@@ -13,7 +13,8 @@ use Rattle.sheet.specs.declared.SheetRefusal.{SheetRefusal}
 use Rattle.sheet.specs.Sheet.{read_sheet, answer_of as sheet_answer}
 use Rattle.sheet.proofs.Answers.{number_more as sheet-more}
 use Rattle.plan.proofs.Answers.{number_more as plan-more}
-use Rattle.plan.specs.Plan.{read_plan, accepted, kind_number}
+use Rattle.plan.specs.Plan.{read_plan, accepted}
+use Rattle.plan.specs.Kinds.{kind_number}
 use Rattle.planner.specs.declared.StepAnswer.{StepAnswer}
 use Rattle.planner.specs.declared.StepRefusal.{StepRefusal}
 use Rattle.planner.specs.declared.StepRefusal.TheVariants.{Sheet as OfSheet, Plan as OfPlan, NodesDiffer, PlanBuffer, MovesBuffer}

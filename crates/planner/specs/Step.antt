@@ -6,7 +6,8 @@ use Rattle.words.specs.Checks.{refuse_if, refuse_as}
 use Rattle.words.specs.Buffer.{after_call}
 use Rattle.sheet.specs.Sheet.{read_sheet, refusal_number as sheet_number}
 use Rattle.sheet.specs.Table.{table_in}
-use Rattle.plan.specs.Plan.{kind_number, read_plan, helpands_of, shares_of, refusal_number as plan_number, accepted as plan_accepted}
+use Rattle.plan.specs.Plan.{read_plan, helpands_of, shares_of, refusal_number as plan_number, accepted as plan_accepted}
+use Rattle.plan.specs.Kinds.{kind_number}
 use Rattle.plan.specs.Write.{plan_bytes}
 use Rattle.moves.specs.Moves.{read_moves, routes_of, counts_of, accepted as moves_accepted}
 use Rattle.moves.specs.Write.{moves_bytes}

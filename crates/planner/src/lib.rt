@@ -1,21 +1,27 @@
 // *Plan a step*: from a sheet and an old plan to the new plan and the moves, in two lent buffers.
 #![tactic(auto)]
 
-ghost use Rattle.std.specs.Prelude.{◌≡◌, ◌≢◌, true, cond, ◌+◌, ◌*◌, ◌≤◌, length};
-ghost use Rattle.limit.specs.Limit.{max_nodes, table_size};
+ghost use Rattle.std.specs.Prelude.{◌≡◌, ◌≢◌, true, cond, ℕ, ◌+◌, ◌*◌, ◌≤◌, length, IfSome, is_some, unwrap_or};
+ghost use Rattle.fold.specs.Sum.{sum};
+ghost use Rattle.arrays.specs.Arrays.{at};
+ghost use Rattle.limit.specs.Limit.{max_nodes, max_total, table_size};
 ghost use Rattle.words.specs.Buffer.{placed, after_call};
-ghost use Rattle.plan.specs.Plan.{kind_number};
+ghost use Rattle.plan.specs.Kinds.{kind_number};
+ghost use Rattle.plan.specs.Tree.{helpands_below, Tree};
 ghost use Rattle.sheet.specs.Sheet.{answer_of as sheet_answer};
+ghost use Rattle.sheet.specs.Totals.{totals_of};
 ghost use Rattle.transfer.specs.List.{routes_in, counts_in};
+ghost use Rattle.decide.specs.Decide.{own_numbers, decided};
 ghost use Rattle.planner.specs.Step.{refused, number_of, answer_of, old_of, read_old, old_helpands, plan_record, moves_record, written_answer, step_answer, plan_after, moves_after};
-ghost use Rattle.planner.specs.Inner.{StepRead};
+ghost use Rattle.planner.specs.Inner.{StepRead, OldTreeRead};
 ghost use Rattle.planner.specs.declared.StepRefusal.TheVariants.{Plan as OfPlan};
 
 use decide::Decision;
+use limit::TABLE_SIZE;
 use plan::{Kind, PlanRefusal};
 use sheet::{Sheet, SheetRefusal};
 use transfer::list::MoveList;
-use transfer::matching::all_moves;
+use transfer::matching::list_moves;
 use words::Refusal;
 
 // Why planning is refused, in the order of the checks.
@@ -98,13 +104,34 @@ fn read_old(old: &[u8], n: u32) -> Result<bool, StepRefusal>
 
 // The helpands of the old tree, if there is one.
 fn old_helpands(old: &[u8], tree: bool, nodes: usize) -> Option<[u32; 64]>
-    requires { (nodes ≤ max_nodes) × (tree ≡ true → 4 * (3 + nodes) ≤ length old.now) }
-    ensures { result ≡ cond tree (Some (old_helpands old.now tree nodes)) None }
+    requires { (nodes ≤ max_nodes) × (tree ≡ true → OldTreeRead old.now nodes) }
+    ensures helpands { result ≡ cond tree (Some (old_helpands old.now tree nodes)) None }
+    ensures has_tree { is_some result ≡ tree }
+    ensures known { unwrap_or result (own_numbers nodes) ≡ old_helpands old.now tree nodes }
+    ensures below { IfSome result (λ h. helpands_below nodes (at h) ≡ true) }
+    ensures rooted { IfSome result (λ h. (r : ℕ) × Tree nodes (at h) r) }
 {
     if tree {
         return Some(words::words_64(old, 3, nodes));
     }
     None
+}
+
+// What is decided with the totals of a sheet and an old plan that has a tree or none.
+fn decide_read(
+    table: &[u32; TABLE_SIZE],
+    totals: [u32; 64],
+    old: &[u8],
+    tree: bool,
+    s: Sheet,
+) -> Decision
+    requires { (1 ≤ s.n) × (s.n ≤ max_nodes) × (totals ≡ totals_of s.n table.now) × (sum s.n (at totals) ≡ s.p) × (s.p ≤ max_total)
+        × (tree ≡ true → OldTreeRead old.now s.n) }
+    ensures { result ≡ decided s.n s.p s.limit table.now totals tree (old_helpands old.now tree s.n) }
+{
+    let nodes = s.n as usize;
+    let helpands = old_helpands(old, tree, nodes);
+    decide::decide_step(table, totals, helpands, nodes, s.p, s.limit)
 }
 
 // Writes the plan and the moves to buffers that are long enough.
@@ -168,10 +195,9 @@ fn plan_read(
     let nodes = s.n as usize;
     let table = sheet::table::unpack(sheet, s.e as usize);
     let totals = sheet::totals::totals(&table, nodes);
-    let helpands = old_helpands(old, tree, nodes);
-    let d = decide::decide(&table, totals, helpands, nodes, s.p, s.limit);
+    let d = decide_read(&table, totals, old, tree, s);
     let mut found = MoveList::new();
-    all_moves(&table, totals, d.helpands, d.shares, nodes, &mut found);
+    list_moves(&table, totals, d.helpands, d.shares, nodes, &mut found);
     write_records(plan, moves, s.n, s.limit, d, &found)
 }
 

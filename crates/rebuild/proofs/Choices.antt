@@ -1,19 +1,21 @@
--- Laws of the choices of a turn: what a group's test says, that the first node found is the lowest, and the end. Assumes nothing.
+-- Laws of the choices of a turn: what a group's test says, whom l helps, that the first node found is the lowest, and the end. Assumes
+-- nothing.
 use mathlib.Core.Path.{◌≡◌, refl, sym, ap, ◌∙◌}
-use mathlib.Core.Logic.{◌⊎◌, inl, inr}
+use mathlib.Core.Logic.{◌≢◌, ◌⊎◌, inl, inr}
 use mathlib.Core.List.{List}
-use mathlib.Core.Bool.{Bool, true, false, not, ◌&&◌}
+use mathlib.Core.Bool.{Bool, true, false, not, ◌&&◌, and-false}
 use Prim.Native.Nat.{ℕ, zero, suc, ◌+◌, ◌≤◌, ◌<◌}
+use native.Mathlib.Decide.{ℕ_discrete}
 use native.Mathlib.Numerals.{add-one}
 use native.Mathlib.Omega.{arith}
 use lib.Dec.{ltb, leb}
-use borrow.Author.Tests.{ltb-true, lt-ltb, leb-true, le-leb, not-true}
+use borrow.Author.Tests.{eq-eqb, ne_eqb, ltb-true, lt-ltb, leb-true, le-leb, lt-leb, not-true}
 use Rattle.fold.specs.Best.{best, never, smaller}
 use Rattle.fold.proofs.Tests.{either, and_left, and_right, and_both}
 use Rattle.fold.proofs.Scans.{best_skips, best_begins, best-stays, best-found, best-nothing}
 use Rattle.arrays.specs.Arrays.{at, tabulate}
 use Rattle.rebuild.specs.declared.Balance.{Balance}
-use Rattle.rebuild.specs.Rebuild.{group_a, group_b, in_a, in_b, is, smallest_in_a, lowest_in_b, new_helpand, new_share, finish_of}
+use Rattle.rebuild.specs.Rebuild.{group_a, group_b, in_a, in_b, is, smallest_in_a, largest_in_b, chosen, lowest_in_b, new_helpand, new_share, finish_of}
 use Rattle.std.specs.Option.{IfSome}
 use Rattle.std.specs.Prelude.{None, Option, Some}
 
@@ -42,10 +44,38 @@ smallest_under nodes loads targets finished (Some l) e =
     let f = best-found (in_a loads targets finished) (smaller (at loads)) nodes l (sym e) in
     (f.0, (in_a-is (at loads l) (at targets l) (is finished l) f.1).1)
 
+-- ---- whom l helps
+
+module _ (nodes : ℕ) (loads targets : List ℕ) (finished : List Bool) (l need h : ℕ) where
+  pub chosen-old : h ≢ l → in_b loads targets finished h ≡ true → need ≤ at loads h → chosen nodes loads targets finished l need h ≡ Some h
+  chosen-old d b e = rw (ne_eqb h l d, b, le-leb need (at loads h) e)
+
+  pub chosen-root : h ≡ l → chosen nodes loads targets finished l need h ≡ largest_in_b nodes loads targets finished
+  chosen-root e = rw (eq-eqb h l e)
+
+  pub chosen-out : in_b loads targets finished h ≡ false
+      → chosen nodes loads targets finished l need h ≡ largest_in_b nodes loads targets finished
+  chosen-out b = rw (b, and-false)
+
+  pub chosen-lacks : at loads h < need → chosen nodes loads targets finished l need h ≡ largest_in_b nodes loads targets finished
+  chosen-lacks e = rw (lt-leb need (at loads h) e, and-false, and-false)
+
 -- ---- the first
 
 module _ (ok : ℕ → Bool) where
-  -- none below it passes
+  -- the first that passes, where none below it does
+  pub first-is : (n k : ℕ) → k < n → best ok never k ≡ None → ok k ≡ true → best ok never n ≡ Some k
+  first-is zero k h e o = absurd (omega arith)
+  first-is (suc n) k h e o = elim (ℕ_discrete k n) [
+    | yes q ↦ ap (best ok never) (sym (add-one n)) ∙ ap (λ (j : ℕ). best ok never (j + 1)) (sym q) ∙ best_begins ok never k o e
+    | no d ↦ ap (best ok never) (sym (add-one n)) ∙ more (either (ok n)) (first-is n k (omega arith) e o)
+  ]
+    where
+      more : (ok n ≡ true) ⊎ (ok n ≡ false) → best ok never n ≡ Some k → best ok never (n + 1) ≡ Some k
+      more (inl t) r = best-stays ok never n k t r refl
+      more (inr f) r = best_skips ok never n f ∙ r
+
+  -- it is the lowest
   pub first-lowest : (n b : ℕ) → best ok never n ≡ Some b → (k : ℕ) → k < b → ok k ≡ false
   first-lowest zero b e k h = absurd (omega (arith, (best-found ok never 0 b e).0))
   first-lowest (suc n) b e k h = more (either (ok n)) (best ok never n) refl (λ q. first-lowest n b q k h)

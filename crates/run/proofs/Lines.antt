@@ -1,5 +1,5 @@
--- The text of arrays that were read from two records is the text of these records: an array of 64 has zeros behind its words, and no
--- line looks behind the first e routes and counts. Assumes nothing.
+-- The text of arrays that were read from two records is the text of these records: an array of 64 has zeros behind its words. Assumes
+-- nothing.
 use mathlib.Core.Path.{◌≡◌, ap, ap₂, ◌∙◌}
 use mathlib.Core.List.{List, ◌++◌}
 use Prim.Native.Nat.{ℕ, ◌+◌, ◌-◌, ◌≤◌}

@@ -13,7 +13,8 @@ use Rattle.arrays.specs.Arrays.{at}
 use Rattle.sheet.specs.Sheet.{read_sheet}
 use Rattle.sheet.specs.Totals.{totals_in}
 use Rattle.plan.specs.declared.PlanAnswer.{PlanAnswer}
-use Rattle.plan.specs.Plan.{kind_number, read_plan}
+use Rattle.plan.specs.Plan.{read_plan}
+use Rattle.plan.specs.Kinds.{kind_number}
 use Rattle.plan.proofs.Accepted.{plan-accepted}
 use Rattle.moves.specs.declared.MovesAnswer.{MovesAnswer}
 use Rattle.moves.specs.Moves.{read_moves}

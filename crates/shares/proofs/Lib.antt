@@ -1,3 +1,4 @@
+pub mod Terms
 pub mod Spaces
 pub mod Holds
 pub mod Levelled
@@ -6,6 +7,7 @@ pub mod Raising
 pub mod FillLaws
 pub mod Amounts
 pub mod Filling
+pub mod Families
 pub mod Summing
 pub mod Noting
 pub mod Dividing

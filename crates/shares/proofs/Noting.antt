@@ -79,8 +79,8 @@ module _ {nodes : ℕ} {h : ℕ → ℕ} {n : ℕ} {amount part : ℕ → ℕ} {
       }
 
   pub so_far-all : {out : List ℕ} {left k : ℕ} → NotedSoFar nodes h n amount part x before out left k → nodes ≤ k
-      → Noted h n amount nodes before out
-  so_far-all p l = rw (left-all p.taken l).0 at p.noted
+      → (length out ≡ 64) × Noted h n amount nodes before out
+  so_far-all p l = (p.long, rw (left-all p.taken l).0 at p.noted)
 
   -- what is noted for helper k is as it was
   pub so_far_before : {out : List ℕ} {left k : ℕ} → NotedSoFar nodes h n amount part x before out left k → at out k ≡ at before k

@@ -15,8 +15,7 @@ use Rattle.tree.specs.Family.{helps, over_helpers}
 use Rattle.tree.proofs.Families.{helps-ne, helpers_eq, family_sum}
 use Rattle.shares.specs.Fill.{room}
 use Rattle.shares.specs.Shares.{in_family, space, beside}
-use Rattle.shares.specs.Inner.{helpand_in, spaces_in, amounts_now, rooms_now}
-use Rattle.shares.specs.declared.kept.Family.{Family}
+use Rattle.shares.proofs.Terms.{spaces_in, amounts_now, rooms_now}
 
 -- ---- the owner, a helper, and any other node
 
@@ -88,51 +87,46 @@ beside-eq reserve reserve' r n k = ap (cond (eqb k n) r)
 
 -- ---- rooms
 
-module _ (f : Family) where
-  -- no room is above 32 bits
-  pub rooms-most : (own : ℕ) (noted : List ℕ) → own ≤ 4294967295 → (k : ℕ) → rooms_now f own noted k ≤ 4294967295
-  rooms-most own noted l =
-      let left : ℕ → ℕ = λ k. f.tree.now.limit - at f.reserves.now k - at noted k in
-      each-node (helpand_in f) f.n (λ k. rooms_now f own noted k ≤ 4294967295)
-      (omega (arith, family_own (helpand_in f) f.n own left))
-      (λ k y. omega (arith, family_helper (helpand_in f) f.n own left k y, f.tree.now.fits))
-      (λ k d y. omega (arith, family_other (helpand_in f) f.n own left k d y))
+-- no room is above what the owner has and the limit
+pub rooms-most : (limit : ℕ) (helpands reserves : List ℕ) (n own : ℕ) (noted : List ℕ) (most : ℕ) → own ≤ most → limit ≤ most
+    → (k : ℕ) → rooms_now limit helpands reserves n own noted k ≤ most
+rooms-most limit helpands reserves n own noted most o l =
+    let left : ℕ → ℕ = λ k. limit - at reserves k - at noted k in
+    each-node (at helpands) n (λ k. rooms_now limit helpands reserves n own noted k ≤ most)
+    (omega (arith, family_own (at helpands) n own left))
+    (λ k y. omega (arith, family_helper (at helpands) n own left k y))
+    (λ k d y. omega (arith, family_other (at helpands) n own left k d y))
 
-  -- the rooms are what the members have space for beyond their amounts
-  pub rooms_are : (own : ℕ) (noted : List ℕ)
-      → rooms_now f (f.tree.now.limit - f.share - own) noted ≡ room (spaces_in f) (amounts_now f own noted)
-  rooms_are own noted = fun_ext (each-node h n (λ k. rooms k ≡ room (spaces_in f) amounts k) owner helper other)
-    where
-      h : ℕ → ℕ
-      h = helpand_in f
+-- the rooms are what the members have space for beyond their amounts
+pub rooms_are : (limit : ℕ) (helpands reserves : List ℕ) (n r own : ℕ) (noted : List ℕ)
+    → rooms_now limit helpands reserves n (limit - r - own) noted
+    ≡ room (spaces_in limit helpands reserves r n) (amounts_now helpands n own noted)
+rooms_are limit helpands reserves n r own noted = fun_ext (each-node h n (λ k. rooms k ≡ room spaces amounts k) owner helper other)
+  where
+    h : ℕ → ℕ
+    h = at helpands
 
-      n : ℕ
-      n = f.n
+    rooms : ℕ → ℕ
+    rooms = rooms_now limit helpands reserves n (limit - r - own) noted
 
-      limit : ℕ
-      limit = f.tree.now.limit
+    spaces : ℕ → ℕ
+    spaces = spaces_in limit helpands reserves r n
 
-      reserve : ℕ → ℕ
-      reserve = at f.reserves.now
+    amounts : ℕ → ℕ
+    amounts = amounts_now helpands n own noted
 
-      rooms : ℕ → ℕ
-      rooms = rooms_now f (limit - f.share - own) noted
+    left : ℕ → ℕ
+    left k = limit - at reserves k - at noted k
 
-      amounts : ℕ → ℕ
-      amounts = amounts_now f own noted
+    owner : rooms n ≡ room spaces amounts n
+    owner =
+        family_own h n (limit - r - own) left
+        ∙ sym (ap₂ (λ (x y : ℕ). x - y) (space-own h limit (at reserves) r n) (family_own h n own (at noted)))
 
-      left : ℕ → ℕ
-      left k = limit - reserve k - at noted k
+    helper : (k : ℕ) → helps h n k ≡ true → rooms k ≡ room spaces amounts k
+    helper k y =
+        family_helper h n (limit - r - own) left k y
+        ∙ sym (ap₂ (λ (x y : ℕ). x - y) (space-helper h limit (at reserves) r n k y) (family_helper h n own (at noted) k y))
 
-      owner : rooms n ≡ room (spaces_in f) amounts n
-      owner =
-          family_own h n (limit - f.share - own) left
-          ∙ sym (ap₂ (λ (x y : ℕ). x - y) (space-own h limit reserve f.share n) (family_own h n own (at noted)))
-
-      helper : (k : ℕ) → helps h n k ≡ true → rooms k ≡ room (spaces_in f) amounts k
-      helper k y =
-          family_helper h n (limit - f.share - own) left k y
-          ∙ sym (ap₂ (λ (x y : ℕ). x - y) (space-helper h limit reserve f.share n k y) (family_helper h n own (at noted) k y))
-
-      other : (k : ℕ) → k ≢ n → helps h n k ≡ false → rooms k ≡ room (spaces_in f) amounts k
-      other k d y = omega (arith, family_other h n (limit - f.share - own) left k d y, space-other h limit reserve f.share n k d y)
+    other : (k : ℕ) → k ≢ n → helps h n k ≡ false → rooms k ≡ room spaces amounts k
+    other k d y = omega (arith, family_other h n (limit - r - own) left k d y, space-other h limit (at reserves) r n k d y)

@@ -7,11 +7,13 @@ mod hold;
 mod kept;
 mod level;
 
-ghost use Rattle.std.specs.Prelude.{◌≡◌, ℕ, ◌<◌};
+ghost use Rattle.std.specs.Prelude.{◌≡◌, ℕ, ◌≤◌, ◌<◌};
+ghost use Rattle.limit.specs.Limit.{max_nodes};
 ghost use Rattle.plan.specs.Tree.{Tree};
 ghost use Rattle.sheet.specs.Table.{held};
 ghost use Rattle.sheet.specs.Totals.{totals_of};
 ghost use Rattle.arrays.specs.Arrays.{at};
+ghost use Rattle.tree.specs.Links.{Linked};
 ghost use Rattle.tree.specs.Inner.{Shallow, Descended};
 ghost use Rattle.shares.specs.Shares.{kept_shares};
 ghost use Rattle.shares.specs.Inner.{nodes_in, helpand_in, nodes_of, helpand_of, divided_in, reserves_in, amounts_in, share_in, Noted};
@@ -84,7 +86,7 @@ impl<'a> KeptTree<'a> {
 }
 
 // The shares of all nodes in a tree that is kept, with these totals and leasts.
-pub fn shares(
+pub fn kept_shares(
     table: &[u32; TABLE_SIZE],
     totals: [u32; 64],
     leasts: [u32; 64],
@@ -109,4 +111,23 @@ pub fn shares(
     let mut out = [0u32; 64];
     tree.divide_below(levels, root, &mut out);
     out
+}
+
+// The same for a caller that has the helpands and their links at hand, and no `Helpers`.
+pub fn shares(
+    table: &[u32; TABLE_SIZE],
+    totals: [u32; 64],
+    leasts: [u32; 64],
+    helpands: [u32; 64],
+    links: &[usize; 128],
+    nodes: usize,
+    root: usize,
+    limit: u32,
+) -> [u32; 64]
+    requires { (nodes ≤ max_nodes) × (Tree nodes (at helpands) root) × (Linked nodes (at helpands) links.now)
+        × (totals ≡ totals_of nodes table.now) }
+    ensures { result ≡ kept_shares nodes (at helpands) limit (at leasts) (at totals) (held table.now) }
+{
+    let helpers = Helpers::of(&helpands, nodes);
+    kept_shares(table, totals, leasts, &helpers, root, limit)
 }

@@ -1,10 +1,11 @@
--- Laws of *read sheet*'s parts: a cell's nodes, and the running sum. Assumes nothing.
+-- Laws of *read sheet*'s parts: a cell's nodes, and the running sum, one law for each way that a turn of its loop can go.
+-- Assumes nothing.
 use mathlib.Core.Path.{◌≡◌, refl, ap, ◌∙◌}
 use mathlib.Core.List.{List, [], ◌∷◌}
 use mathlib.Core.Bool.{Bool, true, false, cond}
 use Prim.Native.Nat.{ℕ, zero, suc, ◌+◌, ◌*◌, ◌/◌, ◌%◌, ◌≤◌, ◌<◌}
 use native.Mathlib.Omega.{arith}
-use borrow.Author.Tests.{lt-ltb, le-ltb, ltb-true, ltb-false, ne_eqb, eqb-false}
+use borrow.Author.Tests.{lt-ltb, le-ltb, ltb-true, ltb-false, eq-eqb, ne_eqb, eqb-false}
 use lib.Dec.{eqb, ltb}
 use lib.ListN.{length, get_or}
 use Rattle.fold.specs.Sum.{total}
@@ -34,9 +35,18 @@ cell-beyond n c l h = rw (le-ltb (c / 64) n (omega arith))
 
 -- ---- the running sum
 
-running_more : (sum c : ℕ) (cs : List ℕ) → (c ≡ 0 → ⊥) → sum + c ≤ max_total → running_sum sum (c ∷ cs) ≡ running_sum (sum + c) cs
-unfolding running_sum
-running_more sum c cs h₁ h₂ = simp (ne_eqb _ _ h₁, le-ltb _ _ h₂)
+module _ (sum c : ℕ) (cs : List ℕ) where
+  pub running_more : (c ≡ 0 → ⊥) → sum + c ≤ max_total → running_sum sum (c ∷ cs) ≡ running_sum (sum + c) cs
+  unfolding running_sum
+  running_more h₁ h₂ = simp (ne_eqb _ _ h₁, le-ltb _ _ h₂)
+
+  pub running_none : c ≡ 0 → running_sum sum (c ∷ cs) ≡ None
+  unfolding running_sum
+  running_none h = simp (eq-eqb _ _ h)
+
+  pub running_over : (c ≡ 0 → ⊥) → max_total < sum + c → running_sum sum (c ∷ cs) ≡ None
+  unfolding running_sum
+  running_over h₁ h₂ = simp (ne_eqb _ _ h₁, lt-ltb _ _ h₂)
 
 -- what a sum that is found says: it is the total, within the bound, and no count is 0
 pub record Summed (sum : ℕ) (cs : List ℕ) (p : ℕ) : Type 0 where

@@ -3,25 +3,32 @@ use mathlib.Core.Path.{◌≡◌, refl, sym, ◌∙◌}
 use mathlib.Core.Logic.{◌≢◌}
 use mathlib.Core.Bool.{Bool, true, false, not, cond}
 use mathlib.Core.List.{List}
-use Prim.Native.Nat.{ℕ, suc}
+use Prim.Native.Nat.{ℕ, suc, ◌≤◌, ◌<◌}
 use native.Mathlib.Omega.{arith}
 use Rattle.std.proofs.lemmas.Bool.Decides.{nat_tests}
 use borrow.Author.Tests.{ltb-true, ne_eqb, not-false}
 use lib.Dec.{eqb, ltb}
 use Rattle.fold.proofs.Tests.{all-at, passed}
 use Rattle.arrays.specs.Arrays.{at}
+use Rattle.limit.specs.Limit.{max_nodes}
 use Rattle.plan.specs.Tree.{helpands_below}
 use Rattle.weigh.specs.Weigh.{refused, weighed}
 use Rattle.tally.specs.declared.Head.{Head}
 use Rattle.tally.specs.declared.Tally.{Tally}
 use Rattle.tally.specs.declared.Called.{Called}
 use Rattle.tally.specs.declared.TallyRefusal.{TallyRefusal}
+use Rattle.tally.specs.declared.TallyRefusal.TheVariants.{NoCell}
 use Rattle.tally.specs.Call.{Call, call_of, cell_of, counted, call_number}
 use Rattle.tally.specs.Layout.{total_at, count_at}
 use Rattle.tally.specs.Renew.{renewed}
 use Rattle.tally.specs.Tally.{number_of, tally_with, with_total, number_in, counted_cells, cells_after, changed, tally_after, call_answer, holding, call_result}
 use Rattle.tally.specs.Inner.{named, amount_number, Countable, CellsChangeable}
 use Rattle.tally.proofs.Answers.{numbered}
+
+-- a test that makes no difference
+pub cond_same : {A : Type 0} (b : Bool) (x : A) → cond b x x ≡ x
+cond_same true x = refl
+cond_same false x = refl
 
 -- ---- the checks, in the order in which the program makes them
 
@@ -53,6 +60,18 @@ module _ (h : Head) (cells : List ℕ) (adds : Bool) (k d count : ℕ) where
 
   pub number-amounts : is-named ≡ true → amounts ≡ number_in t c
   number-amounts e = sym (number-parts ∙ rw e)
+
+  -- ---- what is known once the cell is named
+
+  module _ (yes-named : is-named ≡ true) where
+    pub few : h.n ≤ max_nodes
+    few = grind (arith, nat_tests)
+
+    pub named-holder : k < 64
+    named-holder = grind (arith, nat_tests)
+
+    pub named-subdomain : d < 64
+    named-subdomain = grind (arith, nat_tests)
 
   -- ---- what is known past the checks
 
@@ -91,6 +110,13 @@ module _ (h : Head) (cells : List ℕ) (adds : Bool) (k d count : ℕ) where
   ends_refused r e =
       let d : number_of r ≢ 0 = λ z. omega (arith, (numbered r).0) in
       (rw (← e, ne_eqb (number_of r) 0 d), rw (← e, ne_eqb (number_of r) 0 d))
+
+  pub ends_unnamed : is-named ≡ false → Ends (record { answer = refused 58; total = h.total }) cells
+  ends_unnamed e = ends_refused NoCell (number-unnamed e)
+
+  pub ends_amounts : is-named ≡ true → (r : TallyRefusal) → number_of r ≡ amounts
+      → Ends (record { answer = refused (number_of r); total = h.total }) cells
+  ends_amounts y r e = ends_refused r (e ∙ number-amounts y)
 
   pub ends_changed : 0 ≡ number_in t c → {after : List ℕ}
       → after ≡ renewed h.n (at h.helpands) h.limit (suc h.n) d (counted_cells cells c)

@@ -2,6 +2,7 @@
 use Rattle.std.specs.Prelude.{ℕ, ◌+◌, ◌≤◌, ◌<◌, Bool, true, false, not, ◌&&◌, List, ◌++◌, eqb, ltb, leb, length, take, drop, Err, Ok, Result, ⊤}
 use Rattle.limit.specs.Limit.{max_nodes, max_total}
 use Rattle.plan.specs.Tree.{helpands_below}
+use Rattle.tree.specs.Links.{Linked}
 use Rattle.words.specs.Checks.{refuse_if}
 use Rattle.tally.specs.Call.{Call, cell_of}
 use Rattle.tally.specs.Layout.{total_at, count_at}
@@ -27,6 +28,12 @@ checked_number (Err r) = number_of r
 abbrev pub Countable : Bool → ℕ → ℕ → Type 0
 Countable true count x = x + count ≤ max_total
 Countable false count x = count ≤ x
+
+-- what renewing the leasts goes by
+pub record Linking (nodes : ℕ) (h : ℕ → ℕ) (links : List ℕ) : Type 0 where
+  pub few : nodes ≤ max_nodes
+  pub inside : (k : ℕ) → k < nodes → h k < nodes
+  pub linked : Linked nodes h links
 
 -- past all checks: the cells can be changed
 pub record CellsChangeable (nodes : ℕ) (h : ℕ → ℕ) (cells : List ℕ) (c : Call) : Type 0 where

@@ -239,7 +239,7 @@ fn change_cells(
     cells[cell] = count_in(has, count, operation);
     cells[n] = count_in(own, count, operation);
     let helpers = Helpers::of(helpands, nodes);
-    renew::renew(&helpers, limit, n, cells);
+    renew::renew_from(&helpers, limit, n, cells);
 }
 
 // "The tree holds if no least is above L." It looks at all of them, which takes less time than to stop at the first.

@@ -3,6 +3,7 @@
 ghost use Rattle.std.specs.Prelude.{◌≡◌, suc, ◌<◌};
 ghost use Rattle.arrays.specs.Arrays.{at};
 ghost use Rattle.tally.specs.Renew.{least_from, renewed};
+ghost use Rattle.tally.specs.Inner.{Linking};
 
 use super::CELLS;
 use tree::links::Helpers;
@@ -22,7 +23,7 @@ fn least_from(cells: &[u32; CELLS], helpers: &Helpers, limit: u32, n: usize) -> 
 }
 
 // Renews the leasts after the total of node `first` has changed. Where a least stays as it was, those above it do, too.
-pub fn renew(helpers: &Helpers, limit: u32, first: usize, cells: &mut [u32; CELLS])
+pub fn renew_from(helpers: &Helpers, limit: u32, first: usize, cells: &mut [u32; CELLS])
     requires { first < helpers.now.nodes }
     ensures { cells.new
         ≡ renewed helpers.now.nodes (at helpers.now.helpands.now) limit (suc helpers.now.nodes) first cells.old }
@@ -40,4 +41,20 @@ pub fn renew(helpers: &Helpers, limit: u32, first: usize, cells: &mut [u32; CELL
         }
         n = helpand;
     }
+}
+
+// The same for a caller that has the helpands and their links at hand, and no `Helpers`.
+pub fn renew(
+    helpands: &[u32; 64],
+    links: &[usize; 128],
+    nodes: usize,
+    limit: u32,
+    first: usize,
+    cells: &mut [u32; CELLS],
+)
+    requires { (Linking nodes (at helpands.now) links.now) × (first < nodes) }
+    ensures { cells.new ≡ renewed nodes (at helpands.now) limit (suc nodes) first cells.old }
+{
+    let helpers = Helpers::of(helpands, nodes);
+    renew_from(&helpers, limit, first, cells);
 }

@@ -1,9 +1,10 @@
 // Document 01, 'Moves': "Each node keeps the smaller of holding and due amount. Nodes with a surplus send, nodes with a shortage
 // receive. Both are gone through by rising number, and each pair moves the smaller of what remains. No zero move is written."
-ghost use Rattle.std.specs.Prelude.{◌≡◌, ℕ, [], ◌++◌, ◌+◌, ◌-◌, ◌≤◌, ◌<◌, map, length};
+ghost use Rattle.std.specs.Prelude.{◌≡◌, ℕ, [], ◌++◌, ◌+◌, ◌-◌, ◌*◌, ◌≤◌, ◌<◌, map, length};
 ghost use Rattle.limit.specs.Limit.{max_nodes, table_size};
 ghost use Rattle.arrays.specs.Arrays.{at, tabulate};
 ghost use Rattle.sheet.specs.Table.{held};
+ghost use Rattle.words.specs.Buffer.{placed};
 ghost use Rattle.transfer.specs.Due.{due_of};
 ghost use Rattle.transfer.specs.Inner.{Allotted, NextAbove};
 ghost use Rattle.transfer.specs.List.{routes_in, counts_in};
@@ -84,7 +85,7 @@ fn put_subdomain(holding: &[u32; 64], due: &[u32; 64], nodes: usize, n: usize, m
 }
 
 // The moves that give each node its due amounts, added to a list that is empty.
-pub fn all_moves(
+pub fn list_moves(
     table: &[u32; TABLE_SIZE],
     totals: [u32; 64],
     helpands: [u32; 64],
@@ -103,4 +104,37 @@ pub fn all_moves(
         let due = due_amounts(&helpands, &shares, own[n], nodes, n);
         put_subdomain(&holding, &due, nodes, n, moves);
     }
+}
+
+// Copies numbers to the front of a buffer that is long enough.
+fn put_front(out: &mut [u32], numbers: &[u32])
+    requires { length numbers.now ≤ length out.old }
+    ensures { out.new ≡ placed numbers.now out.old }
+{
+    out[..numbers.len()].copy_from_slice(numbers);
+}
+
+// The same moves, written to two buffers: routes and counts are written from the front, and the number of moves is given.
+pub fn all_moves(
+    table: &[u32; TABLE_SIZE],
+    totals: [u32; 64],
+    helpands: [u32; 64],
+    shares: [u32; 64],
+    nodes: usize,
+    routes: &mut [u32],
+    counts: &mut [u32],
+) -> usize
+    requires { (nodes ≤ max_nodes) × (totals ≡ totals_of nodes table.now) × Allotted nodes (at helpands) (at totals) (at shares)
+        × (nodes * (nodes - 1) ≤ length routes.old) × (nodes * (nodes - 1) ≤ length counts.old) }
+    ensures entries { result ≡ length (all_routes nodes table.now (due_of nodes (at helpands) (at totals) (at shares))) }
+    ensures routes { routes.new ≡ placed (all_routes nodes table.now (due_of nodes (at helpands) (at totals) (at shares)))
+        routes.old }
+    ensures counts { counts.new ≡ placed (all_counts nodes table.now (due_of nodes (at helpands) (at totals) (at shares)))
+        counts.old }
+{
+    let mut moves = MoveList::new();
+    list_moves(table, totals, helpands, shares, nodes, &mut moves);
+    put_front(routes, moves.routes());
+    put_front(counts, moves.counts());
+    moves.len()
 }

@@ -13,17 +13,34 @@ use Rattle.tree.specs.Family.{helps, over_helpers}
 use Rattle.fold.specs.First.{FirstFrom}
 use Rattle.fold.proofs.First.{first-end, first-here, first-later}
 use Rattle.tree.specs.Links.{Linked}
-use Rattle.tree.proofs.Families.{helps-yes, helps_self, helps-other, helpers_none, helpers_next, helpers_more}
+use Rattle.tree.proofs.Families.{helps_of, helps-yes, helps_self, helps-other, helper-below, helpers_none, helpers_next, helpers_more}
 
 -- the links once node m, which helps g, is put before g's other helpers
 abbrev link_to : List ℕ → ℕ → ℕ → List ℕ
 link_to links g m = set (set links (64 + m) (at links g)) g m
 
+module _ (links : List ℕ) (g m : ℕ) where
+  linked_other : (j : ℕ) → j ≢ g → j ≢ 64 + m → at (link_to links g m) j ≡ at links j
+  linked_other j c f =
+      get_or-set_other (set links (64 + m) (at links g)) g j m 0 c
+      ∙ get_or-set_other links (64 + m) j (at links g) 0 f
+
+  linked_after : length links ≡ 128 → m < 64 → g < 64 → at (link_to links g m) (64 + m) ≡ at links g
+  linked_after e l i =
+      get_or-set_other (set links (64 + m) (at links g)) g (64 + m) m 0 (λ p. absurd (omega arith))
+      ∙ get_or-set_same links (64 + m) (at links g) 0 (rw e (omega arith))
+
 -- the links among the nodes from m on
 pub record Linking (nodes : ℕ) (h : ℕ → ℕ) (m : ℕ) (links : List ℕ) : Type 0 where
   pub first : (n : ℕ) → n < nodes → FirstFrom nodes (helps h n) m (at links n)
-  pub onward : (k : ℕ) → k < nodes → k < at links (64 + k)
   pub next : (k : ℕ) → m ≤ k → k < nodes → h k ≢ k → FirstFrom nodes (helps h (h k)) (k + 1) (at links (64 + k))
+
+-- whoever k is, its link goes on to a higher number
+abbrev pub Onward : ℕ → List ℕ → Type 0
+Onward nodes links = (k : ℕ) → k < nodes → k < at links (64 + k)
+
+pub onward_none : {nodes : ℕ} → nodes ≤ 64 → Onward nodes (replicate 128 nodes)
+onward_none {nodes} b k l = rw (get_or-replicate 128 (64 + k) nodes 0 (omega arith)) l
 
 module _ {nodes : ℕ} {h : ℕ → ℕ} where
   -- before the loop, and for each way that a turn of it can go
@@ -31,7 +48,6 @@ module _ {nodes : ℕ} {h : ℕ → ℕ} where
   pub linking_none : nodes ≤ 64 → Linking nodes h nodes (replicate 128 nodes)
   linking_none b = record {
     first = λ n l. rw (get_or-replicate 128 n nodes 0 (omega arith)) (first-end nodes (helps h n));
-    onward = λ k l. rw (get_or-replicate 128 (64 + k) nodes 0 (omega arith)) l;
     next = λ k c l. absurd (omega arith);
   }
 
@@ -41,7 +57,6 @@ module _ {nodes : ℕ} {h : ℕ → ℕ} where
       | yes q ↦ helps_self h n m (sym e ∙ q)
       | no d ↦ helps-other h n m d
     ]);
-    onward = x.onward;
     next = λ k b l d. x.next k (elim (ℕ_discrete k m) [
       | yes q ↦ absurd (d (rw q e))
       | no c ↦ omega arith
@@ -55,35 +70,38 @@ module _ {nodes : ℕ} {h : ℕ → ℕ} where
     first = λ n ln. elim (ℕ_discrete n (h m)) [
       | yes q ↦ rw (q, own) (first-here nodes (helps h (h m)) m l (helps-yes h (h m) m refl (λ p. d (sym p))))
       | no c ↦
-          rw (other n c (λ p. absurd (omega arith)))
+          rw (linked_other links (h m) m n c (λ p. absurd (omega arith)))
           (first-later nodes (helps h n) m (at links n) (x.first n ln) (helps-other h n m (λ p. c (sym p))))
     ];
-    onward = λ k lk. elim (ℕ_discrete k m) [
-      | yes q ↦ rw (q, after) (omega (arith, (x.first (h m) i).from_le))
-      | no f ↦ rw (other (64 + k) (λ p. absurd (omega arith)) (λ p. f (omega arith))) (x.onward k lk)
-    ];
     next = λ k c lk dk. elim (ℕ_discrete k m) [
-      | yes q ↦ rw (q, after) (x.first (h m) i)
-      | no f ↦ rw (other (64 + k) (λ p. absurd (omega arith)) (λ p. f (omega arith))) (x.next k (omega arith) lk dk)
+      | yes q ↦ rw (q, linked_after links (h m) m e (omega arith) (omega arith)) (x.first (h m) i)
+      | no f ↦
+          rw (linked_other links (h m) m (64 + k) (λ p. absurd (omega arith)) (λ p. f (omega arith)))
+          (x.next k (omega arith) lk dk)
     ];
   }
     where
       own : at (link_to links (h m) m) (h m) ≡ m
       own = get_or-set_same (set links (64 + m) (at links (h m))) (h m) m 0 (rw (length-set links (64 + m) (at links (h m)), e) (omega arith))
 
-      other : (j : ℕ) → j ≢ h m → j ≢ 64 + m → at (link_to links (h m) m) j ≡ at links j
-      other j c f =
-          get_or-set_other (set links (64 + m) (at links (h m))) (h m) j m 0 c
-          ∙ get_or-set_other links (64 + m) j (at links (h m)) 0 f
-
-      after : at (link_to links (h m) m) (64 + m) ≡ at links (h m)
-      after =
-          get_or-set_other (set links (64 + m) (at links (h m))) (h m) (64 + m) m 0 (λ p. absurd (omega arith))
-          ∙ get_or-set_same links (64 + m) (at links (h m)) 0 (rw e (omega arith))
+  pub onward_helper : {m : ℕ} {links : List ℕ} → Linking nodes h (m + 1) links → Onward nodes links → length links ≡ 128 → nodes ≤ 64
+      → m < nodes → h m < nodes → Onward nodes (link_to links (h m) m)
+  onward_helper {m} {links} x o e b l i k lk = elim (ℕ_discrete k m) [
+    | yes q ↦ rw (q, linked_after links (h m) m e (omega arith) (omega arith)) (omega (arith, (x.first (h m) i).from_le))
+    | no f ↦ rw (linked_other links (h m) m (64 + k) (λ p. absurd (omega arith)) (λ p. f (omega arith))) (o k lk)
+  ]
 
   -- after it
   pub linked-all : {links : List ℕ} → Linking nodes h 0 links → Linked nodes h links
-  linked-all x = record { first = x.first; onward = x.onward; next = λ k l d. x.next k (omega arith) l d }
+  linked-all x = record { first = x.first; next = λ k l d. x.next k (omega arith) l d }
+
+-- where a loop over the helpers of n begins, and the next helper behind its helper k
+module _ {nodes : ℕ} {h : ℕ → ℕ} {links : List ℕ} (x : Linked nodes h links) (n : ℕ) where
+  pub link_first : {to : ℕ} → n < nodes → to ≡ at links n → FirstFrom nodes (helps h n) 0 to
+  link_first l e = rw e (x.first n l)
+
+  pub link_next : {k to : ℕ} → k < nodes → helps h n k ≡ true → to ≡ at links (64 + k) → FirstFrom nodes (helps h n) (k + 1) to
+  link_next {k} l y e = rw (e, ← helps_of h n k y) (x.next k l (helper-below h n k y))
 
 -- ---- a loop over the helpers of n: k is the next one, or the number of nodes, and each helper below k has taken its part of x
 

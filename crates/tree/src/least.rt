@@ -7,6 +7,7 @@ ghost use Rattle.limit.specs.Limit.{max_nodes};
 ghost use Rattle.plan.specs.Tree.{Tree};
 ghost use Rattle.arrays.specs.Arrays.{at, tabulate};
 ghost use Rattle.tree.specs.Least.{least};
+ghost use Rattle.tree.specs.Links.{Linked};
 ghost use Rattle.tree.specs.Inner.{Shallow, Descended};
 
 use super::links::Helpers;
@@ -76,14 +77,32 @@ fn spare(
     limit.saturating_sub(own)
 }
 
-// The leasts of all nodes of a tree.
-pub fn leasts(totals: [u32; 64], helpers: &Helpers, root: usize, limit: u32) -> [u32; 64]
-    requires { Tree helpers.now.nodes (at helpers.now.helpands.now) root }
-    ensures { result ≡ tabulate helpers.now.nodes (least helpers.now.nodes (at helpers.now.helpands.now) (at totals) limit) }
+impl<'a> Helpers<'a> {
+    // The leasts of all nodes of a tree.
+    pub fn leasts(&self, totals: [u32; 64], root: usize, limit: u32) -> [u32; 64]
+        requires { Tree self.now.nodes (at self.now.helpands.now) root }
+        ensures { result ≡ tabulate self.now.nodes (least self.now.nodes (at self.now.helpands.now) (at totals) limit) }
+    {
+        let mut out = [0u32; 64];
+        least(self.nodes + 1, root, &totals, self, limit, &mut out);
+        out
+    }
+}
+
+// The same for a caller that has the helpands and their links at hand, and no `Helpers`.
+pub fn leasts(
+    totals: [u32; 64],
+    helpands: [u32; 64],
+    links: &[usize; 128],
+    nodes: usize,
+    root: usize,
+    limit: u32,
+) -> [u32; 64]
+    requires { (nodes ≤ max_nodes) × (Tree nodes (at helpands) root) × (Linked nodes (at helpands) links.now) }
+    ensures { result ≡ tabulate nodes (least nodes (at helpands) (at totals) limit) }
 {
-    let mut out = [0u32; 64];
-    least(helpers.nodes + 1, root, &totals, helpers, limit, &mut out);
-    out
+    let helpers = Helpers::of(&helpands, nodes);
+    helpers.leasts(totals, root, limit)
 }
 
 // "The tree holds if no least is above L."

@@ -5,6 +5,8 @@ use Prim.Native.Nat.{ℕ, ◌≤◌}
 use native.Mathlib.Omega.{arith}
 use borrow.Author.Tests.{le-leb, lt-leb, ne_eqb}
 use lib.Dec.{eqb, leb}
+use mir.Val.{bool_byte}
+use Rattle.fold.specs.Sum.{only}
 use Rattle.sheet.specs.Sheet.{refusal_number as sheet_number}
 use Rattle.sheet.proofs.Answers.{refusal_of as sheet_refusal, numbered as sheet-numbered}
 use Rattle.plan.specs.Plan.{refusal_number as plan_number}
@@ -17,6 +19,11 @@ use Rattle.weigh.specs.declared.WeighAnswer.{WeighAnswer}
 use Rattle.weigh.specs.Checks.{check_number}
 use Rattle.weigh.specs.Weigh.{answer_of}
 use Rattle.std.specs.Prelude.{Bool, Err, Ok, Result}
+
+-- a bool as the number that crosses
+pub bool-number : (b : Bool) → bool_byte b ≡ only b 1
+bool-number true = refl
+bool-number false = refl
 
 -- ---- the checks
 

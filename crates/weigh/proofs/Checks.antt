@@ -1,6 +1,6 @@
 -- The checks up to 24: one law for each way out, what they say together, and what is known of a sheet and a plan that passed them.
 -- Assumes nothing.
-use mathlib.Core.Path.{◌≡◌, sym}
+use mathlib.Core.Path.{◌≡◌, sym, ap, ◌∙◌}
 use mathlib.Core.Logic.{◌≢◌}
 use mathlib.Core.Bool.{true}
 use mathlib.Core.List.{List}
@@ -19,12 +19,15 @@ use Rattle.sheet.specs.Table.{table_of}
 use Rattle.sheet.proofs.Accepted.{Accepted as AcceptedSheet, reading_accepted}
 use Rattle.sheet.proofs.Refusals.{sheet-most}
 use Rattle.sheet.proofs.Tables.{table-within}
+use Rattle.plan.specs.declared.PlanAnswer.{PlanAnswer}
 use Rattle.plan.specs.Tree.{Tree}
 use Rattle.plan.specs.Plan.{read_plan, helpands_of, accepted as plan_accepted}
 use Rattle.plan.proofs.AcceptedTree.{accepted-tree}
 use Rattle.plan.proofs.Refusals.{plan-most}
-use Rattle.weigh.specs.Checks.{checked}
-use Rattle.weigh.specs.Inner.{Weighable}
+use Rattle.weigh.specs.declared.check.CheckRefusal.{CheckRefusal}
+use Rattle.weigh.specs.Checks.{check_number, checked}
+use Rattle.weigh.specs.Inner.{Weighable, PairRead}
+use Rattle.std.specs.Prelude.{Err, Ok, Result}
 
 -- ---- the ways out
 
@@ -47,6 +50,23 @@ module _ (s p : List ℕ) where
     pub stops_primary : h.n ≡ n → true ≡ eqb kind 0 → 24 ≡ checked s p
     unfolding checked
     stops_primary e z = rw (← a, ← b, eq-eqb h.n n e, ← z)
+
+    pub stops_nowhere : h.n ≡ n → kind ≢ 0 → Weighable s p h
+    stops_nowhere e d =
+        record {
+          sheet = a;
+          plan = ap (λ (x : PlanAnswer). x.refusal) (sym b);
+          nodes = ap (λ (x : PlanAnswer). x.n) (sym b) ∙ sym e;
+          kind = λ z. d (ap (λ (x : PlanAnswer). x.kind) b ∙ z);
+        }
+
+-- what reading both gave
+module _ (s p : List ℕ) {x : Result Sheet CheckRefusal} (gave : PairRead s p x) where
+  pub pair-refused : {r : CheckRefusal} → x ≡ Err r → check_number r ≡ checked s p
+  pair-refused e = rw e at gave
+
+  pub pair-accepted : {h : Sheet} → x ≡ Ok h → Weighable s p h
+  pair-accepted e = rw e at gave
 
 -- ---- what they say together
 

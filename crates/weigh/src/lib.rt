@@ -75,7 +75,7 @@ pub fn tree_leasts(totals: [u32; 64], helpands: [u32; 64], nodes: usize, limit: 
 {
     let root = tree::least::find_root(helpands, nodes);
     let helpers = Helpers::of(&helpands, nodes);
-    tree::least::leasts(totals, &helpers, root, limit)
+    helpers.leasts(totals, root, limit)
 }
 
 // The leasts of the plan's tree, for a sheet and a plan that are accepted.

@@ -2,6 +2,7 @@
 use mathlib.Core.Path.{◌≡◌, refl, ap, ap₂}
 use mathlib.Core.List.{List, [], ◌∷◌, ◌++◌}
 use Prim.Native.Nat.{ℕ, zero, suc, ◌+◌, ◌*◌, ◌/◌, ◌%◌, ◌≤◌, ◌<◌, ◌^◌}
+use native.Mathlib.Nat.{suc-add}
 use native.Mathlib.Numerals.{add-one}
 use native.Mathlib.Omega.{arith}
 use lib.ListN.{length, get_or, take, drop, replicate, length-take, length-drop, drop_of_length-le}
@@ -29,6 +30,19 @@ pub length_part : (a n : ℕ) (ws : List ℕ) → a + n ≤ length ws → length
 length_part a n ws h = simp (length-take, length-drop) (omega arith)
 
 -- ---- by index
+
+pub words-at : (s : List ℕ) (i : ℕ) → 4 * i + 4 ≤ length s
+    → get_or (words s) i 0 ≡ word (get_or s (4 * i) 0) (get_or s (4 * i + 1) 0) (get_or s (4 * i + 2) 0) (get_or s (4 * i + 3) 0)
+unfolding words
+words-at [] i h = absurd (omega arith)
+words-at (a ∷ []) i h = absurd (omega arith)
+words-at (a ∷ b ∷ []) i h = absurd (omega arith)
+words-at (a ∷ b ∷ c ∷ []) i h = absurd (omega arith)
+words-at (a ∷ b ∷ c ∷ d ∷ s) zero h = refl
+words-at (a ∷ b ∷ c ∷ d ∷ s) (suc i) h =
+    let e : 4 * suc i ≡ suc (suc (suc (suc (4 * i)))) = omega arith in
+    let k : 4 * i + 4 ≤ length s = omega arith in
+    rw e (simp suc-add (words-at s i k))
 
 -- word k is what std reads of its chunk k of four bytes
 pub chunk-word : (s : List ℕ) (k n : ℕ) → 4 * k + 4 ≤ length s → k < n

@@ -34,8 +34,8 @@ pub fn every<F: Fn(u32) -> bool + Drop>(s: &[u8], first: usize, k: usize, test: 
     ensures { (ok : ℕ → Bool) → Tests (F.post test) ok → result ≡ every ok (part first k (words s.now)) }
 {
     for i in 0..k {
-        let word = word_number(s, first + i);
-        if !test(word) {
+        let passes = test(word_number(s, first + i));
+        if !passes {
             return false;
         }
     }

@@ -5,5 +5,5 @@ use Rattle.fold.specs.All.{all}
 use Rattle.arrays.specs.Arrays.{at}
 use Rattle.arrays.proofs.all_at_most.Given as goal
 
-abbrev pub invariant-loop-entry : goal.invariant-loop-entry
-invariant-loop-entry l = l.fine ≡ all l.entry-index (λ j. leb (at l.fn.entries j) l.bound)
+abbrev pub invariant-loop-k : goal.invariant-loop-k
+invariant-loop-k l = l.fine ≡ all l.k (λ j. leb (at l.entries j) l.bound)

@@ -34,7 +34,7 @@ returns-then-holds c =
     let shares : List ℕ → List ℕ = λ xs. kept_shares a.nodes (at a.old) a.limit (at xs) (at a.totals) (held a.table.now) in
     let is : c.leasts-leasts.result ≡ tabulate a.nodes (least a.nodes (at a.old) (at a.totals) a.limit) =
     rw (e.0, e.1) at c.leasts-leasts.ensures in
-    let given : c.shares.result ≡ shares c.leasts-leasts.result = rw (e.0, e.1) at c.shares.ensures in
+    let given : c.kept_shares.result ≡ shares c.leasts-leasts.result = rw (e.0, e.1) at c.kept_shares.ensures in
     rw (tested (goal.at.returns-then-holds c).After-holds ∙ c.if-holds.true) (ap kept (given ∙ ap shares is))
 
 pub returns : goal.returns
@@ -46,8 +46,8 @@ of-helpers-requires c = (c.requires.1, c.find_root-root.ensures.inside)
 pub leasts-leasts-requires : goal.leasts-leasts-requires
 leasts-leasts-requires c = rw (c.of-helpers.ensures.0, c.of-helpers.ensures.1) c.find_root-root.ensures
 
-pub shares-requires : goal.shares-requires
-shares-requires c = rw (c.of-helpers.ensures.0, c.of-helpers.ensures.1) (c.find_root-root.ensures, c.requires.2)
+pub kept_shares-requires : goal.kept_shares-requires
+kept_shares-requires c = rw (c.of-helpers.ensures.0, c.of-helpers.ensures.1) (c.find_root-root.ensures, c.requires.2)
 
 pub rebuilt_plan-requires : goal.rebuilt_plan-requires
 rebuilt_plan-requires c = let s = c.requires in (s.0, s.1, tree-below s.5.1, s.3, s.4)

@@ -10,5 +10,6 @@ pub loop-k-preserved : goal.loop-k-preserved
 loop-k-preserved c =
     let a = c.args in
     let e = c.entries_of-entries.ensures in
-    entries-stored a.nodes (group_in a.nodes (at a.helpands.now)) c.loop-k.k a.out.now
-    c.loop-k-test.true c.loop-k.invariant e.0 e.1 c.put_word.ensures c.put_word-in-loop-k.ensures
+    let x = entries-stored a.nodes (group_in a.nodes (at a.helpands.now)) c.loop-k.k a.out.now
+    c.loop-k-test.true c.loop-k.invariant e.0 e.1 c.put_word.ensures c.put_word-in-loop-k.ensures in
+    x.0

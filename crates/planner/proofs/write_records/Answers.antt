@@ -5,7 +5,7 @@ use Prim.Native.Nat.{◌+◌, ◌*◌}
 use native.Mathlib.Omega.{arith}
 use lib.ListN.{length}
 use Rattle.moves.proofs.Laws.{length-moves}
-use Rattle.plan.specs.Plan.{kind_number}
+use Rattle.plan.specs.Kinds.{kind_number}
 use Rattle.plan.proofs.Writing.{length-plan}
 use Rattle.transfer.specs.List.{routes_in, counts_in}
 use Rattle.planner.specs.Step.{plan_record, moves_record}

@@ -27,5 +27,5 @@ front xs (suc n) h =
 pub returns : goal.returns
 returns c =
     let xs = c.args.table.now in
-    let e : c.sum.result ≡ sum_of xs = search rules in
-    e ∙ sym (ap sum_of (take_all table_size xs (omega arith))) ∙ front xs table_size (omega arith)
+    let whole : sum_of xs ≡ sum table_size (at xs) = sym (ap sum_of (take_all table_size xs (omega arith))) ∙ front xs table_size (omega arith) in
+    rw (← whole) (search rules)

@@ -11,7 +11,8 @@ use Rattle.fold.proofs.Tests.{only-max, only-not}
 use Rattle.arrays.specs.Arrays.{at}
 use Rattle.tree.specs.Family.{helps}
 use Rattle.shares.specs.Inner.{helpand_in, rooms_now}
-use Rattle.shares.proofs.Spaces.{family_own, family_helper, family_other, rooms-most}
+use Rattle.shares.proofs.Spaces.{family_own, family_helper, family_other}
+use Rattle.shares.proofs.Families.{rooms-most}
 use Rattle.shares.proofs.Summing.{summed_first, summed_next, summed_all, summed_most}
 use Rattle.shares.proofs.kept.Family.above.Goals.{After-room-room, Start}
 use Rattle.shares.proofs.kept.Family.above.Invariants.{one}

@@ -1,7 +1,7 @@
 -- `Family::divide` meets its contract: the amounts are those of the rest that was worked out, or of what is kept if there is none.
 -- Assumes nothing.
 use mathlib.Core.Path.{sym, ◌∙◌}
-use Rattle.shares.proofs.Filling.{kept_somewhere, kept-noted, filled-noted}
+use Rattle.shares.proofs.Families.{kept_somewhere, kept-noted, filled-noted}
 use Rattle.shares.proofs.kept.Family.divide.Goals as goal
 
 pub returns-then-kept-eq0 : goal.returns-then-kept-eq0

@@ -1,6 +1,6 @@
 -- `Family::fill` meets its contract: the rooms are those of the spaces and amounts, so the level form is what is to be filled in.
 -- Assumes nothing.
-use Rattle.shares.proofs.Filling.{level-noted}
+use Rattle.shares.proofs.Families.{level-noted}
 use Rattle.shares.proofs.kept.Family.fill.Goals as goal
 
 pub returns : goal.returns

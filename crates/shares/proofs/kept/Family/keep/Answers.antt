@@ -103,5 +103,5 @@ returns c =
         kept-sum (helpand_in f) f.tree.now.limit (at f.reserves.now) (holding_in f) f.share f.n (nodes_in f) f.inside,
       ),
       v.1,
-      so_far-all v.0 c.loop-k-test.false,
+      (so_far-all v.0 c.loop-k-test.false).1,
     )

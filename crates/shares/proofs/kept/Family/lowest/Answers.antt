@@ -4,7 +4,7 @@ use borrow.Author.Rules.{rules}
 use Prim.Native.Nat.{ℕ, ◌+◌, ◌-◌, ◌/◌, ◌≤◌, ◌<◌}
 use native.Mathlib.Omega.{arith}
 use Rattle.shares.specs.Inner.{nodes_in, rooms_now}
-use Rattle.shares.proofs.Spaces.{rooms-most}
+use Rattle.shares.proofs.Families.{rooms-most}
 use Rattle.shares.proofs.Raising.{start-lowest, Counted, turn-some, turn-lowest, turn-most, turn_fewer}
 use Rattle.shares.proofs.kept.Family.lowest.Goals.{After-above-high, After-rise, Start}
 use Rattle.shares.proofs.kept.Family.lowest.Goals as goal

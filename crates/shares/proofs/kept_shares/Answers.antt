@@ -1,4 +1,4 @@
--- `shares::shares` meets its contract: a pass from the root reaches each node. Assumes nothing.
+-- `shares::kept_shares` meets its contract: a pass from the root reaches each node. Assumes nothing.
 use borrow.Author.Rules.{rules}
 use mathlib.Core.Path.{sym, ◌∙◌}
 use Rattle.arrays.specs.Arrays.{at}
@@ -7,7 +7,7 @@ use Rattle.tree.proofs.Weighing.{root_shallow}
 use Rattle.tree.proofs.Passing.{descended_root}
 use Rattle.shares.proofs.KeptShares.{shares_described}
 use Rattle.arrays.proofs.Padded.{zeros-at}
-use Rattle.shares.proofs.shares.Goals as goal
+use Rattle.shares.proofs.kept_shares.Goals as goal
 
 pub divide_below-requires : goal.divide_below-requires
 divide_below-requires c =

@@ -1,10 +1,10 @@
--- `tally::renew::renew` meets its contract: what is still to be renewed from the loop's head is what was to be renewed at first.
+-- `tally::renew::renew_from` meets its contract: what is still to be renewed from the loop's head is what was to be renewed at first.
 -- Assumes nothing.
 use mathlib.Core.Path.{◌≡◌}
 use Prim.Native.Nat.{suc, ◌-◌, ◌<◌}
 use Rattle.arrays.specs.Arrays.{at}
 use Rattle.tally.specs.Renew.{renewed}
-use Rattle.tally.proofs.renew.renew.Given as goal
+use Rattle.tally.proofs.renew.renew_from.Given as goal
 
 abbrev pub invariant-loop : goal.invariant-loop
 invariant-loop l =

@@ -2,7 +2,7 @@ use mathlib.Core.Path.{◌≡◌, sym, ◌∙◌}
 use Prim.Native.Nat.{suc, ◌+◌, ◌-◌}
 use native.Mathlib.Omega.{arith}
 use Rattle.tally.proofs.Renewing.{renewed-none, renewed-same, renewed-root, renewed_up}
-use Rattle.tally.proofs.renew.renew.Goals as goal
+use Rattle.tally.proofs.renew.renew_from.Goals as goal
 
 pub returns-then-least-cells : goal.returns-then-least-cells
 returns-then-least-cells c =
