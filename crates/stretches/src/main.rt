@@ -5,18 +5,27 @@
 
 use std::io;
 use std::io::{ErrorKind, Read};
+use text::put::{BLANK, Writer};
 
 // The bytes of the longest plan.
 const MOST: usize = 524;
 
+// Prints a blank and a helpand.
+fn print_helpand(rt: &impl Print, helpand: u32) -> io::Result<()> {
+    let mut text = [0u8; 16];
+    let mut w = Writer::new(&mut text);
+    w.byte(BLANK);
+    w.number(helpand);
+    rt.write_all(w.written())
+}
+
 // Prints the line of a stretch of helpands.
 fn print_stretch(rt: &impl Print, stretch: &[u8]) -> io::Result<()> {
-    print!(rt; "stretch")?;
+    rt.write_all(b"stretch")?;
     for k in 0..stretch.len() / 4 {
-        let helpand = words::word_number(stretch, k);
-        print!(rt; " {helpand}")?;
+        print_helpand(rt, words::word_number(stretch, k))?;
     }
-    println!(rt; "")
+    rt.write_all(b"\n")
 }
 
 // Prints the line of two plans. The stretch is a part of one of them, so that both are lent for as long.
