@@ -9,6 +9,7 @@ use Rattle.words.specs.declared.WrittenAnswer.{WrittenAnswer}
 use Rattle.sheet.specs.declared.SheetRefusal.{SheetRefusal}
 use Rattle.sheet.specs.Sheet.{refusal_number as sheet_number}
 use Rattle.sheet.proofs.Answers.{refusal_of as sheet_refusal, numbered}
+use Rattle.archive.specs.declared.write.Archived.{Archived}
 use Rattle.archive.specs.declared.write.WriteRefusal.{WriteRefusal}
 use Rattle.archive.specs.declared.write.WriteRefusal.TheVariants.{Sheet, Buffer as WriteBuffer}
 use Rattle.archive.specs.declared.read.ReadRefusal.{ReadRefusal}
@@ -22,11 +23,11 @@ use Rattle.std.specs.Prelude.{Err, Ok, Result}
 abbrev write_refusal : ℕ → WriteRefusal
 write_refusal k = cond (leb k 7) (Sheet (sheet_refusal k)) WriteBuffer
 
-abbrev writing_from : WrittenAnswer → Result ℕ WriteRefusal
-writing_from a = cond (eqb a.refusal 0) (Ok a.bytes) (Err (write_refusal a.refusal))
+abbrev writing_from : WrittenAnswer → Result Archived WriteRefusal
+writing_from a = cond (eqb a.refusal 0) (Ok (record {})) (Err (write_refusal a.refusal))
 
-writing_back : (w : Result ℕ WriteRefusal) → writing_from (writing_of w) ≡ w
-writing_back (Ok bytes) = refl
+writing_back : (w : Result Archived WriteRefusal) → writing_from (writing_of w) ≡ w
+writing_back (Ok w) = refl
 writing_back (Err (Sheet r)) =
     let n = numbered r in
     rw (ne_eqb (sheet_number r) 0 (λ z. omega (arith, n.0)), le-leb (sheet_number r) 7 n.1)
@@ -34,7 +35,7 @@ writing_back (Err (Sheet r)) =
 writing_back (Err WriteBuffer) = refl
 
 -- THEOREM. Two writings with the same numbers are the same.
-pub writing_determines : (a b : Result ℕ WriteRefusal) → writing_of a ≡ writing_of b → a ≡ b
+pub writing_determines : (a b : Result Archived WriteRefusal) → writing_of a ≡ writing_of b → a ≡ b
 writing_determines a b e = sym (writing_back a) ∙ ap writing_from e ∙ writing_back b
 
 -- ---- *read archive*

@@ -1,6 +1,6 @@
 -- Request 2026-05: the record, *write archive* and *read archive*. "The archive wants every sheet at one size, with neighbouring cells
 -- close together. Write N, t and then 4,096 counts (16,392 bytes)."
-use Rattle.std.specs.Prelude.{◌≡◌, Bool, not, ◌||◌, List, [], ◌∷◌, ℕ, zero, suc, ◌+◌, ◌<◌, eqb, ltb, length, get_or, set, replicate, Result}
+use Rattle.std.specs.Prelude.{◌≡◌, Bool, not, ◌||◌, List, [], ◌∷◌, ℕ, zero, suc, ◌+◌, ◌<◌, eqb, ltb, length, get_or, set, replicate, Err, Ok, Result}
 use Rattle.fold.specs.All.{all}
 use Rattle.fold.specs.Collect.{collect}
 use Rattle.fold.specs.Sum.{sum}
@@ -15,6 +15,7 @@ use Rattle.sheet.specs.Sheet.{read_sheet, cell_fine, refusal_number as sheet_num
 use Rattle.sheet.specs.Table.{table_in, held}
 use Rattle.sheet.specs.Write.{sheet_bytes}
 use Rattle.archive.specs.ZOrder.{position, position_of}
+use Rattle.archive.specs.declared.write.Archived.{Archived}
 use Rattle.archive.specs.declared.write.WriteRefusal.{WriteRefusal}
 use Rattle.archive.specs.declared.write.WriteRefusal.TheVariants.{Sheet as OfSheet, Buffer as WriteBuffer}
 use Rattle.archive.specs.declared.read.ReadRefusal.{ReadRefusal}
@@ -37,8 +38,9 @@ read_number ReadBuffer = 56
 abbrev pub archive_size : ℕ
 archive_size = 16392
 
-abbrev pub writing_of : Result ℕ WriteRefusal → WrittenAnswer
-writing_of = answer_of write_number
+abbrev pub writing_of : Result Archived WriteRefusal → WrittenAnswer
+writing_of (Ok _) = accepted archive_size
+writing_of (Err r) = refused (write_number r)
 
 abbrev pub reading_of : Result ℕ ReadRefusal → WrittenAnswer
 reading_of = answer_of read_number

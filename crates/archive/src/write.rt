@@ -10,7 +10,7 @@ ghost use Rattle.archive.specs.declared.write.WriteRefusal.TheVariants.{Sheet as
 
 use crate::{ARCHIVE_SIZE, order};
 use sheet::{Sheet, SheetRefusal};
-use words::Refusal;
+use words::{Refusal, WrittenAnswer};
 
 // Why no archive is written: as the sheet is refused; the buffer.
 #[derive(Clone, Copy, Debug, PartialEq, Eq)]
@@ -38,6 +38,10 @@ impl Refusal for WriteRefusal {
     }
 }
 
+// The archive was written. Its length is that of all archives.
+#[derive(Clone, Copy, Debug, PartialEq, Eq)]
+pub struct Archived;
+
 // Writes an archive without particles: N, t and 4,096 counts of 0.
 fn put_empty(out: &mut [u8], n: u32, t: u32)
     requires { archive_size ≤ length out.old }
@@ -63,9 +67,9 @@ fn put_archive(out: &mut [u8], s: &[u8], n: u32, t: u32, e: usize)
     }
 }
 
-// Writes the archive of a sheet that was read. Its length is that of all archives.
+// Writes the archive of a sheet that was read.
 #[tactic(auto, unfolding(crate::specs::Archive::write_answer, crate::specs::Archive::archive_of))]
-fn write_read(s: &[u8], h: Sheet, out: &mut [u8]) -> Result<u32, WriteRefusal>
+fn write_read(s: &[u8], h: Sheet, out: &mut [u8]) -> Result<Archived, WriteRefusal>
     requires { accepted h.n h.t h.e h.p h.limit ≡ read_sheet s.now }
     ensures answer { writing_of result ≡ write_answer s.now (length out.old) }
     ensures bytes { out.new ≡ archive_after s.now out.old }
@@ -74,14 +78,30 @@ fn write_read(s: &[u8], h: Sheet, out: &mut [u8]) -> Result<u32, WriteRefusal>
         return Err(WriteRefusal::Buffer);
     }
     put_archive(out, s, h.n, h.t, h.e as usize);
-    Ok(ARCHIVE_SIZE as u32)
+    Ok(Archived)
 }
 
 // *Write archive*.
-pub fn write_archive(sheet: &[u8], archive: &mut [u8]) -> Result<u32, WriteRefusal>
+pub fn write_archive(sheet: &[u8], archive: &mut [u8]) -> Result<Archived, WriteRefusal>
     ensures answer { writing_of result ≡ write_answer sheet.now (length archive.old) }
     ensures bytes { archive.new ≡ archive_after sheet.now archive.old }
 {
     let h = sheet::read_sheet(sheet)?;
     write_read(sheet, h, archive)
+}
+
+// A writing in document 02's numbers.
+pub fn answer(w: Result<Archived, WriteRefusal>) -> WrittenAnswer
+    ensures { result ≡ writing_of w }
+{
+    match w {
+        Ok(_) => WrittenAnswer {
+            refusal: 0,
+            bytes: ARCHIVE_SIZE as u32,
+        },
+        Err(r) => WrittenAnswer {
+            refusal: r.number(),
+            bytes: 0,
+        },
+    }
 }

@@ -101,7 +101,7 @@ pub fn firrozka_write_archive(sheet: &[u8], archive: &mut [u8]) -> WrittenAnswer
     ensures answer { result ≡ write_answer sheet.now (length archive.old) }
     ensures bytes { archive.new ≡ archive_after sheet.now archive.old }
 {
-    words::answer(archive::write::write_archive(sheet, archive))
+    archive::write::answer(archive::write::write_archive(sheet, archive))
 }
 
 // *Read archive*.

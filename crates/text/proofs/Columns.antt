@@ -6,14 +6,12 @@ use native.Mathlib.Nat.{add-zero}
 use native.Mathlib.Decide.{dec_lt}
 use native.Mathlib.Omega.{arith}
 use borrow.Author.Tests.{ne_eqb}
-use lib.ListN.{length, set, replicate, length-set, length-append, length-replicate, replicate-append-replicate}
-use lib.Seq.{sets}
+use lib.ListN.{length, set, replicate, length-append, length-replicate, replicate-append-replicate}
+use lib.Seq.{sets, length-sets}
 use Rattle.words.proofs.Buffer.{set-sets}
 use Rattle.text.specs.Text.{digit, digits, decimal, blank}
 use Rattle.text.specs.Columns.{right_aligned, read_from, read_column}
-use Rattle.text.specs.declared.put.Writer.{Writer}
-use Rattle.text.specs.Writer.{Wrote}
-use Rattle.text.specs.Inner.{column_byte}
+use Rattle.text.specs.Inner.{Put, column_byte}
 use Rattle.text.proofs.Digits.{shorter, digits-one, digits_more, decimal-one, decimal_more, length_more, read-decimal}
 
 -- ---- how many
@@ -117,58 +115,44 @@ aligned_right width x l fits =
 
 -- ---- the w columns before the last, from the right: i of them are left, and rest is what is left of the number
 
-pub record Filling (before : Writer) (w x : ℕ) (after : Writer) (i rest : ℕ) : Type 0 where
+pub record Filling (out₀ : List ℕ) (at w x : ℕ) (out : List ℕ) (i rest : ℕ) : Type 0 where
   pub done : List ℕ
   pub is : columns w (x / 10) ≡ columns i rest ++ done
-  pub same : after.out.ghost_name ≡ before.out.ghost_name
-  pub long : length after.out.now ≡ length before.out.now
-  pub at : after.at ≡ before.at
-  pub bytes : after.out.now ≡ sets before.out.now (before.at + i) done
+  pub bytes : out ≡ sets out₀ (at + i) done
+  pub i_le : i ≤ w
 
-module _ (before : Writer) (w x : ℕ) where
-  abbrev at : ℕ
-  at = before.at
+module _ (out₀ : List ℕ) (at w x : ℕ) where
+  pub filling_none : Filling out₀ at w x out₀ w (x / 10)
+  filling_none = record { done = []; is = sym (append-nil (columns w (x / 10))); bytes = refl; i_le = omega arith }
 
-  pub filling_none : Filling before w x before w (x / 10)
-  filling_none =
-      record { done = []; is = sym (append-nil (columns w (x / 10))); same = refl; long = refl; at = refl; bytes = refl }
+  module _ {out : List ℕ} {i rest : ℕ} (f : Filling out₀ at w x out i rest) where
+    pub filling_length : length out ≡ length out₀
+    filling_length = ap length f.bytes ∙ length-sets out₀ (at + i) f.done
 
-  module _ {after : Writer} {i rest : ℕ} (f : Filling before w x after i rest) where
-    -- column i − 1 is stored
-    pub filling_more : {next : Writer} → next.out.ghost_name ≡ after.out.ghost_name → next.at ≡ after.at
-        → next.out.now ≡ set after.out.now (after.at + (i - 1)) (column_byte rest) → 0 < i → Filling before w x next (i - 1) (rest / 10)
-    filling_more {next} same' at' stored h =
+    pub filling_more : 0 < i → Filling out₀ at w x (set out (at + (i - 1)) (column_byte rest)) (i - 1) (rest / 10)
+    filling_more h =
         let b = column_byte rest in
         let e : suc (i - 1) ≡ i = omega arith in
-        let behind : suc (at + (i - 1)) ≡ at + i = omega arith in
+        let next : suc (at + (i - 1)) ≡ at + i = omega arith in
         record {
           done = b ∷ f.done;
           is =
               f.is
               ∙ ap (λ (bs : List ℕ). bs ++ f.done) (ap (λ (k : ℕ). columns k rest) (sym e) ∙ columns_more (i - 1) rest)
               ∙ append_assoc (columns (i - 1) (rest / 10)) (b ∷ []) f.done;
-          same = same' ∙ f.same;
-          long = ap length stored ∙ simp length-set f.long;
-          at = at' ∙ f.at;
           bytes =
-              stored
-              ∙ rw (f.at, f.bytes)
-              (set-sets before.out.now (at + i) f.done (at + (i - 1)) b (omega arith)
-              ∙ ap (λ (k : ℕ). sets (set before.out.now (at + (i - 1)) b) k f.done) (sym behind));
+              ap (λ (bs : List ℕ). set bs (at + (i - 1)) b) f.bytes
+              ∙ set-sets out₀ (at + i) f.done (at + (i - 1)) b (omega arith)
+              ∙ ap (λ (k : ℕ). sets (set out₀ (at + (i - 1)) b) k f.done) (sym next);
+          i_le = omega (arith, f.i_le);
         }
 
-    -- none is left, and the writer goes on behind them
-    pub filling_all : {next : Writer} → next.out ≡ after.out → next.at ≡ after.at + w → i ≡ 0 → Wrote before (columns w (x / 10)) next
+    -- none is left
+    pub filling_all : i ≡ 0 → Put out₀ at (columns w (x / 10)) out (at + w)
     unfolding columns
-    filling_all {next} out' at' e =
+    filling_all e =
         let is : columns w (x / 10) ≡ f.done = rw e at f.is in
-        rw out'
-        (record {
-          same = f.same;
-          long = f.long;
-          at = at' ∙ rw (f.at, length-columns w (x / 10));
-          bytes = f.bytes ∙ rw (e, is, add-zero at);
-        })
+        record { index = rw (length-columns w (x / 10)); bytes = f.bytes ∙ rw (e, is, add-zero at) }
 
 -- ---- read back
 

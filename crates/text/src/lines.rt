@@ -5,7 +5,6 @@ ghost use Rattle.text.specs.Text.{head_line, node_line, nodes_text, move_line, m
 ghost use Rattle.text.specs.Writer.{Room, Wrote};
 
 use super::put::{BLANK, NEWLINE, Writer};
-use moves::route;
 
 // "Line 1: kind and L."
 pub fn put_head(w: &mut Writer, kind: u32, limit: u32)
@@ -50,9 +49,9 @@ fn put_move(w: &mut Writer, route: u32, count: u32)
     requires { Room w.old 64 }
     ensures { Wrote w.old (move_line route count) w.new }
 {
-    w.field(b"move", route::subdomain(route), BLANK);
-    w.field(b"from", route::sender(route), BLANK);
-    w.field(b"to", route::receiver(route), BLANK);
+    w.field(b"move", route / 4096, BLANK);
+    w.field(b"from", route / 64 % 64, BLANK);
+    w.field(b"to", route % 64, BLANK);
     w.field(b"count", count, NEWLINE);
 }
 

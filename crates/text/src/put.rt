@@ -2,7 +2,7 @@
 ghost use Rattle.std.specs.Prelude.{◌+◌, ◌≤◌, ◌≡◌, [], ◌∷◌, length, take};
 ghost use Rattle.text.specs.Text.{decimal, field};
 ghost use Rattle.text.specs.Columns.{right_aligned};
-ghost use Rattle.text.specs.Inner.{column_byte};
+ghost use Rattle.text.specs.Inner.{Put, column_byte};
 
 pub const BLANK: u8 = b' ';
 
@@ -54,20 +54,13 @@ impl<'a> Writer<'a> {
         self.at = end;
     }
 
-    // The digits of x in so many columns, right-aligned: the columns before the last one, from the right, and the last one.
+    // The digits of x in so many columns, right-aligned.
     pub fn right(&mut self, width: usize, x: u32)
         requires short { length (decimal x) ≤ width }
         requires room { Room self.old width }
         ensures { Wrote self.old (right_aligned width (decimal x)) self.new }
     {
-        let last = width - 1;
-        let mut rest = x / 10;
-        for i in (0..last).rev() {
-            self.out[self.at + i] = column(rest);
-            rest /= 10;
-        }
-        self.at += last;
-        self.byte(b'0' + (x % 10) as u8);
+        self.at = put_right(self.out, self.at, width, x);
     }
 
     // The digits of x.
@@ -113,4 +106,20 @@ fn column(rest: u32) -> u8
     } else {
         b'0' + (rest % 10) as u8
     }
+}
+
+// The digits of x in so many columns, right-aligned, from index `at` of a buffer on: the columns before the last one, from the right, and
+// the last one. Gives the index behind it.
+pub fn put_right(out: &mut [u8], at: usize, width: usize, x: u32) -> usize
+    requires { (length (decimal x) ≤ width) × (at + width ≤ length out.old) }
+    ensures { Put out.old at (right_aligned width (decimal x)) out.new result }
+{
+    let last = width - 1;
+    let mut rest = x / 10;
+    for i in (0..last).rev() {
+        out[at + i] = column(rest);
+        rest /= 10;
+    }
+    out[at + last] = b'0' + (x % 10) as u8;
+    at + width
 }

@@ -1,4 +1,4 @@
-// The checks up to 24, which *weigh* and the opening of a tally both make.
+// The checks of *weigh* up to 24, as the opening of a tally makes them, too.
 ghost use Rattle.std.specs.Prelude.{◌≡◌};
 ghost use Rattle.weigh.specs.Checks.{check_number};
 ghost use Rattle.weigh.specs.declared.check.CheckRefusal.TheVariants.{Sheet as OfSheet, Plan as OfPlan};

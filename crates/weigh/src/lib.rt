@@ -1,5 +1,5 @@
 // *Weigh*: the leasts of a plan's tree under a sheet's limit, written to a lent buffer, and whether the tree holds.
-// The checks up to 24 stand in `check`, for the opening of a tally, too.
+// The checks up to 24 stand in `check`, too, for the opening of a tally. They are made here in their places.
 #![tactic(auto)]
 
 ghost use Rattle.std.specs.Prelude.{◌≡◌, ℕ, ◌≤◌, length};
@@ -10,9 +10,11 @@ ghost use Rattle.tree.specs.Least.{least};
 ghost use Rattle.weigh.specs.Weigh.{least_in, weigh_answer, weigh_bytes, number_of, answer_in, answer_of};
 ghost use Rattle.weigh.specs.Inner.{Weighable};
 ghost use Rattle.weigh.specs.declared.WeighRefusal.TheVariants.{Check};
+ghost use Rattle.weigh.specs.declared.check.CheckRefusal.TheVariants.{Sheet as OfSheet, Plan as OfPlan};
 
 use check::CheckRefusal;
-use sheet::Sheet;
+use plan::PlanRefusal;
+use sheet::{Sheet, SheetRefusal};
 use tree::links::Helpers;
 use words::Refusal;
 
@@ -30,6 +32,22 @@ impl From<CheckRefusal> for WeighRefusal {
 
     fn from(r: CheckRefusal) -> WeighRefusal {
         WeighRefusal::Check(r)
+    }
+}
+
+impl From<SheetRefusal> for WeighRefusal {
+    ghost from_gives = { λ r made. made ≡ Check (OfSheet r) };
+
+    fn from(r: SheetRefusal) -> WeighRefusal {
+        WeighRefusal::Check(CheckRefusal::Sheet(r))
+    }
+}
+
+impl From<PlanRefusal> for WeighRefusal {
+    ghost from_gives = { λ r made. made ≡ Check (OfPlan r) };
+
+    fn from(r: PlanRefusal) -> WeighRefusal {
+        WeighRefusal::Check(CheckRefusal::Plan(r))
     }
 }
 
@@ -110,6 +128,13 @@ pub fn weigh(sheet: &[u8], plan: &[u8], least: &mut [u8]) -> Result<bool, WeighR
     ensures answer { answer_of result ≡ weigh_answer sheet.now plan.now (length least.old) }
     ensures bytes { least.new ≡ weigh_bytes sheet.now plan.now least.old }
 {
-    let s = check::read_pair(sheet, plan)?;
+    let s = sheet::read_sheet(sheet)?;
+    let p = plan::read_plan(plan)?;
+    if s.n != p.n {
+        return Err(WeighRefusal::Check(CheckRefusal::NodesDiffer));
+    }
+    if p.kind.is_primary() {
+        return Err(WeighRefusal::Check(CheckRefusal::Primary));
+    }
     weigh_read(sheet, plan, s, least)
 }

@@ -16,6 +16,4 @@ field-requires-4 c = omega (arith, field-le)
 
 pub returns : goal.returns
 unfolding move_line
-returns c =
-    let whole = wrote_then (wrote_then (wrote_then c.field.ensures c.field-2.ensures) c.field-3.ensures) c.field-4.ensures in
-    rw (c.subdomain.ensures, c.sender.ensures, c.receiver.ensures) at whole
+returns c = wrote_then (wrote_then (wrote_then c.field.ensures c.field-2.ensures) c.field-3.ensures) c.field-4.ensures
